@@ -1,0 +1,109 @@
+-- Laws of single bits: of `|`, of a power of two; a number that has no bit below 32 and is below 2 ^ 32 is 0.
+use mathlib.Core.Path.{_≡_, refl, sym, _∙_, ap}
+use mathlib.Core.Logic.{_⊎_, inl, inr, ⊎-elim}
+use mathlib.Core.Bool.{Bool, true, false, _||_}
+use Prim.Native.Nat.{ℕ, zero, suc, _+_, _-_, _*_, _/_, _%_, _^_, _≤_, _<_, max}
+use native.Mathlib.Nat.{one-mul, div-self, div-eq-of-lt, pow-suc, lt-of-lt-of-le, mul-mod-left}
+use native.Mathlib.Omega.{arith}
+use native.Mathlib.Decide.{decLt}
+use lib.Dec.{T, eqb}
+use lib.Bits.{bitOr, bitAnd, or-shr, or-step, or-add-and, and-le-r, or-lt}
+use lib.Pow.{pow-pos, pow-lt, pow-mono, pow-add, shl-exact, shl-shr}
+use lib.Arith.{digits-mod}
+use borrow.Author.Tests.{eqb-true, eqb-false, eq-eqb, ne-eqb}
+use Rattle.base.specs.Bits.{bit, testBit, setBit}
+
+pub same? : (a b : ℕ) → (a ≡ b) ⊎ (a ≡ b → ⊥)
+same? a b = go (eqb a b) refl
+  where
+    go : (t : Bool) → eqb a b ≡ t → (a ≡ b) ⊎ (a ≡ b → ⊥)
+    go true e = inl (eqb-true a b e)
+    go false e = inr (eqb-false a b e)
+
+-- two tests of equal outcome
+pub eqb-iff : (a b c d : ℕ) → (a ≡ b → c ≡ d) → (c ≡ d → a ≡ b) → eqb a b ≡ eqb c d
+eqb-iff a b c d f g =
+    ⊎-elim (λ e. rw (eq-eqb a b e, eq-eqb c d (f e))) (λ n. rw (ne-eqb a b n, ne-eqb c d (λ e. n (g e)))) (same? a b)
+
+bit-lt : (x k : ℕ) → bit x k < 2
+unfolding bit
+bit-lt x k = omega arith
+
+bit-or : (x y k : ℕ) → bit (bitOr x y) k ≡ max (bit x k) (bit y k)
+unfolding bit
+bit-or x y k = rw (or-shr, or-step) (digits-mod _ (omega arith))
+
+bit-pow-same : (k : ℕ) → bit (2 ^ k) k ≡ 1
+unfolding bit
+bit-pow-same k = rw (div-self (pow-pos k))
+
+bit-high : (n x k : ℕ) → x < 2 ^ n → n ≤ k → bit x k ≡ 0
+unfolding bit
+bit-high n x k h l = rw (div-eq-of-lt (lt-of-lt-of-le h (pow-mono l)))
+
+bit-pow-other : (j k : ℕ) → (j ≡ k → ⊥) → bit (2 ^ j) k ≡ 0
+unfolding bit
+bit-pow-other j k ne = ⊎-elim under (λ l. over (j - suc k) (omega arith)) (sides (decLt j k))
+  where
+    sides : Dec (j < k) → (j < k) ⊎ (k < j)
+    sides (yes l) = inl l
+    sides (no n) = inr (omega arith)
+
+    under : j < k → 2 ^ j / 2 ^ k % 2 ≡ 0
+    under l = rw (div-eq-of-lt (pow-lt l))
+
+    over : (d : ℕ) → j ≡ suc d + k → 2 ^ j / 2 ^ k % 2 ≡ 0
+    over d e = rw (e, pow-add, shl-shr, pow-suc, mul-mod-left)
+
+or-test : (x y : ℕ) → x < 2 → y < 2 → eqb (max x y) 1 ≡ (eqb x 1 || eqb y 1)
+or-test zero zero p q = refl
+or-test zero (suc zero) p q = refl
+or-test (suc zero) zero p q = refl
+or-test (suc zero) (suc zero) p q = refl
+or-test (suc (suc x)) y p q = absurd (omega arith)
+or-test zero (suc (suc y)) p q = absurd (omega arith)
+or-test (suc zero) (suc (suc y)) p q = absurd (omega arith)
+
+-- 1 << k
+pub shl-one : (k : ℕ) → k < 32 → 1 * 2 ^ k % 4294967296 ≡ 2 ^ k
+shl-one k h = shl-exact 1 k 32 (omega arith) (omega arith) ∙ one-mul _
+
+-- ---- a word as a set
+pub test-or : (x y k : ℕ) → testBit (bitOr x y) k ≡ (testBit x k || testBit y k)
+unfolding testBit
+test-or x y k = rw bit-or (or-test (bit x k) (bit y k) (bit-lt x k) (bit-lt y k))
+
+test-pow : (j k : ℕ) → testBit (2 ^ j) k ≡ eqb k j
+unfolding testBit
+test-pow j k = eqb-iff _ _ _ _ to from
+  where
+    to : bit (2 ^ j) k ≡ 1 → k ≡ j
+    to e = ⊎-elim (λ s. s) (λ n. absurd (omega (arith, bit-pow-other j k (λ s. n (sym s))))) (same? k j)
+
+    from : k ≡ j → bit (2 ^ j) k ≡ 1
+    from e = rw e (bit-pow-same j)
+
+pub test-set : (x j k : ℕ) → testBit (setBit x j) k ≡ (testBit x k || eqb k j)
+unfolding setBit
+test-set x j k = rw (test-or, test-pow)
+
+pub test-none : (k : ℕ) → testBit 0 k ≡ false
+unfolding testBit
+test-none k = rw (bit-high 0 0 k (omega arith) (omega arith))
+
+-- a word has no member from 32 on
+pub test-high : (x k : ℕ) → x < 2 ^ 32 → 32 ≤ k → testBit x k ≡ false
+unfolding testBit
+test-high x k h l = rw (bit-high 32 x k h l)
+
+-- joining only adds, and stays within 32 bits
+pub or-ge : (x y : ℕ) → x ≤ bitOr x y
+or-ge x y = omega (arith, or-add-and x y, and-le-r x y)
+
+pub set-ge : (x j : ℕ) → x ≤ setBit x j
+unfolding setBit
+set-ge x j = or-ge x (2 ^ j)
+
+pub set-fits : (x j : ℕ) → x < 2 ^ 32 → j < 32 → setBit x j < 2 ^ 32
+unfolding setBit
+set-fits x j h l = or-lt 32 x (2 ^ j) h (pow-lt l)

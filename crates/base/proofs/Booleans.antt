@@ -1,0 +1,48 @@
+-- Booleans read as types, and contradictions.
+use mathlib.Core.Path.{_≡_, refl, sym, subst}
+use mathlib.Core.Logic.{_⊎_, inl, inr}
+use mathlib.Core.Bool.{Bool, true, false, _&&_, _||_, not}
+use Prim.Native.Nat.{ℕ}
+use native.Mathlib.Omega.{arith}
+use lib.Dec.{T}
+
+-- two constructors that are said to be equal: `clash (cc)` closes any goal
+pub clash : {A : Type 0} → _≡_ {A = ℕ} 0 1 → A
+clash z = absurd (omega arith)
+
+pub and-T : (a b : Bool) → T (a && b) → T a × T b
+and-T true b t = (tt, t)
+and-T false b t = absurd t
+
+pub T-and : (a b : Bool) → T a → T b → T (a && b)
+T-and true b s t = t
+T-and false b s t = absurd s
+
+pub or-T : (a b : Bool) → T (a || b) → T a ⊎ T b
+or-T true b t = inl tt
+or-T false b t = inr t
+
+pub T-or-l : (a b : Bool) → T a → T (a || b)
+T-or-l true b t = tt
+T-or-l false b t = absurd t
+
+pub T-or-r : (a b : Bool) → T b → T (a || b)
+T-or-r true b t = tt
+T-or-r false b t = t
+
+pub T→true : (b : Bool) → T b → b ≡ true
+T→true true t = refl
+T→true false t = absurd t
+
+pub true→T : (b : Bool) → b ≡ true → T b
+true→T b e = subst T (sym e) tt
+
+pub false→¬T : (b : Bool) → b ≡ false → ¬ T b
+false→¬T b e t = rw e at t
+
+-- two tests that imply each other are equal
+pub same : (a b : Bool) → (T a → T b) → (T b → T a) → a ≡ b
+same true true h k = refl
+same true false h k = absurd (h tt)
+same false true h k = absurd (k tt)
+same false false h k = refl

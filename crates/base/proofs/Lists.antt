@@ -1,0 +1,94 @@
+-- Lists: an element by its number, tests over all elements, runs of stores.
+use mathlib.Core.Path.{_≡_, refl, sym, ap, _∙_}
+use mathlib.Core.Logic.{_⊎_, inl, inr}
+use mathlib.Core.Bool.{Bool, true, false, _||_}
+use mathlib.Core.Option.{Option, none, some}
+use mathlib.Core.List.{List, [], _∷_, _++_, List·Memᴰ, List·Memᴰ·head, List·Memᴰ·tail}
+use Prim.Native.Nat.{ℕ, zero, suc, _+_, _-_, _≤_, _<_}
+use native.Mathlib.Omega.{arith}
+use native.Mathlib.Decide.{decLe}
+use lib.Dec.{T}
+use lib.ListN.{length, getElem?, set}
+use lib.Seq.{sets, set-comm}
+use Rattle.base.specs.Rounds.{anyOf, upFrom}
+use Rattle.base.proofs.Booleans.{clash, or-T, T-or-l, T-or-r}
+
+-- ---- some element passes a test
+abbrev pub Found : {A : Type 0} → (A → Bool) → List A → Type 0
+Found {A} p l = (n : ℕ) × (x : A) × (getElem? l n ≡ some x) × T (p x)
+
+pub anyOf-T : {A : Type 0} (p : A → Bool) (l : List A) → T (anyOf p l) → Found p l
+unfolding anyOf
+anyOf-T p [] t = absurd t
+anyOf-T {A} p (x ∷ l) t = go (or-T (p x) (anyOf p l) t) (anyOf-T p l)
+  where
+    go : T (p x) ⊎ T (anyOf p l) → (T (anyOf p l) → Found p l) → Found p (x ∷ l)
+    go (inl t) rec = (zero, x, refl, t)
+    go (inr t) rec = let h = rec t in (suc (h .0), h .1, h .2, h .3)
+
+pub T-anyOf : {A : Type 0} (p : A → Bool) (l : List A) (n : ℕ) {x : A} → getElem? l n ≡ some x → T (p x) → T (anyOf p l)
+unfolding anyOf
+T-anyOf p [] n {x} e t = clash (cc)
+T-anyOf p (y ∷ l) zero {x} e t = let q : x ≡ y = cc in T-or-l (p y) (anyOf p l) (rw q at t)
+T-anyOf p (y ∷ l) (suc n) {x} e t = T-or-r (p y) (anyOf p l) (T-anyOf p l n e t)
+
+-- ---- ranges
+pub get-upFrom : (k i n : ℕ) {m : ℕ} → getElem? (upFrom i k) n ≡ some m → (i ≤ m) × (m < i + k)
+unfolding upFrom
+get-upFrom zero i n e = clash (cc)
+get-upFrom (suc k) i zero {m} e = let q : i ≡ m = cc in omega arith
+get-upFrom (suc k) i (suc n) e = let h = get-upFrom k (suc i) n e in omega arith
+
+pub upFrom-get : (k i m : ℕ) → i ≤ m → m < i + k → getElem? (upFrom i k) (m - i) ≡ some m
+unfolding upFrom
+upFrom-get zero i m h l = clash (omega arith)
+upFrom-get (suc k) i m h l = go (m - i) refl (upFrom-get k (suc i) m)
+  where
+    go : (d : ℕ) → m - i ≡ d → (suc i ≤ m → m < suc i + k → getElem? (upFrom (suc i) k) (m - suc i) ≡ some m)
+        → getElem? (i ∷ upFrom (suc i) k) d ≡ some m
+    go zero e rec = let q : i ≡ m = omega arith in cc
+    go (suc d) e rec = let q : m - suc i ≡ d = omega arith in rw q at (rec (omega arith) (omega arith))
+
+pub length-upFrom : (i k : ℕ) → length (upFrom i k) ≡ k
+unfolding upFrom
+length-upFrom i zero = refl
+length-upFrom i (suc k) = ap suc (length-upFrom (suc i) k)
+
+pub upFrom-in : (k i m : ℕ) → i ≤ m → m < i + k → List·Memᴰ m (upFrom i k)
+unfolding upFrom
+upFrom-in zero i m h l = absurd (omega arith)
+upFrom-in (suc k) i m h l = go (decLe (suc i) m) (upFrom-in k (suc i) m)
+  where
+    go : Dec (suc i ≤ m) → (suc i ≤ m → m < suc i + k → List·Memᴰ m (upFrom (suc i) k)) → List·Memᴰ m (i ∷ upFrom (suc i) k)
+    go (yes y) rec = List·Memᴰ·tail (rec y (omega arith))
+    go (no y) rec = List·Memᴰ·head {x = i} (omega arith)
+
+-- ---- stores in two places that do not meet commute
+pub set-sets : (t : List ℕ) (i v p : ℕ) (vs : List ℕ) → (p + length vs ≤ i) ⊎ (i < p) → set (sets t p vs) i v ≡ sets (set t i v) p vs
+set-sets t i v p [] h = refl
+set-sets t i v p (x ∷ vs) h = set-sets (set t p x) i v (suc p) vs (later h) ∙ ap (λ (l : List ℕ). sets l (suc p) vs) (set-comm t p i x v (apart h))
+  where
+    later : (p + length (x ∷ vs) ≤ i) ⊎ (i < p) → (suc p + length vs ≤ i) ⊎ (i < suc p)
+    later (inl l) = inl (omega arith)
+    later (inr l) = inr (omega arith)
+    apart : (p + length (x ∷ vs) ≤ i) ⊎ (i < p) → p ≡ i → ⊥
+    apart (inl l) e = omega arith
+    apart (inr l) e = omega arith
+
+pub sets-sets : (t : List ℕ) (i : ℕ) (us : List ℕ) (p : ℕ) (vs : List ℕ) → (p + length vs ≤ i) ⊎ (i + length us ≤ p)
+    → sets (sets t p vs) i us ≡ sets (sets t i us) p vs
+sets-sets t i [] p vs h = refl
+sets-sets t i (u ∷ us) p vs h =
+    ap (λ (l : List ℕ). sets l (suc i) us) (set-sets t i u p vs (here h)) ∙ sets-sets (set t i u) (suc i) us p vs (later h)
+  where
+    here : (p + length vs ≤ i) ⊎ (i + length (u ∷ us) ≤ p) → (p + length vs ≤ i) ⊎ (i < p)
+    here (inl l) = inl l
+    here (inr l) = inr (omega arith)
+    later : (p + length vs ≤ i) ⊎ (i + length (u ∷ us) ≤ p) → (p + length vs ≤ suc i) ⊎ (suc i + length us ≤ p)
+    later (inl l) = inl (omega arith)
+    later (inr l) = inr (omega arith)
+
+-- one run of stores behind another
+pub sets-append : (t : List ℕ) (p : ℕ) (us vs : List ℕ) → sets t p (us ++ vs) ≡ sets (sets t p us) (p + length us) vs
+sets-append t p [] vs = let e : p + 0 ≡ p = omega arith in rw e
+sets-append t p (u ∷ us) vs = let e : p + suc (length us) ≡ suc p + length us = omega arith in rw e (sets-append (set t p u) (suc p) us vs)

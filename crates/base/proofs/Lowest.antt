@@ -1,0 +1,41 @@
+-- The search for the lowest number finds the lowest of what its test decides.
+use mathlib.Core.Path.{_≡_, refl}
+use mathlib.Core.Bool.{Bool, true, false}
+use mathlib.Core.Option.{Option, none, some}
+use Prim.Native.Nat.{ℕ, zero, suc, _+_, _≤_, _<_}
+use native.Mathlib.Omega.{arith}
+use native.Mathlib.Decide.{decLe}
+use lib.Dec.{T}
+use Rattle.base.specs.Search.{lowestFrom, LowestIs, this, nothing}
+use Rattle.base.proofs.Booleans.{true→T}
+
+-- what a search came to
+data Sought (p : ℕ → Bool) (i k : ℕ) : Option ℕ → Type 0 where
+  hit : (a : ℕ) → i ≤ a → a < i + k → T (p a) → ((c : ℕ) → i ≤ c → c < a → ¬ T (p c)) → Sought p i k (some a)
+  miss : ((c : ℕ) → i ≤ c → c < i + k → ¬ T (p c)) → Sought p i k none
+
+sought : (p : ℕ → Bool) (i k : ℕ) → Sought p i k (lowestFrom p i k)
+unfolding lowestFrom
+sought p i zero = miss (λ c l m t. absurd (omega arith))
+sought p i (suc k) = go (p i) refl (sought p (suc i) k)
+  where
+    not-here : p i ≡ false → (c : ℕ) → i ≤ c → ¬ (suc i ≤ c) → ¬ T (p c)
+    not-here e c l n t = let z : c ≡ i = omega arith in let y : T (p i) = rw z at t in rw e at y
+    later : p i ≡ false → {o : Option ℕ} → Sought p (suc i) k o → Sought p i (suc k) o
+    later e (hit a l m t h) = hit a (omega arith) (omega arith) t (λ c l′ m′. elim (decLe (suc i) c) [ yes y ↦ h c y m′ | no y ↦ not-here e c l′ y ])
+    later e (miss h) = miss (λ c l′ m′. elim (decLe (suc i) c) [ yes y ↦ h c y (omega arith) | no y ↦ not-here e c l′ y ])
+    go : (v : Bool) → p i ≡ v → Sought p (suc i) k (lowestFrom p (suc i) k) → Sought p i (suc k) (elim v [ true ↦ some i | false ↦ lowestFrom p (suc i) k ])
+    go true e rec = hit i (omega arith) (omega arith) (true→T (p i) e) (λ c l m t. absurd (omega arith))
+    go false e rec = later e rec
+
+-- the test decides the property below n, and nothing from n on has it
+pub lowest-is : (P : ℕ → Type 0) (p : ℕ → Bool) (n : ℕ) → ((a : ℕ) → a < n → T (p a) → P a) → ((a : ℕ) → P a → T (p a) × (a < n))
+    → LowestIs P (lowestFrom p 0 n)
+lowest-is P p n to from = go (sought p 0 n)
+  where
+    lower : (a : ℕ) → ((c : ℕ) → 0 ≤ c → c < a → ¬ T (p c)) → (c : ℕ) → P c → Dec (a ≤ c) → a ≤ c
+    lower a h c x (yes l) = l
+    lower a h c x (no l) = absurd (h c (omega arith) (omega arith) (from c x .0))
+    go : {o : Option ℕ} → Sought p 0 n o → LowestIs P o
+    go (hit a l m t h) = this a (to a (omega arith) t) (λ c x. lower a h c x (decLe a c))
+    go (miss h) = nothing (λ c x. let y = from c x in let l = y .1 in h c (omega arith) (omega arith) (y .0))

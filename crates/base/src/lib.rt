@@ -1,0 +1,42 @@
+// Casts and single bits of a word, each a tiny function whose contract is arithmetic: no proof above this crate sees a shift or a mask.
+ghost use mathlib.Core.Path.{_≡_};
+ghost use Prim.Native.Nat.{_<_};
+ghost use Rattle.base.specs.Bits.{testBit, setBit};
+
+// A byte as a number.
+pub fn wide(b: u8) -> usize
+    ensures { λ r. ⌜ r ≡ b ⌝ }
+{
+    b as usize
+}
+
+// A word as a number.
+pub fn index(x: u32) -> usize
+    ensures { λ r. ⌜ r ≡ x ⌝ }
+{
+    x as usize
+}
+
+// A number that fits a word.
+pub fn narrow(x: usize) -> u32
+    requires { ⌜ x < 4294967296 ⌝ }
+    ensures { λ r. ⌜ r ≡ x ⌝ }
+{
+    x as u32
+}
+
+// Whether bit k of x is set.
+pub fn has(x: u32, k: usize) -> bool
+    requires { ⌜ k < 32 ⌝ }
+    ensures { λ r. ⌜ r ≡ testBit x k ⌝ }
+{
+    (x >> k) & 1 == 1
+}
+
+// x with bit k set.
+pub fn with(x: u32, k: usize) -> u32
+    requires { ⌜ k < 32 ⌝ }
+    ensures { λ r. ⌜ r ≡ setBit x k ⌝ }
+{
+    x | (1u32 << k)
+}

@@ -1,0 +1,4 @@
+-- Laws on grammars, one subject a file.
+pub mod NumberLaws
+pub mod WordLaws
+pub mod PassSteps

@@ -1,0 +1,72 @@
+-- Symbols and places as words, and back.
+use mathlib.Core.Path.{_≡_, refl, sym, ap, _∙_}
+use mathlib.Core.Bool.{Bool, true, false, cond}
+use Prim.Native.Nat.{ℕ, zero, suc, _+_, _-_, _*_, _/_, _%_, _≤_, _<_}
+use native.Mathlib.Omega.{arith}
+use native.Mathlib.Decide.{decLt}
+use lib.Dec.{eqb}
+use borrow.Author.Tests.{eq-eqb, ne-eqb, eqb-true, eqb-false}
+use Rattle.grammar.specs.Types.{Symbol, Token, Nonterminal, End, Place}
+use Rattle.grammar.specs.Decode.{written}
+use Rattle.grammar.specs.Grammar.{at, nowhere}
+use Rattle.grammar.specs.Tables.{codeOf, wordOf, symbolOf, placeOf}
+
+-- ---- the code's ways through `symbolOf`
+pub code-end : (c : ℕ) → c ≡ 0 → End ≡ symbolOf c
+unfolding symbolOf
+code-end c e = rw (eq-eqb c 0 e)
+
+module _ (c : ℕ) (n : c ≡ 0 → ⊥) where
+  pub code-token : c % 2 ≡ 1 → Token (c / 2) ≡ symbolOf c
+  unfolding symbolOf
+  code-token e = rw (ne-eqb c 0 n, eq-eqb (c % 2) 1 e)
+
+  pub code-nonterminal : (c % 2 ≡ 1 → ⊥) → Nonterminal (c / 2 - 1) ≡ symbolOf c
+  unfolding symbolOf
+  code-nonterminal e = rw (ne-eqb c 0 n, ne-eqb (c % 2) 1 e)
+
+-- ---- a written symbol's code
+pub code-written : (v : ℕ) → codeOf (written v) ≡ suc v
+unfolding written
+code-written v = go (eqb (v % 2) 0) refl
+  where
+    go : (b : Bool) → eqb (v % 2) 0 ≡ b → codeOf (cond b (Token (v / 2)) (Nonterminal (v / 2))) ≡ suc v
+    go true e = let h = eqb-true (v % 2) 0 e in omega arith
+    go false e = let h = eqb-false (v % 2) 0 e in omega arith
+
+pub word-written : (a v : ℕ) {r : ℕ} → r ≡ v + 1 + (a % 64 + 32) % 64 * 256 → r ≡ wordOf (at a (written v))
+unfolding wordOf
+word-written a v e = omega (arith, e, code-written v)
+
+-- ---- and back: a symbol whose code fits a byte
+pub symbol-of-code : (x : Symbol) → symbolOf (codeOf x) ≡ x
+symbol-of-code (Token t) =
+    let h : suc (2 * t) / 2 ≡ t = omega arith in
+    sym (code-token (suc (2 * t)) (λ z. omega arith) (omega arith)) ∙ ap Token h
+symbol-of-code (Nonterminal a) =
+    let h : suc (suc (2 * a)) / 2 - 1 ≡ a = omega arith in
+    sym (code-nonterminal (suc (suc (2 * a))) (λ z. omega arith) (λ z. omega arith)) ∙ ap Nonterminal h
+symbol-of-code End = sym (code-end 0 refl)
+
+-- turning the top bit of six twice
+turned : (o : ℕ) → o < 64 → ((o % 64 + 32) % 64 + 32) % 64 ≡ o
+turned o l = go (decLt o 32)
+  where
+    low : o % 64 ≡ o
+    low = omega arith
+    go : Dec (o < 32) → ((o % 64 + 32) % 64 + 32) % 64 ≡ o
+    go (yes h) = let q : (o + 32) % 64 ≡ o + 32 = omega arith in rw (low, q) (omega arith)
+    go (no h) = let q : (o + 32) % 64 ≡ o - 32 = omega arith in rw (low, q) (omega arith)
+
+fields : (c f : ℕ) → c < 256 → ((c + f * 256) % 256 ≡ c) × ((c + f * 256) / 256 ≡ f)
+fields c f h = (omega arith, omega arith)
+
+pub place-of-word : (x : Place) → codeOf (x .symbol) < 256 → x .owner < 64 → placeOf (wordOf x) ≡ x
+unfolding placeOf wordOf
+place-of-word x h l =
+    let q = fields (codeOf (x .symbol)) ((x .owner % 64 + 32) % 64) h in
+    rw (q .0, q .1, turned (x .owner) l) (ap (at (x .owner)) (symbol-of-code (x .symbol)))
+
+pub place-of-none : placeOf 0 ≡ nowhere
+unfolding placeOf symbolOf
+place-of-none = refl

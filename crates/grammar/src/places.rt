@@ -1,0 +1,59 @@
+// Places in compiled tables: what stands behind each, and whose production it is in.
+ghost use mathlib.Core.Path.{_≡_};
+ghost use Prim.Native.Nat.{_+_, _≤_, _<_};
+ghost use lib.ListN.{length, getD};
+ghost use Rattle.grammar.specs.Tables.{wordOf, symbolOf, placeOf};
+ghost use Rattle.grammar.specs.Decode.{written};
+
+// What a place faces: a token, a nonterminal, or its production's end.
+pub enum Symbol {
+    Token(usize),
+    Nonterminal(usize),
+    End,
+}
+
+// A place: the nonterminal in whose production it stands, and the symbol that it faces.
+pub struct Place {
+    pub owner: usize,
+    pub symbol: Symbol,
+}
+
+// The symbol of a code: 0 is a production's end, every other code is one more than the symbol as written in the grammar.
+fn symbol_of(code: usize) -> Symbol
+    ensures { λ r. ⌜ r ≡ symbolOf code ⌝ }
+{
+    if code == 0 {
+        return Symbol::End;
+    }
+    if code % 2 == 1 {
+        Symbol::Token(code / 2)
+    } else {
+        Symbol::Nonterminal(code / 2 - 1)
+    }
+}
+
+// The place of a word: the symbol's code in the low eight bits, the owner above them with its top bit turned, so that a word 0 is nobody's.
+pub fn place_of(word: u32) -> Place
+    ensures { λ r. ⌜ r ≡ placeOf word ⌝ }
+{
+    let w = base::index(word);
+    Place {
+        owner: (w / 256 + 32) % 64,
+        symbol: symbol_of(w % 256),
+    }
+}
+
+// The word of a place of `owner` that faces the symbol written as v.
+pub fn symbol_word(owner: usize, v: usize) -> u32
+    requires { ⌜ v < 255 ⌝ }
+    ensures { λ r. ⌜ r ≡ wordOf (record { owner = owner; symbol = written v }) ⌝ }
+{
+    base::narrow(v + 1 + (owner % 64 + 32) % 64 * 256)
+}
+
+// The word of a place at the end of a production of `owner`.
+pub fn end_word(owner: usize) -> u32
+    ensures { λ r. ⌜ r ≡ wordOf (record { owner = owner; symbol = Symbol.End }) ⌝ }
+{
+    base::narrow((owner % 64 + 32) % 64 * 256)
+}

@@ -1,0 +1,156 @@
+// One pass over the grammar's bytes: it checks refusals 1 to 5 as the bytes come and writes the compiled tables. Nobody looks at the bytes again.
+use crate::limits::END_PLACE;
+use crate::limits::FIRSTS;
+use crate::limits::KINDS;
+use crate::limits::MAX_KINDS;
+use crate::limits::MAX_LENGTH;
+use crate::limits::MAX_NONTERMINALS;
+use crate::limits::MAX_PLACES;
+use crate::limits::MAX_PRODUCTIONS;
+use crate::limits::NONTERMINALS;
+use crate::limits::RULES;
+use crate::limits::SIZE;
+use crate::number::Cursor;
+use crate::number::Read;
+use crate::number::Refusal;
+ghost use mathlib.Core.Path.{_≡_};
+ghost use Prim.Native.Nat.{_+_, _≤_, _<_};
+ghost use lib.ListN.{length};
+ghost use Rattle.grammar.specs.Pass.{Leaves, symbolsOf, productionsOf, nonterminalsOf, finished, passOf};
+
+// The symbols of a production of `owner`, from place `first` on, and its end. Answers the place behind them.
+fn symbols(
+    bytes: &[u8],
+    from: Cursor,
+    count: usize,
+    kinds: usize,
+    nonterminals: usize,
+    owner: usize,
+    tables: &mut [u32],
+    first: usize,
+) -> Read
+    requires { ⌜ (kinds ≤ 100) × (nonterminals ≤ 32) × (first + count < 256) × (length (now tables) ≡ 547) ⌝ }
+    ensures { λ r. ⌜ Leaves r (now (tables .exit)) (symbolsOf (now (bytes .entry)) kinds nonterminals owner count from first (now (tables .entry))) ⌝ }
+{
+    let mut c = from;
+    let mut p = first;
+    let mut left = count;
+    while 0 < left {
+        let n = c.symbol(bytes, kinds, nonterminals);
+        let Read::Value(v, next) = n else {
+            return n;
+        };
+        tables[p] = crate::places::symbol_word(owner, v);
+        p += 1;
+        left -= 1;
+        c = next;
+    }
+    tables[p] = crate::places::end_word(owner);
+    Read::Value(p + 1, c)
+}
+
+// The productions of `owner`, from place `first` on; `production` counts those of all nonterminals before. Answers the place behind them.
+fn productions(
+    bytes: &[u8],
+    from: Cursor,
+    count: usize,
+    kinds: usize,
+    nonterminals: usize,
+    owner: usize,
+    tables: &mut [u32],
+    first: usize,
+    production: usize,
+) -> Read
+    requires { ⌜ (kinds ≤ 100) × (nonterminals ≤ 32) × (production ≤ first) × (first ≤ 255) × (length (now tables) ≡ 547) ⌝ }
+    ensures { λ r. ⌜ Leaves r (now (tables .exit)) (productionsOf (now (bytes .entry)) kinds nonterminals owner count from first production (now (tables .entry))) ⌝ }
+{
+    let mut c = from;
+    let mut p = first;
+    let mut k = production;
+    let mut left = count;
+    while 0 < left {
+        let at = c.at;
+        let n = c.limited(bytes, 0, MAX_LENGTH);
+        let Read::Value(m, next) = n else {
+            return n;
+        };
+        if MAX_PLACES < p + m + 1 {
+            return Read::Refused(Refusal::OverLimit(at));
+        }
+        tables[FIRSTS + k] = base::narrow(p);
+        let piece = symbols(bytes, next, m, kinds, nonterminals, owner, tables, p);
+        let Read::Value(q, after) = piece else {
+            return piece;
+        };
+        p = q;
+        k += 1;
+        left -= 1;
+        c = after;
+    }
+    Read::Value(p, c)
+}
+
+// All nonterminals. Answers the number of places.
+fn rules(bytes: &[u8], from: Cursor, kinds: usize, nonterminals: usize, tables: &mut [u32]) -> Read
+    requires { ⌜ (kinds ≤ 100) × (nonterminals ≤ 32) × (length (now tables) ≡ 547) ⌝ }
+    ensures { λ r. ⌜ Leaves r (now (tables .exit)) (nonterminalsOf (now (bytes .entry)) kinds nonterminals 0 nonterminals from 0 0 (now (tables .entry))) ⌝ }
+{
+    let mut c = from;
+    let mut p = 0;
+    let mut k = 0;
+    let mut a = 0;
+    while a < nonterminals {
+        let n = c.limited(bytes, 1, MAX_PRODUCTIONS);
+        let Read::Value(m, next) = n else {
+            return n;
+        };
+        tables[RULES + a] = base::narrow(k);
+        let piece = productions(bytes, next, m, kinds, nonterminals, a, tables, p, k);
+        let Read::Value(q, after) = piece else {
+            return piece;
+        };
+        p = q;
+        k += m;
+        a += 1;
+        c = after;
+    }
+    tables[RULES + a] = base::narrow(k);
+    Read::Value(p, c)
+}
+
+// The end place, and the words that say how much there is.
+fn finish(kinds: usize, nonterminals: usize, places: usize, tables: &mut [u32])
+    requires { ⌜ (kinds ≤ 100) × (nonterminals ≤ 32) × (places ≤ 255) × (length (now tables) ≡ 547) ⌝ }
+    ensures { λ r. ⌜ now (tables .exit) ≡ finished kinds nonterminals places (now (tables .entry)) ⌝ }
+{
+    tables[END_PLACE] = 1;
+    tables[KINDS] = base::narrow(kinds);
+    tables[NONTERMINALS] = base::narrow(nonterminals);
+    tables[SIZE] = base::narrow(places);
+}
+
+// Reads a grammar into tables. Answers the number of places and the end of the bytes, or the first refusal of 1 to 5.
+pub fn read_grammar(bytes: &[u8], tables: &mut [u32]) -> Read
+    requires { ⌜ length (now tables) ≡ 547 ⌝ }
+    ensures { λ r. ⌜ Leaves r (now (tables .exit)) (passOf (now (bytes .entry)) (now (tables .entry))) ⌝ }
+{
+    let c = Cursor { at: 0 };
+    let n = c.limited(bytes, 1, MAX_KINDS);
+    let Read::Value(kinds, next) = n else {
+        return n;
+    };
+    let m = next.limited(bytes, 1, MAX_NONTERMINALS);
+    let Read::Value(nonterminals, start) = m else {
+        return m;
+    };
+    let piece = rules(bytes, start, kinds, nonterminals, tables);
+    let Read::Value(places, end) = piece else {
+        return piece;
+    };
+    let at = end.at;
+    if at < bytes.len() {
+        return Read::Refused(Refusal::Trailing(at));
+    }
+    finish(kinds, nonterminals, places, tables);
+    piece
+}
