@@ -1,10 +1,10 @@
 -- What grammar bytes say: the rules, or the first refusal of 1 to 5 in the order of the bytes.
-use Prim.Native.Nat.{ℕ, zero, suc, _+_, _/_, _%_}
+use Prim.Native.Nat.{ℕ, zero, suc, _+_, _/_, _%_, _≤_, _<_}
 use mathlib.Core.List.{List, [], _∷_}
 use mathlib.Core.Bool.{Bool, cond}
 use lib.ListN.{length}
 use lib.Dec.{ltb, eqb}
-use Rattle.grammar.specs.Types.{Refusal, OverLimit, Trailing, Cursor, Read, Value, Refused, Symbol, Token, Nonterminal}
+use Rattle.grammar.specs.Types.{Refusal, OverLimit, Trailing, Cursor, Read, Value, Refused, Symbol, Token, Nonterminal, End}
 use Rattle.grammar.specs.Limits.{maxKinds, maxNonterminals, maxProductions, maxLength, maxPlaces}
 use Rattle.grammar.specs.Number.{limitedAt, symbolAt}
 
@@ -12,6 +12,24 @@ use Rattle.grammar.specs.Number.{limitedAt, symbolAt}
 pub record Rules : Type 0 where
   pub kinds : ℕ
   pub productions : List (List (List Symbol))
+
+-- every element of a list has a property
+abbrev pub AllOf : {A : Type 0} → (A → Type 0) → List A → Type 0
+AllOf P [] = Unit {0}
+AllOf P (x ∷ l) = P x × AllOf P l
+
+-- a symbol of a grammar with t kinds and n nonterminals
+abbrev pub Legal : ℕ → ℕ → Symbol → Type 0
+Legal t n (Token k) = (1 ≤ k) × (k ≤ t)
+Legal t n (Nonterminal a) = a < n
+Legal t n End = ⊥
+
+-- a production, and the productions of a nonterminal, of such a grammar
+abbrev pub Production : ℕ → ℕ → List Symbol → Type 0
+Production t n β = (length β ≤ maxLength) × AllOf (Legal t n) β
+
+abbrev pub Alternatives : ℕ → ℕ → List (List Symbol) → Type 0
+Alternatives t n l = (1 ≤ length l) × (length l ≤ maxProductions) × AllOf (Production t n) l
 
 -- how far reading has come: the next byte, and the places of the productions read so far
 pub record Mark : Type 0 where

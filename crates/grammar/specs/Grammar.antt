@@ -2,12 +2,12 @@
 use mathlib.Core.Bool.{Bool}
 use mathlib.Core.Option.{Option, none, some}
 use mathlib.Core.List.{List, [], _∷_, _++_}
-use Prim.Native.Nat.{ℕ, zero, suc, _+_, _-_}
+use Prim.Native.Nat.{ℕ, zero, suc, _+_, _-_, _≤_}
 use lib.Dec.{eqb}
 use lib.ListN.{length, getD, getElem?, drop, replicate}
 use Rattle.grammar.specs.Types.{Symbol, Token, Nonterminal, End, Place}
-use Rattle.grammar.specs.Limits.{maxPlaces, nobody, endMark}
-use Rattle.grammar.specs.Decode.{Rules}
+use Rattle.grammar.specs.Limits.{maxKinds, maxNonterminals, maxPlaces, nobody, endMark}
+use Rattle.grammar.specs.Decode.{Rules, AllOf, Alternatives}
 
 -- the highest kind, T; the number of places, P; the first place of each production of each nonterminal; the places, the end place included
 pub record Grammar : Type 0 where
@@ -119,3 +119,12 @@ compile r = record {
     starts = startsAll 0 (r .productions);
     places = padded (layAll 0 (r .productions))
   }
+
+-- rules within the limits: what every decoded grammar is
+pub record Limited (r : Rules) : Type 0 where
+  pub kinds-least : 1 ≤ r .kinds
+  pub kinds-most : r .kinds ≤ maxKinds
+  pub some : 1 ≤ length (r .productions)
+  pub few : length (r .productions) ≤ maxNonterminals
+  pub each : AllOf (Alternatives (r .kinds) (length (r .productions))) (r .productions)
+  pub small : sizeAll (r .productions) ≤ maxPlaces
