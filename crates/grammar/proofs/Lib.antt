@@ -3,3 +3,4 @@ pub mod NumberLaws
 pub mod WordLaws
 pub mod PassSteps
 pub mod PassLaws
+pub mod TableLaws

@@ -59,12 +59,12 @@ legal-written t n v h = go (eqb (v % 2) 0) h
 
 -- ---- what the pass writes beside the places
 -- for each nonterminal the number of its first production, the first of them the kth; and the number behind the last
-pub countsOf : ℕ → List (List (List Symbol)) → List ℕ
+unfoldable pub countsOf : ℕ → List (List (List Symbol)) → List ℕ
 countsOf k [] = k ∷ []
 countsOf k (n ∷ l) = k ∷ countsOf (k + length n) l
 
 -- the first places of all productions
-pub firstsOf : ℕ → List (List (List Symbol)) → List ℕ
+unfoldable pub firstsOf : ℕ → List (List (List Symbol)) → List ℕ
 firstsOf p [] = []
 firstsOf p (n ∷ l) = startsEach p n ++ firstsOf (p + sizeEach n) l
 
@@ -283,7 +283,7 @@ module _ (s : List ℕ) (kt nt : ℕ) where
 
 -- ---- the whole
 -- the tables of rules, over what stood there
-pub laidOut : List ℕ → Rules → List ℕ
+unfoldable pub laidOut : List ℕ → Rules → List ℕ
 laidOut t r =
     finished (r .kinds) (length (r .productions)) (sizeAll (r .productions))
       (sets (sets (sets t rulesAt (countsOf 0 (r .productions))) firstsAt (firstsOf 0 (r .productions))) 0 (map wordOf (layAll 0 (r .productions))))
