@@ -4,3 +4,5 @@ pub mod WordLaws
 pub mod PassSteps
 pub mod PassLaws
 pub mod TableLaws
+pub mod FitsLaws
+pub mod CompileLaws

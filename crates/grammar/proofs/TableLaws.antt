@@ -126,7 +126,7 @@ getD-behind xs ys n i e = rw (← e) (getD-append-add xs ys i 0)
 length-filled : (vs : List ℕ) (n : ℕ) → length vs ≤ n → length (vs ++ replicate (n - length vs) 0) ≡ n
 length-filled vs n h = length-append vs (replicate (n - length vs) 0) ∙ omega (arith, length-replicate {A = ℕ} (n - length vs) 0)
 
-length-counts : (k : ℕ) (l : List (List (List Symbol))) → length (countsOf k l) ≡ suc (length l)
+pub length-counts : (k : ℕ) (l : List (List (List Symbol))) → length (countsOf k l) ≡ suc (length l)
 unfolding countsOf
 length-counts k [] = refl
 length-counts k (x ∷ l) = ap suc (length-counts (k + length x) l)
@@ -138,17 +138,17 @@ length-firsts o (n ∷ l) =
     omega (arith, length-append (startsEach o n) (firstsOf (o + sizeEach n) l), length-starts o n, length-size n, length-firsts (o + sizeEach n) l)
 
 -- what the tables hold, region by region: places, the end place, first places, numbers of productions, and how much there is
-abbrev regions : List ℕ → ℕ → List ℕ → List ℕ → List ℕ → List ℕ
+abbrev pub regions : List ℕ → ℕ → List ℕ → List ℕ → List ℕ → List ℕ
 regions A w B D E = A ++ (w ∷ (B ++ (D ++ E)))
 
 module _ (r : Rules) (limits : Limited r) where
-  W : List ℕ
+  unfoldable pub W : List ℕ
   W = map wordOf (layAll 0 (r .productions))
 
-  S : List ℕ
+  unfoldable pub S : List ℕ
   S = firstsOf 0 (r .productions)
 
-  C : List ℕ
+  unfoldable pub C : List ℕ
   C = countsOf 0 (r .productions)
 
   few-W : length W ≤ 255
@@ -163,27 +163,27 @@ module _ (r : Rules) (limits : Limited r) where
   unfolding C
   few-C = omega (arith, length-counts 0 (r .productions), limits .few)
 
-  A : List ℕ
+  unfoldable pub A : List ℕ
   A = W ++ replicate (255 - length W) 0
 
-  B : List ℕ
+  unfoldable pub B : List ℕ
   B = S ++ replicate (255 - length S) 0
 
-  D : List ℕ
+  unfoldable pub D : List ℕ
   D = C ++ replicate (33 - length C) 0
 
-  abbrev held : List ℕ
+  abbrev pub held : List ℕ
   held = regions A 1 B D (r .kinds ∷ length (r .productions) ∷ sizeAll (r .productions) ∷ [])
 
-  length-A : length A ≡ 255
+  pub length-A : length A ≡ 255
   unfolding A
   length-A = length-filled W 255 few-W
 
-  length-B : length B ≡ 255
+  pub length-B : length B ≡ 255
   unfolding B
   length-B = length-filled S 255 few-S
 
-  length-D : length D ≡ 33
+  pub length-D : length D ≡ 33
   unfolding D
   length-D = length-filled C 33 few-C
 
@@ -204,7 +204,7 @@ module _ (r : Rules) (limits : Limited r) where
       set-behind A (w ∷ (B ++ (D ++ E))) 255 (suc (255 + (33 + i))) x length-A
       ∙ ap (λ (l : List ℕ). A ++ (w ∷ l)) (set-behind B (D ++ E) 255 (33 + i) x length-B ∙ ap (λ (l : List ℕ). B ++ l) (set-behind D E 33 i x length-D))
 
-  laid : laidOut (replicate 547 0) r ≡ held
+  pub laid : laidOut (replicate 547 0) r ≡ held
   unfolding laidOut finished wordOf W S C
   laid =
       ap (λ (t : List ℕ). set (set (set (set t 255 1) 544 (r .kinds)) 545 (length (r .productions))) 546 (sizeAll (r .productions))) stored
@@ -214,12 +214,12 @@ module _ (r : Rules) (limits : Limited r) where
       ∙ set-last 1 (r .kinds ∷ length (r .productions) ∷ 0 ∷ []) 2 (sizeAll (r .productions))
 
   -- looks at them
-  get-last : (i : ℕ) (E : List ℕ) → getD (regions A 1 B D E) (255 + suc (255 + (33 + i))) 0 ≡ getD E i 0
+  pub get-last : (i : ℕ) (E : List ℕ) → getD (regions A 1 B D E) (255 + suc (255 + (33 + i))) 0 ≡ getD E i 0
   get-last i E =
       getD-behind A (1 ∷ (B ++ (D ++ E))) 255 (suc (255 + (33 + i))) length-A
       ∙ getD-behind B (D ++ E) 255 (33 + i) length-B ∙ getD-behind D E 33 i length-D
 
-  get-count : (j : ℕ) → j ≤ length (r .productions) → getD held (511 + (0 + j)) 0 ≡ getD C j 0
+  pub get-count : (j : ℕ) → j ≤ length (r .productions) → getD held (511 + (0 + j)) 0 ≡ getD C j 0
   unfolding D C
   get-count j h =
       let e : 511 + (0 + j) ≡ 255 + suc (255 + j) = omega arith in
@@ -231,7 +231,7 @@ module _ (r : Rules) (limits : Limited r) where
         ∙ List·getD-append D E 0 j (omega (arith, length-D, limits .few))
         ∙ List·getD-append C (replicate (33 - length C) 0) 0 j l)
 
-  the-places : map placeOf (take 256 held) ≡ padded (layAll 0 (r .productions))
+  pub the-places : map placeOf (take 256 held) ≡ padded (layAll 0 (r .productions))
   unfolding padded A W placeOf
   the-places =
       let E : List ℕ = r .kinds ∷ length (r .productions) ∷ sizeAll (r .productions) ∷ [] in

@@ -4,12 +4,15 @@ use mathlib.Core.Bool.{Bool, true, false, cond}
 use Prim.Native.Nat.{ℕ, zero, suc, _+_, _-_, _*_, _/_, _%_, _≤_, _<_}
 use native.Mathlib.Omega.{arith}
 use native.Mathlib.Decide.{decLt}
+use mathlib.Core.List.{List, map}
+use lib.ListN.{length, getD, take, length-take, length-map, List·getD-eq-default, List·getD-map}
+use lib.Seq.{getD-take}
 use lib.Dec.{eqb}
 use borrow.Author.Tests.{eq-eqb, ne-eqb, eqb-true, eqb-false}
 use Rattle.grammar.specs.Types.{Symbol, Token, Nonterminal, End, Place}
 use Rattle.grammar.specs.Decode.{written}
-use Rattle.grammar.specs.Grammar.{at, nowhere}
-use Rattle.grammar.specs.Tables.{codeOf, wordOf, symbolOf, placeOf}
+use Rattle.grammar.specs.Grammar.{at, nowhere, placeAt}
+use Rattle.grammar.specs.Tables.{codeOf, wordOf, symbolOf, placeOf, grammarIn}
 
 -- ---- the code's ways through `symbolOf`
 pub code-end : (c : ℕ) → c ≡ 0 → End ≡ symbolOf c
@@ -70,3 +73,15 @@ place-of-word x h l =
 pub place-of-none : placeOf 0 ≡ nowhere
 unfolding placeOf symbolOf
 place-of-none = refl
+
+-- ---- reading places out of tables
+pub place-past : (t : List ℕ) (p : ℕ) {x : Place} → 255 < p → x ≡ placeOf 0 → x ≡ placeAt (grammarIn t) p
+unfolding grammarIn
+place-past t p h e =
+    e ∙ place-of-none ∙ sym (List·getD-eq-default (map placeOf (take 256 t)) nowhere {n = p} (omega (arith, length-map (take 256 t) placeOf, length-take 256 t)))
+
+pub place-in : (t : List ℕ) (p : ℕ) {x : Place} → p ≤ 255 → x ≡ placeOf (getD t p 0) → x ≡ placeAt (grammarIn t) p
+unfolding grammarIn
+place-in t p h e =
+    e ∙ ap placeOf (sym (getD-take 256 t p 0 (omega arith))) ∙ sym (List·getD-map placeOf (take 256 t) p 0)
+    ∙ ap (getD (map placeOf (take 256 t)) p) place-of-none

@@ -24,13 +24,17 @@ abbrev pub nowhere : Place
 nowhere = at nobody End
 
 -- ---- reading a grammar
+-- place p
+abbrev pub placeAt : Grammar → ℕ → Place
+placeAt g p = getD (g .places) p nowhere
+
 -- what place p faces
 unfoldable pub facing : Grammar → ℕ → Symbol
-facing g p = (getD (g .places) p nowhere) .symbol
+facing g p = (placeAt g p) .symbol
 
 -- the nonterminal in whose production place p stands
 unfoldable pub owner : Grammar → ℕ → ℕ
-owner g p = (getD (g .places) p nowhere) .owner
+owner g p = (placeAt g p) .owner
 
 -- may token t stand where kind k is called for
 unfoldable pub admits : Grammar → ℕ → ℕ → Bool

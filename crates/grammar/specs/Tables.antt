@@ -3,15 +3,17 @@
 --   256 .. 510  the first place of each production, in the order of the bytes
 --   511 .. 543  for each nonterminal the number of its first production, counted over all; behind the last, the number of productions
 --   544, 545, 546   the highest kind, the number of nonterminals, the number of places
-use Prim.Native.Nat.{ℕ, zero, suc, _+_, _-_, _*_, _/_, _%_}
-use mathlib.Core.List.{List, [], _∷_, _++_, map}
+use mathlib.Core.Path.{_≡_}
+use Prim.Native.Nat.{ℕ, zero, suc, _+_, _-_, _*_, _/_, _%_, _≤_, _<_}
+use mathlib.Core.List.{List, [], _∷_, map}
 use mathlib.Core.Bool.{cond}
-use lib.ListN.{length, getD, take, replicate}
-use lib.Seq.{sets, slice}
+use lib.ListN.{length, getD, take}
+use lib.Seq.{slice}
 use lib.Dec.{eqb}
 use Rattle.base.specs.Rounds.{upFrom}
 use Rattle.grammar.specs.Types.{Symbol, Token, Nonterminal, End, Place}
-use Rattle.grammar.specs.Grammar.{Grammar}
+use Rattle.grammar.specs.Limits.{maxNonterminals}
+use Rattle.grammar.specs.Grammar.{Grammar, facing}
 
 abbrev pub firstsAt : ℕ
 firstsAt = 256
@@ -68,3 +70,14 @@ grammarIn t = record {
     starts = startsIn t (upFrom 0 (getD t nonterminalsAt 0));
     places = map placeOf (take 256 t)
   }
+
+-- how many nonterminals tables say
+abbrev pub nonterminalsIn : List ℕ → ℕ
+nonterminalsIn t = getD t nonterminalsAt 0
+
+-- what readers of tables may rely on: every index that the words say is in range
+pub record Fits (t : List ℕ) : Type 0 where
+  pub long : length t ≡ tableWords
+  pub few : nonterminalsIn t ≤ maxNonterminals
+  pub within : (a : ℕ) → a < nonterminalsIn t → ruleAt t (suc a) ≤ tableWords
+  pub named : (p a : ℕ) → facing (grammarIn t) p ≡ Nonterminal a → a < nonterminalsIn t

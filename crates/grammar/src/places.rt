@@ -1,8 +1,13 @@
 // Places in compiled tables: what stands behind each, and whose production it is in.
+use crate::limits::END_PLACE;
+use crate::limits::FIRSTS;
+use crate::limits::NONTERMINALS;
+use crate::limits::RULES;
 ghost use mathlib.Core.Path.{_≡_};
 ghost use Prim.Native.Nat.{_+_, _≤_, _<_};
 ghost use lib.ListN.{length, getD};
-ghost use Rattle.grammar.specs.Tables.{wordOf, symbolOf, placeOf};
+ghost use Rattle.grammar.specs.Grammar.{placeAt};
+ghost use Rattle.grammar.specs.Tables.{wordOf, symbolOf, placeOf, grammarIn, nonterminalsIn, ruleAt};
 ghost use Rattle.grammar.specs.Decode.{written};
 
 // What a place faces: a token, a nonterminal, or its production's end.
@@ -56,4 +61,31 @@ pub fn end_word(owner: usize) -> u32
     ensures { λ r. ⌜ r ≡ wordOf (record { owner = owner; symbol = Symbol.End }) ⌝ }
 {
     base::narrow((owner % 64 + 32) % 64 * 256)
+}
+
+// Place p. Behind the end place there is none: there a production's end is faced, and nobody owns it.
+pub fn place_at(tables: &[u32], p: usize) -> Place
+    requires { ⌜ length (now tables) ≡ 547 ⌝ }
+    ensures { λ r. ⌜ r ≡ placeAt (grammarIn (now (tables .entry))) p ⌝ }
+{
+    if END_PLACE < p {
+        return place_of(0);
+    }
+    place_of(tables[p])
+}
+
+// How many nonterminals there are.
+pub fn nonterminals(tables: &[u32]) -> usize
+    requires { ⌜ length (now tables) ≡ 547 ⌝ }
+    ensures { λ r. ⌜ r ≡ nonterminalsIn (now (tables .entry)) ⌝ }
+{
+    base::index(tables[NONTERMINALS])
+}
+
+// Where in the tables the first places of the productions of nonterminal a begin, and where those of the one before it end.
+pub fn rule_at(tables: &[u32], a: usize) -> usize
+    requires { ⌜ (a ≤ 32) × (length (now tables) ≡ 547) ⌝ }
+    ensures { λ r. ⌜ r ≡ ruleAt (now (tables .entry)) a ⌝ }
+{
+    FIRSTS + base::index(tables[RULES + a])
 }
