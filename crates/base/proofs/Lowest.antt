@@ -1,8 +1,9 @@
 -- The search for the lowest number finds the lowest of what its test decides.
-use mathlib.Core.Path.{_≡_, refl}
+use mathlib.Core.Path.{_≡_, refl, sym, ap, ap₂, _∙_}
 use mathlib.Core.Bool.{Bool, true, false}
 use mathlib.Core.Option.{Option, none, some}
-use Prim.Native.Nat.{ℕ, zero, suc, _+_, _≤_, _<_}
+use Prim.Native.Nat.{ℕ, zero, suc, _+_, _-_, _≤_, _<_}
+use native.Mathlib.Numerals.{add-one}
 use native.Mathlib.Omega.{arith}
 use native.Mathlib.Decide.{decLe}
 use lib.Dec.{T}
@@ -39,3 +40,35 @@ lowest-is P p n to from = go (sought p 0 n)
     go : {o : Option ℕ} → Sought p 0 n o → LowestIs P o
     go (hit a l m t h) = this a (to a (omega arith) t) (λ c x. lower a h c x (decLe a c))
     go (miss h) = nothing (λ c x. let y = from c x in let l = y .1 in h c (omega arith) (omega arith) (y .0))
+
+-- ---- the search a number at a time, as a loop meets it
+module _ (p : ℕ → Bool) (i k : ℕ) {o : Option ℕ} (h : lowestFrom p i k ≡ o) where
+  pub lowest-none : k ≡ 0 → none ≡ o
+  unfolding lowestFrom
+  lowest-none e = rw e at h
+
+  pub lowest-hit : 0 < k → p i ≡ true → some i ≡ o
+  unfolding lowestFrom
+  lowest-hit l e = go k l h
+    where
+      go : (k : ℕ) → 0 < k → lowestFrom p i k ≡ o → some i ≡ o
+      go zero l h = absurd (omega arith)
+      go (suc k) l h = ap (λ (b : Bool). elim b as (λ _. Option ℕ) [ true ↦ some i | false ↦ lowestFrom p (suc i) k ]) (sym e) ∙ h
+
+  pub lowest-miss : 0 < k → p i ≡ false → lowestFrom p (i + 1) (k - 1) ≡ o
+  unfolding lowestFrom
+  lowest-miss l e = go k l h
+    where
+      go : (k : ℕ) → 0 < k → lowestFrom p i k ≡ o → lowestFrom p (i + 1) (k - 1) ≡ o
+      go zero l h = absurd (omega arith)
+      go (suc k) l h =
+          let q : suc k - 1 ≡ k = omega arith in
+          rw (q, add-one) (ap (λ (b : Bool). elim b as (λ _. Option ℕ) [ true ↦ some i | false ↦ lowestFrom p (suc i) k ]) (sym e) ∙ h)
+
+-- two tests that agree on the numbers searched find the same
+pub lowest-same : (p q : ℕ → Bool) (i k : ℕ) → ((a : ℕ) → i ≤ a → a < i + k → p a ≡ q a) → lowestFrom p i k ≡ lowestFrom q i k
+unfolding lowestFrom
+lowest-same p q i zero h = refl
+lowest-same p q i (suc k) h =
+    ap₂ (λ (b : Bool) (o : Option ℕ). elim b as (λ _. Option ℕ) [ true ↦ some i | false ↦ o ]) (h i (omega arith) (omega arith))
+      (lowest-same p q (suc i) k (λ a l m. h a (omega arith) (omega arith)))

@@ -6,3 +6,5 @@ pub mod PassLaws
 pub mod TableLaws
 pub mod FitsLaws
 pub mod CompileLaws
+pub mod GrammarLaws
+pub mod ReadLaws

@@ -288,7 +288,7 @@ laidOut t r =
     finished (r .kinds) (length (r .productions)) (sizeAll (r .productions))
       (sets (sets (sets t rulesAt (countsOf 0 (r .productions))) firstsAt (firstsOf 0 (r .productions))) 0 (map wordOf (layAll 0 (r .productions))))
 
-abbrev passOut : List ℕ → Rules → Mark → Out
+abbrev pub passOut : List ℕ → Rules → Mark → Out
 passOut t r m = out (Value (sizeAll (r .productions)) (cursor (m .byte))) (laidOut t r)
 
 closing-same : (s t : List ℕ) (kt nt : ℕ) → (1 ≤ kt) × (kt ≤ 100) → (1 ≤ nt) × (nt ≤ 32) → (l : List (List (List Symbol))) (m : Mark) → AllRules s kt nt nt 0 l m

@@ -4,15 +4,17 @@ use mathlib.Core.Bool.{Bool, true, false, cond}
 use Prim.Native.Nat.{ℕ, zero, suc, _+_, _-_, _*_, _/_, _%_, _≤_, _<_}
 use native.Mathlib.Omega.{arith}
 use native.Mathlib.Decide.{decLt}
-use mathlib.Core.List.{List, map}
+use mathlib.Core.List.{List, [], _∷_, map}
 use lib.ListN.{length, getD, take, length-take, length-map, List·getD-eq-default, List·getD-map}
-use lib.Seq.{getD-take}
+use lib.Seq.{getD-take, slice}
 use lib.Dec.{eqb}
 use borrow.Author.Tests.{eq-eqb, ne-eqb, eqb-true, eqb-false}
+use Rattle.base.specs.Rounds.{upFrom}
+use Rattle.base.proofs.Lists.{length-upFrom}
 use Rattle.grammar.specs.Types.{Symbol, Token, Nonterminal, End, Place}
 use Rattle.grammar.specs.Decode.{written}
-use Rattle.grammar.specs.Grammar.{at, nowhere, placeAt}
-use Rattle.grammar.specs.Tables.{codeOf, wordOf, symbolOf, placeOf, grammarIn}
+use Rattle.grammar.specs.Grammar.{Grammar, at, nowhere, placeAt, facing, alternatives}
+use Rattle.grammar.specs.Tables.{codeOf, wordOf, symbolOf, placeOf, ruleAt, startsIn, grammarIn, nonterminalsIn}
 
 -- ---- the code's ways through `symbolOf`
 pub code-end : (c : ℕ) → c ≡ 0 → End ≡ symbolOf c
@@ -85,3 +87,29 @@ unfolding grammarIn
 place-in t p h e =
     e ∙ ap placeOf (sym (getD-take 256 t p 0 (omega arith))) ∙ sym (List·getD-map placeOf (take 256 t) p 0)
     ∙ ap (getD (map placeOf (take 256 t)) p) place-of-none
+
+pub facing-of : (g : Grammar) (p : ℕ) {x : Place} {s : Symbol} → x ≡ placeAt g p → x .symbol ≡ s → facing g p ≡ s
+unfolding facing
+facing-of g p e f = ap (λ (x : Place). x .symbol) (sym e) ∙ f
+
+pub facing-past : (t : List ℕ) (p : ℕ) → 256 ≤ p → facing (grammarIn t) p ≡ End
+facing-past t p h = facing-of (grammarIn t) p (place-past t p h refl) (ap (λ (x : Place). x .symbol) place-of-none)
+
+-- ---- the productions of a nonterminal in tables
+starts-at : (t : List ℕ) (b n a : ℕ) → a < n → getD (startsIn t (upFrom b n)) a [] ≡ slice (ruleAt t (b + a)) (ruleAt t (suc (b + a))) t
+unfolding startsIn upFrom
+starts-at t b zero a h = absurd (omega arith)
+starts-at t b (suc n) zero h = let e : b + 0 ≡ b = omega arith in rw e
+starts-at t b (suc n) (suc a) h = let e : b + suc a ≡ suc b + a = omega arith in rw e (starts-at t (suc b) n a (omega arith))
+
+pub alternatives-in : (t : List ℕ) (a : ℕ) → a < nonterminalsIn t → alternatives (grammarIn t) a ≡ slice (ruleAt t a) (ruleAt t (suc a)) t
+unfolding alternatives grammarIn
+alternatives-in t a h = let e : 0 + a ≡ a = omega arith in rw e at (starts-at t 0 (nonterminalsIn t) a h)
+
+pub length-starts-in : (t : List ℕ) → length (grammarIn t .starts) ≡ nonterminalsIn t
+unfolding grammarIn startsIn
+length-starts-in t = go (upFrom 0 (nonterminalsIn t)) ∙ length-upFrom 0 (nonterminalsIn t)
+  where
+    go : (l : List ℕ) → length (startsIn t l) ≡ length l
+    go [] = refl
+    go (x ∷ l) = ap suc (go l)

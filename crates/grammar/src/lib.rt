@@ -9,6 +9,7 @@ pub use number::Read;
 pub use number::Refusal;
 pub use places::Place;
 pub use places::Symbol;
+pub use places::first_place;
 pub use places::nonterminals;
 pub use places::place_at;
 pub use places::rule_at;

@@ -1,9 +1,10 @@
 // Numbers in groups of seven bits, lowest group first; only the shortest form, at most three bytes, at most 65,535.
 ghost use mathlib.Core.Path.{_≡_};
 ghost use Prim.Native.Nat.{_+_, _*_, _%_, _<_};
+ghost use Rattle.grammar.specs.Refusals.{refusalNumber, refusalPlace};
 ghost use Rattle.grammar.specs.Number.{numberAt, limitedAt, legal, symbolAt};
 
-// Why an input is refused, each with its place. Document 01's numbers for them are `refusalNumber` of specs/Refusal.
+// Why an input is refused, each with its place. `refusalNumber` of specs/Refusals gives document 01's numbers.
 pub enum Refusal {
     Unfinished(usize),
     Malformed(usize),
@@ -12,6 +13,38 @@ pub enum Refusal {
     Trailing(usize),
     Unproductive(usize),
     LeftRecursive(usize),
+}
+
+impl Refusal {
+    // Document 01's number.
+    pub fn number(self) -> u32
+        ensures { λ r. ⌜ r ≡ refusalNumber self ⌝ }
+    {
+        match self {
+            Refusal::Unfinished(_) => 1,
+            Refusal::Malformed(_) => 2,
+            Refusal::OverLimit(_) => 3,
+            Refusal::UnknownSymbol(_) => 4,
+            Refusal::Trailing(_) => 5,
+            Refusal::Unproductive(_) => 6,
+            Refusal::LeftRecursive(_) => 7,
+        }
+    }
+
+    // Document 01's place: a byte of the grammar for 1 to 5, a nonterminal for 6 and 7.
+    pub fn place(self) -> usize
+        ensures { λ r. ⌜ r ≡ refusalPlace self ⌝ }
+    {
+        match self {
+            Refusal::Unfinished(at) => at,
+            Refusal::Malformed(at) => at,
+            Refusal::OverLimit(at) => at,
+            Refusal::UnknownSymbol(at) => at,
+            Refusal::Trailing(at) => at,
+            Refusal::Unproductive(a) => a,
+            Refusal::LeftRecursive(a) => a,
+        }
+    }
 }
 
 // Where reading goes on in the grammar's bytes.

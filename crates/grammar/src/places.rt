@@ -89,3 +89,11 @@ pub fn rule_at(tables: &[u32], a: usize) -> usize
 {
     FIRSTS + base::index(tables[RULES + a])
 }
+
+// The first place of the production whose word stands at k in the tables.
+pub fn first_place(tables: &[u32], k: usize) -> usize
+    requires { ⌜ (k < 547) × (length (now tables) ≡ 547) ⌝ }
+    ensures { λ r. ⌜ r ≡ getD (now (tables .entry)) k 0 ⌝ }
+{
+    base::index(tables[k])
+}

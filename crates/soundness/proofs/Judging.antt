@@ -1,0 +1,97 @@
+-- From sets and rows to verdicts, and from tables to bytes: the check by cases, as the code meets them.
+use mathlib.Core.Path.{_≡_, refl, sym, ap, _∙_}
+use mathlib.Core.Bool.{Bool, true, false, not}
+use mathlib.Core.List.{List}
+use Prim.Native.Nat.{ℕ, _+_, _≤_, _<_}
+use native.Mathlib.Omega.{arith}
+use lib.ListN.{length, getD, replicate}
+use Rattle.base.specs.Bits.{testBit}
+use Rattle.base.specs.Search.{lowestFrom}
+use Rattle.base.proofs.Booleans.{clash}
+use Rattle.base.proofs.Lowest.{lowest-same}
+use Rattle.grammar.specs.declared.number.Refusal.{Refusal}
+use Rattle.grammar.specs.declared.number.Refusal.the-variants.{Unproductive, LeftRecursive}
+use Rattle.grammar.specs.declared.number.Cursor.{Cursor}
+use Rattle.grammar.specs.declared.number.Read.{Read}
+use Rattle.grammar.specs.declared.number.Read.the-variants.{Value, Refused as Unread}
+use Rattle.grammar.specs.Decode.{Rules, Mark, Parsed, got, refused, decode}
+use Rattle.grammar.specs.Grammar.{Grammar, compile, Limited}
+use Rattle.grammar.specs.Tables.{grammarIn, nonterminalsIn, Fits}
+use Rattle.grammar.specs.Pass.{Out, out, passOf}
+use Rattle.grammar.proofs.ReadLaws.{Outcome, none, whole, outcome}
+use Rattle.grammar.proofs.WordLaws.{length-starts-in}
+use Rattle.soundness.specs.declared.judgement.Verdict.{Verdict}
+use Rattle.soundness.specs.declared.judgement.Verdict.the-variants.{Sound, Refused}
+use Rattle.soundness.specs.Textbook.{Move}
+use Rattle.soundness.specs.Closures.{deriving?, leftRecursive?, lowestUnproductive, lowestLeftRecursive}
+use Rattle.soundness.specs.Steps.{DerivingIs, Rows, reachOf}
+use Rattle.soundness.specs.Check.{refuseAt, unproductiveOf, leftRecursiveOf, orElse, judgeOf, judged, checkOf}
+use Rattle.soundness.specs.Compiled.{Compiled}
+use Rattle.soundness.proofs.LeftRecursion.{move-to}
+use Rattle.soundness.proofs.Warshall.{reached}
+
+-- ---- 6
+pub unproductive-is : (t : List ℕ) (x n : ℕ) → DerivingIs true (grammarIn t) x → n ≡ nonterminalsIn t
+    → refuseAt Unproductive (lowestFrom (λ a. not (testBit x a)) 0 n) ≡ unproductiveOf (grammarIn t)
+unfolding DerivingIs unproductiveOf lowestUnproductive
+unproductive-is t x n d e =
+    ap (refuseAt Unproductive)
+      (lowest-same (λ a. not (testBit x a)) (λ a. not (deriving? true (grammarIn t) a)) 0 n (λ a l m. ap not (d a))
+      ∙ ap (lowestFrom (λ a. not (deriving? true (grammarIn t) a)) 0) (e ∙ sym (length-starts-in t)))
+
+-- ---- 7
+pub recursive-is : (t : List ℕ) → Fits t → (nullable n : ℕ) (rows : List ℕ) → DerivingIs false (grammarIn t) nullable → n ≡ nonterminalsIn t → length rows ≡ 32
+    → Rows nullable (grammarIn t) (nonterminalsIn t) rows → {after : List ℕ} → after ≡ reachOf n n rows
+    → refuseAt LeftRecursive (lowestFrom (λ a. testBit (getD after a 0) a) 0 n) ≡ leftRecursiveOf (grammarIn t)
+unfolding leftRecursiveOf lowestLeftRecursive
+recursive-is t f nullable n rows d e l h {after} q =
+    let g : Grammar = grammarIn t in
+    let m : n ≡ length (g .starts) = e ∙ sym (length-starts-in t) in
+    let named : (a c : ℕ) → Move g a c → c < n = λ a c v. let (p, u) = move-to g v in omega (arith, e, f .named p c u) in
+    let rows-n : Rows nullable g n rows = rw e h in
+    ap (refuseAt LeftRecursive)
+      (lowest-same (λ a. testBit (getD after a 0) a) (leftRecursive? g) 0 n
+        (λ a k b. ap (λ (r : List ℕ). testBit (getD r a 0) a) q ∙ reached nullable g n rows m named (omega (arith, l, e, f .few)) d rows-n a (omega (arith, b)))
+      ∙ ap (lowestFrom (leftRecursive? g) 0) m)
+
+-- ---- 6 before 7
+module _ (g : Grammar) {v : Verdict} (e : v ≡ unproductiveOf g) where
+  pub judge-first : {r : Refusal} → v ≡ Refused r → Refused r ≡ judgeOf g
+  unfolding judgeOf
+  judge-first h = rw (← e, h)
+
+  pub judge-second : {w : Verdict} → v ≡ Sound → w ≡ leftRecursiveOf g → w ≡ judgeOf g
+  unfolding judgeOf
+  judge-second h q = rw (← e, h, q)
+
+-- ---- the bytes
+module _ (s t₀ : List ℕ) {x : Read} {t : List ℕ} (z : t₀ ≡ replicate 547 0) (e : out x t ≡ passOf s t₀) where
+  pub compile-refused : {r : Refusal} → x ≡ Unread r → Compiled s (Refused r) t
+  unfolding checkOf
+  compile-refused {r} h = go (outcome s t₀ z e)
+    where
+      go : Outcome s x t → Compiled s (Refused r) t
+      go (none r′ q h′) = let y : r′ ≡ r = cc in
+          record { verdict = rw (q, y); says = λ g m q′. clash (cc); fits = λ g m q′. clash (cc) }
+      go (whole g m v c q h′ l u f) = clash (cc)
+
+  module _ {v : ℕ} {c : Cursor} (h : x ≡ Value v c) where
+    pub compile-fits : Fits t
+    compile-fits = go (outcome s t₀ z e)
+      where
+        go : Outcome s x t → Fits t
+        go (none r q h′) = clash (cc)
+        go (whole g m v c q h′ l u f) = f
+
+    pub compile-judged : {w : Verdict} → w ≡ judgeOf (grammarIn t) → Compiled s w t
+    unfolding checkOf
+    compile-judged {w} j = go (outcome s t₀ z e)
+      where
+        go : Outcome s x t → Compiled s w t
+        go (none r q h′) = clash (cc)
+        go (whole g m v c q h′ l u f) =
+            record {
+              verdict = j ∙ ap judgeOf u ∙ ap judged (sym q);
+              says = λ g′ m′ q′. let y : g ≡ g′ = cc in rw (← y) u;
+              fits = λ g′ m′ q′. f
+            }

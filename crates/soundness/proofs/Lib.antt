@@ -1,0 +1,9 @@
+-- Laws on soundness, one subject a file.
+pub mod Below
+pub mod Deriving
+pub mod LeftRecursion
+pub mod LowestLaws
+pub mod ClosureSteps
+pub mod LeftSteps
+pub mod Warshall
+pub mod Judging

@@ -1,0 +1,55 @@
+-- The check: refusals 1 to 5 as the bytes come, then 6, then 7; and document 01's number and place of a verdict.
+use mathlib.Core.Option.{Option, none, some}
+use mathlib.Core.List.{List}
+use Prim.Native.Nat.{ℕ}
+use Rattle.grammar.specs.declared.number.Refusal.{Refusal}
+use Rattle.grammar.specs.declared.number.Refusal.the-variants.{Unproductive, LeftRecursive}
+use Rattle.grammar.specs.Refusals.{refusalNumber, refusalPlace}
+use Rattle.grammar.specs.Decode.{Rules, Parsed, got, refused, decode}
+use Rattle.grammar.specs.Grammar.{Grammar, compile}
+use Rattle.soundness.specs.Closures.{lowestUnproductive, lowestLeftRecursive}
+use Rattle.soundness.specs.declared.judgement.Verdict.{Verdict}
+use Rattle.soundness.specs.declared.judgement.Verdict.the-variants.{Sound, Refused}
+
+-- a nonterminal that was found is refused
+abbrev pub refuseAt : (ℕ → Refusal) → Option ℕ → Verdict
+refuseAt refusal none = Sound
+refuseAt refusal (some a) = Refused (refusal a)
+
+-- 6: the lowest nonterminal that derives no row of tokens
+unfoldable pub unproductiveOf : Grammar → Verdict
+unfolding lowestUnproductive
+unproductiveOf g = refuseAt Unproductive (lowestUnproductive g)
+
+-- 7: the lowest left recursive nonterminal
+unfoldable pub leftRecursiveOf : Grammar → Verdict
+unfolding lowestLeftRecursive
+leftRecursiveOf g = refuseAt LeftRecursive (lowestLeftRecursive g)
+
+-- the first of two verdicts that refuses
+abbrev pub orElse : Verdict → Verdict → Verdict
+orElse Sound v = v
+orElse (Refused r) v = Refused r
+
+-- 6 before 7
+unfoldable pub judgeOf : Grammar → Verdict
+unfolding unproductiveOf leftRecursiveOf
+judgeOf g = let second = leftRecursiveOf g in orElse (unproductiveOf g) second
+
+abbrev pub judged : Parsed Rules → Verdict
+judged (got r m) = judgeOf (compile r)
+judged (refused r) = Refused r
+
+-- the whole check
+unfoldable pub checkOf : List ℕ → Verdict
+unfolding decode judgeOf compile
+checkOf s = judged (decode s)
+
+-- document 01's number and place: 0 and 0 for a sound grammar
+abbrev pub verdictNumber : Verdict → ℕ
+verdictNumber Sound = 0
+verdictNumber (Refused r) = refusalNumber r
+
+abbrev pub verdictPlace : Verdict → ℕ
+verdictPlace Sound = 0
+verdictPlace (Refused r) = refusalPlace r

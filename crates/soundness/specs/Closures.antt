@@ -1,0 +1,87 @@
+-- The same as it is worked out: by rounds from the empty set, one round more than there are nonterminals. proofs/Deriving and proofs/LeftRecursion
+-- say that this is the textbook's.
+use mathlib.Core.Bool.{Bool, true, false, _&&_, _||_, not}
+use mathlib.Core.Option.{Option}
+use mathlib.Core.List.{List, [], _∷_}
+use Prim.Native.Nat.{ℕ, suc}
+use lib.Dec.{eqb}
+use lib.ListN.{length}
+use Rattle.base.specs.Rounds.{rounds, anyOf, upFrom}
+use Rattle.base.specs.Search.{lowestFrom}
+use Rattle.grammar.specs.declared.places.Symbol.{Symbol}
+use Rattle.grammar.specs.declared.places.Symbol.the-variants.{Token, Nonterminal, End}
+use Rattle.grammar.specs.Grammar.{Grammar, alternatives, suffix}
+
+-- ---- what derives some row of tokens (the flag `tokens` is true), or the empty row (it is false)
+-- every symbol of a list passes: a token if the flag says so, a nonterminal if X holds it, an end never
+unfoldable pub passes : Bool → (ℕ → Bool) → List Symbol → Bool
+passes tokens X [] = true
+passes tokens X (Token k ∷ l) = let rest = passes tokens X l in tokens && rest
+passes tokens X (Nonterminal a ∷ l) = let rest = passes tokens X l in X a && rest
+passes tokens X (End ∷ l) = false
+
+-- the same at a place, from what it faces and the answer one place on
+abbrev pub passesBy : Bool → (ℕ → Bool) → Symbol → Bool → Bool
+passesBy tokens X (Token k) rest = tokens && rest
+passesBy tokens X (Nonterminal a) rest = X a && rest
+passesBy tokens X End rest = true
+
+-- one round: some production of a passes
+unfoldable pub derivingRound : Bool → Grammar → (ℕ → Bool) → ℕ → Bool
+unfolding passes anyOf suffix alternatives
+derivingRound tokens g X a = anyOf (λ f. passes tokens X (suffix g f)) (alternatives g a)
+
+-- a derives some row of tokens, or the empty row, as the flag says
+unfoldable pub deriving? : Bool → Grammar → ℕ → Bool
+unfolding rounds derivingRound
+deriving? tokens g a = rounds (derivingRound tokens g) (suc (length (g .starts))) a
+
+-- the two flags by name: a derives some row of tokens; a derives the empty row
+abbrev pub productive? : Grammar → ℕ → Bool
+productive? g a = deriving? true g a
+
+abbrev pub nullable? : Grammar → ℕ → Bool
+nullable? g a = deriving? false g a
+
+-- ---- what moves lead to
+-- c stands in a list behind only nonterminals that X holds
+unfoldable pub leads : (ℕ → Bool) → ℕ → List Symbol → Bool
+leads X c [] = false
+leads X c (Token k ∷ l) = false
+leads X c (Nonterminal b ∷ l) = let rest = leads X c l in eqb b c || (X b && rest)
+leads X c (End ∷ l) = false
+
+-- the same at a place, from what it faces and the answer one place on
+abbrev pub leadsBy : (ℕ → Bool) → ℕ → Symbol → Bool → Bool
+leadsBy X c (Token k) rest = false
+leadsBy X c (Nonterminal b) rest = eqb b c || (X b && rest)
+leadsBy X c End rest = false
+
+-- a move leads from a to c
+unfoldable pub move? : Grammar → ℕ → ℕ → Bool
+unfolding leads deriving? anyOf suffix alternatives
+move? g a c = anyOf (λ f. leads (nullable? g) c (suffix g f)) (alternatives g a)
+
+-- one round: a move leads from a to c, or to a nonterminal that X holds
+unfoldable pub reachRound : Grammar → ℕ → (ℕ → Bool) → ℕ → Bool
+unfolding move? anyOf upFrom
+reachRound g c X a = let rest = anyOf (λ b. move? g a b && X b) (upFrom 0 (length (g .starts))) in move? g a c || rest
+
+-- one or more moves lead from a to c
+unfoldable pub reaches? : Grammar → ℕ → ℕ → Bool
+unfolding rounds reachRound
+reaches? g a c = rounds (reachRound g c) (suc (length (g .starts))) a
+
+-- moves lead from a back to a
+unfoldable pub leftRecursive? : Grammar → ℕ → Bool
+unfolding reaches?
+leftRecursive? g a = reaches? g a a
+
+-- ---- the lowest of the grammar's nonterminals that derives no row of tokens, and the lowest that leads back to itself
+unfoldable pub lowestUnproductive : Grammar → Option ℕ
+unfolding lowestFrom deriving?
+lowestUnproductive g = lowestFrom (λ a. not (productive? g a)) 0 (length (g .starts))
+
+unfoldable pub lowestLeftRecursive : Grammar → Option ℕ
+unfolding lowestFrom leftRecursive?
+lowestLeftRecursive g = lowestFrom (leftRecursive? g) 0 (length (g .starts))

@@ -1,0 +1,125 @@
+// The check itself, and what readings use of it: a grammar judged, and compiled into tables.
+use grammar::Read;
+use grammar::Refusal;
+ghost use mathlib.Core.Path.{_≡_};
+ghost use mathlib.Core.Bool.{not};
+ghost use Prim.Native.Nat.{_≤_};
+ghost use lib.ListN.{length, getD, replicate};
+ghost use Rattle.base.specs.Bits.{testBit};
+ghost use Rattle.base.specs.Search.{lowestFrom};
+ghost use Rattle.grammar.specs.Tables.{grammarIn, Fits};
+ghost use Rattle.soundness.specs.Check.{refuseAt, unproductiveOf, leftRecursiveOf, judgeOf, checkOf, verdictNumber, verdictPlace};
+ghost use Rattle.soundness.specs.Compiled.{Compiled};
+
+// What the check answers.
+pub enum Verdict {
+    Sound,
+    Refused(Refusal),
+}
+
+impl Verdict {
+    // Document 01's number: 0 for a sound grammar.
+    pub fn number(self) -> u32
+        ensures { λ r. ⌜ r ≡ verdictNumber self ⌝ }
+    {
+        match self {
+            Verdict::Sound => 0,
+            Verdict::Refused(r) => r.number(),
+        }
+    }
+
+    // Document 01's place: 0 for a sound grammar.
+    pub fn place(self) -> usize
+        ensures { λ r. ⌜ r ≡ verdictPlace self ⌝ }
+    {
+        match self {
+            Verdict::Sound => 0,
+            Verdict::Refused(r) => r.place(),
+        }
+    }
+}
+
+// The lowest nonterminal of the first n that is missing from the set.
+fn lowest_missing(set: u32, n: usize) -> Verdict
+    requires { ⌜ n ≤ 32 ⌝ }
+    ensures { λ r. ⌜ r ≡ refuseAt Refusal.Unproductive (lowestFrom (λ a. not (testBit set a)) 0 n) ⌝ }
+{
+    let mut a = 0;
+    while a < n {
+        if !base::has(set, a) {
+            return Verdict::Refused(Refusal::Unproductive(a));
+        }
+        a += 1;
+    }
+    Verdict::Sound
+}
+
+// The lowest nonterminal of the first n whose row holds it.
+fn lowest_own(rows: &[u32], n: usize) -> Verdict
+    requires { ⌜ (n ≤ 32) × (length (now rows) ≡ 32) ⌝ }
+    ensures { λ r. ⌜ r ≡ refuseAt Refusal.LeftRecursive (lowestFrom (λ a. testBit (getD (now (rows .entry)) a 0) a) 0 n) ⌝ }
+{
+    let mut a = 0;
+    while a < n {
+        if base::has(rows[a], a) {
+            return Verdict::Refused(Refusal::LeftRecursive(a));
+        }
+        a += 1;
+    }
+    Verdict::Sound
+}
+
+// Refusal 6.
+fn unproductive(tables: &[u32]) -> Verdict
+    requires { ⌜ Fits (now tables) ⌝ }
+    ensures { λ r. ⌜ r ≡ unproductiveOf (grammarIn (now (tables .entry))) ⌝ }
+{
+    let productive = crate::closure::derivers(tables, true);
+    let n = grammar::nonterminals(tables);
+    lowest_missing(productive, n)
+}
+
+// Refusal 7.
+fn left_recursive(tables: &[u32]) -> Verdict
+    requires { ⌜ Fits (now tables) ⌝ }
+    ensures { λ r. ⌜ r ≡ leftRecursiveOf (grammarIn (now (tables .entry))) ⌝ }
+{
+    let nullable = crate::closure::derivers(tables, false);
+    let n = grammar::nonterminals(tables);
+    let mut rows = [0u32; 32];
+    crate::left::begin(tables, nullable, &mut rows);
+    crate::left::reach(&mut rows, n);
+    lowest_own(&rows, n)
+}
+
+// 6, and then 7.
+fn judge(tables: &[u32]) -> Verdict
+    requires { ⌜ Fits (now tables) ⌝ }
+    ensures { λ r. ⌜ r ≡ judgeOf (grammarIn (now (tables .entry))) ⌝ }
+{
+    let first = unproductive(tables);
+    match first {
+        Verdict::Refused(r) => Verdict::Refused(r),
+        Verdict::Sound => left_recursive(tables),
+    }
+}
+
+// Checks a grammar, and leaves it compiled in tables, which come in as zeros.
+pub fn compile(bytes: &[u8], tables: &mut [u32]) -> Verdict
+    requires { ⌜ now tables ≡ replicate 547 0 ⌝ }
+    ensures { λ r. ⌜ Compiled (now (bytes .entry)) r (now (tables .exit)) ⌝ }
+{
+    let answer = grammar::read_grammar(bytes, tables);
+    match answer {
+        Read::Refused(r) => Verdict::Refused(r),
+        Read::Value(_, _) => judge(tables),
+    }
+}
+
+// Whether a grammar is sound, or why not.
+pub fn check(grammar: &[u8]) -> Verdict
+    ensures { λ r. ⌜ r ≡ checkOf (now (grammar .entry)) ⌝ }
+{
+    let mut tables = [0u32; 547];
+    compile(grammar, &mut tables)
+}
