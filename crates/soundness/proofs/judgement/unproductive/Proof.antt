@@ -1,3 +1,5 @@
+use Rattle.soundness.proofs.Judging.{unproductive-is}
+use mathlib.Core.Path.{_∙_}
 use borrow.Author.Needs.{needs}
 use Rattle.soundness.proofs.judgement.unproductive.Statement.{statement}
 use Rattle.soundness.proofs.judgement.unproductive.Tie as tie
@@ -21,7 +23,7 @@ lowest-missing-requires c κs = search needs
 
 -- src/judgement.rt:73:1
 returns : tie.Need-returns
-returns c = ?
+returns c = c .lowest-missing .ensures ∙ unproductive-is _ _ _ (c .before .before .derivers .ensures) (c .before .nonterminals .ensures)
 
 pub unproductive-spec : {M : Type 1} → statement M
 unproductive-spec =
