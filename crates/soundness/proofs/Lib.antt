@@ -7,3 +7,5 @@ pub mod ClosureSteps
 pub mod LeftSteps
 pub mod Warshall
 pub mod Judging
+pub mod StarredCases
+pub mod CheckLaws

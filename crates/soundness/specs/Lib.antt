@@ -4,3 +4,4 @@ pub mod Closures
 pub mod Steps
 pub mod Check
 pub mod Compiled
+pub mod Cases
