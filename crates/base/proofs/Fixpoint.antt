@@ -65,11 +65,14 @@ module _ {C : Type 0} where
     where
       one : digit (X c) ≤ digit (Y c)
       one = digit-le (X c) (Y c) (h c (List·Memᴰ·head refl))
+
       rest : count X l ≤ count Y l
       rest = count-le X Y l (λ d m. h d (List·Memᴰ·tail m))
+
       both : (T (Y c) → T (X c)) → Below l Y X → (d : C) → (d ≡ c) ⊎ List·Memᴰ d l → T (Y d) → T (X d)
       both k ks d (inl e) t = rw e (k (rw e at t))
       both k ks d (inr m) t = ks d m t
+
       go : (T (Y c) → T (X c)) ⊎ (digit (X c) < digit (Y c)) → Below l Y X ⊎ (count X l < count Y l)
           → Below (c ∷ l) Y X ⊎ (count X (c ∷ l) < count Y (c ∷ l))
       go (inl k) (inl ks) = inl (λ d m. both k ks d (List·Memᴰ·cases-cons m))
@@ -112,6 +115,7 @@ module _ {C : Type 0} (F : (C → Bool) → C → Bool) (mono : (X Y : C → Boo
             → Within (rounds F (suc (suc (suc k)))) (rounds F (suc (suc k))) ⊎ (suc k < count (rounds F (suc (suc (suc k)))) L)
         step q (inl h) = inl (spread (suc k) h)
         step q (inr q′) = inr (omega arith)
+
         go : Within (rounds F (suc (suc k))) (rounds F (suc k)) ⊎ (k < count (rounds F (suc (suc k))) L)
             → Within (rounds F (suc (suc (suc k)))) (rounds F (suc (suc k))) ⊎ (suc k < count (rounds F (suc (suc (suc k)))) L)
         go (inl h) = inl (mono (rounds F (suc (suc k))) (rounds F (suc k)) h)

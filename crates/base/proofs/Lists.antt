@@ -71,6 +71,7 @@ set-sets t i v p (x ∷ vs) h = set-sets (set t p x) i v (suc p) vs (later h) �
     later : (p + length (x ∷ vs) ≤ i) ⊎ (i < p) → (suc p + length vs ≤ i) ⊎ (i < suc p)
     later (inl l) = inl (omega arith)
     later (inr l) = inr (omega arith)
+
     apart : (p + length (x ∷ vs) ≤ i) ⊎ (i < p) → p ≡ i → ⊥
     apart (inl l) e = omega arith
     apart (inr l) e = omega arith
@@ -84,6 +85,7 @@ sets-sets t i (u ∷ us) p vs h =
     here : (p + length vs ≤ i) ⊎ (i + length (u ∷ us) ≤ p) → (p + length vs ≤ i) ⊎ (i < p)
     here (inl l) = inl l
     here (inr l) = inr (omega arith)
+
     later : (p + length vs ≤ i) ⊎ (i + length (u ∷ us) ≤ p) → (p + length vs ≤ suc i) ⊎ (suc i + length us ≤ p)
     later (inl l) = inl (omega arith)
     later (inr l) = inr (omega arith)

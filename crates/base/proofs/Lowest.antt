@@ -22,9 +22,11 @@ sought p i (suc k) = go (p i) refl (sought p (suc i) k)
   where
     not-here : p i ≡ false → (c : ℕ) → i ≤ c → ¬ (suc i ≤ c) → ¬ T (p c)
     not-here e c l n t = let z : c ≡ i = omega arith in let y : T (p i) = rw z at t in rw e at y
+
     later : p i ≡ false → {o : Option ℕ} → Sought p (suc i) k o → Sought p i (suc k) o
     later e (hit a l m t h) = hit a (omega arith) (omega arith) t (λ c l′ m′. elim (decLe (suc i) c) [ yes y ↦ h c y m′ | no y ↦ not-here e c l′ y ])
     later e (miss h) = miss (λ c l′ m′. elim (decLe (suc i) c) [ yes y ↦ h c y (omega arith) | no y ↦ not-here e c l′ y ])
+
     go : (v : Bool) → p i ≡ v → Sought p (suc i) k (lowestFrom p (suc i) k) → Sought p i (suc k) (elim v [ true ↦ some i | false ↦ lowestFrom p (suc i) k ])
     go true e rec = hit i (omega arith) (omega arith) (true→T (p i) e) (λ c l m t. absurd (omega arith))
     go false e rec = later e rec
@@ -37,6 +39,7 @@ lowest-is P p n to from = go (sought p 0 n)
     lower : (a : ℕ) → ((c : ℕ) → 0 ≤ c → c < a → ¬ T (p c)) → (c : ℕ) → P c → Dec (a ≤ c) → a ≤ c
     lower a h c x (yes l) = l
     lower a h c x (no l) = absurd (h c (omega arith) (omega arith) (from c x .0))
+
     go : {o : Option ℕ} → Sought p 0 n o → LowestIs P o
     go (hit a l m t h) = this a (to a (omega arith) t) (λ c x. lower a h c x (decLe a c))
     go (miss h) = nothing (λ c x. let y = from c x in let l = y .1 in h c (omega arith) (omega arith) (y .0))
@@ -71,4 +74,4 @@ unfolding lowestFrom
 lowest-same p q i zero h = refl
 lowest-same p q i (suc k) h =
     ap₂ (λ (b : Bool) (o : Option ℕ). elim b as (λ _. Option ℕ) [ true ↦ some i | false ↦ o ]) (h i (omega arith) (omega arith))
-      (lowest-same p q (suc i) k (λ a l m. h a (omega arith) (omega arith)))
+    (lowest-same p q (suc i) k (λ a l m. h a (omega arith) (omega arith)))

@@ -42,11 +42,11 @@ module _ (t n : ℕ) where
   each-spelled a [] pre rest o e h i = refl
   each-spelled a (β ∷ l) pre rest o e h zero =
       ap some (ap spell (ap (drop o) (ap (λ (x : List Place). pre ++ x) (append-assoc (layOne a β) (layEach a l) rest)) ∙ drop-at pre (layOne a β ++ (layEach a l ++ rest)) o e)
-        ∙ spell-one a β (layEach a l ++ rest) (h .0 .1))
+      ∙ spell-one a β (layEach a l ++ rest) (h .0 .1))
   each-spelled a (β ∷ l) pre rest o e h (suc i) =
       let k : length (pre ++ layOne a β) ≡ o + suc (length β) = length-append pre (layOne a β) ∙ omega (arith, e, length-one a β) in
       ap (λ (x : List Place). spelled x (getElem? (startsEach (o + suc (length β)) l) i))
-        (ap (λ (x : List Place). pre ++ x) (append-assoc (layOne a β) (layEach a l) rest) ∙ sym (append-assoc pre (layOne a β) (layEach a l ++ rest)))
+      (ap (λ (x : List Place). pre ++ x) (append-assoc (layOne a β) (layEach a l) rest) ∙ sym (append-assoc pre (layOne a β) (layEach a l ++ rest)))
       ∙ each-spelled a l (pre ++ layOne a β) rest (o + suc (length β)) k (h .1) i
 
   -- those of all nonterminals
@@ -61,7 +61,7 @@ module _ (t n : ℕ) where
   all-spelled a (y ∷ l) pre rest o e h (suc c) (suc b) =
       let k : length (pre ++ layEach a y) ≡ o + sizeEach y = length-append pre (layEach a y) ∙ omega (arith, e, length-each a y) in
       ap (λ (x : List Place). spelled x (getElem? (getD (startsAll (o + sizeEach y) l) c []) b))
-        (ap (λ (x : List Place). pre ++ x) (append-assoc (layEach a y) (layAll (suc a) l) rest) ∙ sym (append-assoc pre (layEach a y) (layAll (suc a) l ++ rest)))
+      (ap (λ (x : List Place). pre ++ x) (append-assoc (layEach a y) (layAll (suc a) l) rest) ∙ sym (append-assoc pre (layEach a y) (layAll (suc a) l ++ rest)))
       ∙ all-spelled (suc a) l (pre ++ layEach a y) rest (o + sizeEach y) k (h .1) c (suc b)
 
 by-first : (g : Grammar) (a b : ℕ) → production g a b ≡ spelled (g .places) (first g a b)
@@ -78,4 +78,4 @@ unfolding compile alternatives padded
 compile-production r h a b =
     by-first (compile r) a b
     ∙ all-spelled (r .kinds) (length (r .productions)) 0 (r .productions) []
-        (replicate (255 - length (layAll 0 (r .productions))) nowhere ++ (at 32 (Token 0) ∷ [])) 0 refl (h .each) a b
+    (replicate (255 - length (layAll 0 (r .productions))) nowhere ++ (at 32 (Token 0) ∷ [])) 0 refl (h .each) a b

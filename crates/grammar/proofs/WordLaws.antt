@@ -59,6 +59,7 @@ turned o l = go (decLt o 32)
   where
     low : o % 64 ≡ o
     low = omega arith
+
     go : Dec (o < 32) → ((o % 64 + 32) % 64 + 32) % 64 ≡ o
     go (yes h) = let q : (o + 32) % 64 ≡ o + 32 = omega arith in rw (low, q) (omega arith)
     go (no h) = let q : (o + 32) % 64 ≡ o - 32 = omega arith in rw (low, q) (omega arith)

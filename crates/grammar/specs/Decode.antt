@@ -6,7 +6,7 @@ use lib.ListN.{length}
 use lib.Dec.{ltb, eqb}
 use Rattle.grammar.specs.Types.{Refusal, OverLimit, Trailing, Cursor, Read, Value, Refused, Symbol, Token, Nonterminal, End}
 use Rattle.grammar.specs.Limits.{maxKinds, maxNonterminals, maxProductions, maxLength, maxPlaces}
-use Rattle.grammar.specs.Number.{limitedAt, symbolAt}
+use Rattle.number.specs.Number.{limitedAt, symbolAt}
 
 -- a grammar as written: its highest token kind, and for each nonterminal its productions
 pub record Rules : Type 0 where

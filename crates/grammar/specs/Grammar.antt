@@ -118,11 +118,11 @@ padded l = l ++ (replicate (maxPlaces - length l) nowhere ++ (at nobody (Token e
 unfoldable pub compile : Rules → Grammar
 unfolding layAll sizeAll startsAll padded
 compile r = record {
-    kinds = r .kinds;
-    size = sizeAll (r .productions);
-    starts = startsAll 0 (r .productions);
-    places = padded (layAll 0 (r .productions))
-  }
+  kinds = r .kinds;
+  size = sizeAll (r .productions);
+  starts = startsAll 0 (r .productions);
+  places = padded (layAll 0 (r .productions));
+}
 
 -- rules within the limits: what every decoded grammar is
 pub record Limited (r : Rules) : Type 0 where

@@ -65,11 +65,11 @@ startsIn t (a ∷ l) = slice (ruleAt t a) (ruleAt t (suc a)) t ∷ startsIn t l
 unfoldable pub grammarIn : List ℕ → Grammar
 unfolding placeOf startsIn
 grammarIn t = record {
-    kinds = getD t kindsAt 0;
-    size = getD t sizeAt 0;
-    starts = startsIn t (upFrom 0 (getD t nonterminalsAt 0));
-    places = map placeOf (take 256 t)
-  }
+  kinds = getD t kindsAt 0;
+  size = getD t sizeAt 0;
+  starts = startsIn t (upFrom 0 (getD t nonterminalsAt 0));
+  places = map placeOf (take 256 t);
+}
 
 -- how many nonterminals tables say
 abbrev pub nonterminalsIn : List ℕ → ℕ

@@ -1,16 +1,113 @@
-// The grammar: its limits, the numbers it is written in, the tables it is compiled into, and the one pass that reads it.
-mod limits;
-mod number;
-mod places;
-mod reader;
+// A grammar in tables of words, and the places in it: what each faces, and whose production it is in.
+ghost use mathlib.Core.Path.{_≡_};
+ghost use Prim.Native.Nat.{_+_, _≤_, _<_};
+ghost use lib.ListN.{length, getD};
+ghost use Rattle.grammar.specs.Grammar.{placeAt};
+ghost use Rattle.grammar.specs.Tables.{wordOf, symbolOf, placeOf, grammarIn, nonterminalsIn, ruleAt, tableWords};
+ghost use Rattle.grammar.specs.Limits.{maxNonterminals};
+ghost use Rattle.grammar.specs.Decode.{written};
 
-pub use number::Cursor;
-pub use number::Read;
-pub use number::Refusal;
-pub use places::Place;
-pub use places::Symbol;
-pub use places::first_place;
-pub use places::nonterminals;
-pub use places::place_at;
-pub use places::rule_at;
-pub use reader::read_grammar;
+// The place behind the start symbol, where the end mark is due; it is the last that the tables hold.
+pub const END_PLACE: usize = 255;
+
+// The tables: one word for each place, END_PLACE included; the first place of each production; for each nonterminal the number of its first
+// production, and behind the last nonterminal the number of all; then the number of kinds, of nonterminals and of places. specs/Tables has the same.
+pub const FIRSTS: usize = 256;
+
+pub const RULES: usize = 511;
+
+pub const KINDS: usize = 544;
+
+pub const NONTERMINALS: usize = 545;
+
+pub const SIZE: usize = 546;
+
+pub const TABLE_WORDS: usize = 547;
+
+// What a place faces: a token, a nonterminal, or its production's end.
+pub enum Symbol {
+    Token(usize),
+    Nonterminal(usize),
+    End,
+}
+
+// A place: the nonterminal in whose production it stands, and the symbol that it faces.
+pub struct Place {
+    pub owner: usize,
+    pub symbol: Symbol,
+}
+
+// The symbol of a code: 0 is a production's end, every other code is one more than the symbol as written in the grammar.
+fn symbol_of(code: usize) -> Symbol
+    ensures { λ r. ⌜ r ≡ symbolOf code ⌝ }
+{
+    if code == 0 {
+        return Symbol::End;
+    }
+    if code % 2 == 1 {
+        Symbol::Token(code / 2)
+    } else {
+        Symbol::Nonterminal(code / 2 - 1)
+    }
+}
+
+// The place of a word: the symbol's code in the low eight bits, the owner above them with its top bit turned, so that a word 0 is nobody's.
+pub fn place_of(word: u32) -> Place
+    ensures { λ r. ⌜ r ≡ placeOf word ⌝ }
+{
+    let w = base::index(word);
+    Place {
+        owner: (w / 256 + 32) % 64,
+        symbol: symbol_of(w % 256),
+    }
+}
+
+// The word of a place of `owner` that faces the symbol written as v.
+pub fn symbol_word(owner: usize, v: usize) -> u32
+    requires { ⌜ v < 255 ⌝ }
+    ensures { λ r. ⌜ r ≡ wordOf (record { owner = owner; symbol = written v }) ⌝ }
+{
+    base::narrow(v + 1 + (owner % 64 + 32) % 64 * 256)
+}
+
+// The word of a place at the end of a production of `owner`.
+pub fn end_word(owner: usize) -> u32
+    ensures { λ r. ⌜ r ≡ wordOf (record { owner = owner; symbol = Symbol.End }) ⌝ }
+{
+    base::narrow((owner % 64 + 32) % 64 * 256)
+}
+
+// Place p. Behind the end place there is none: there a production's end is faced, and nobody owns it.
+pub fn place_at(tables: &[u32], p: usize) -> Place
+    requires { ⌜ length (now tables) ≡ tableWords ⌝ }
+    ensures { λ r. ⌜ r ≡ placeAt (grammarIn (now (tables .entry))) p ⌝ }
+{
+    if END_PLACE < p {
+        return place_of(0);
+    }
+    place_of(tables[p])
+}
+
+// How many nonterminals there are.
+pub fn nonterminals(tables: &[u32]) -> usize
+    requires { ⌜ length (now tables) ≡ tableWords ⌝ }
+    ensures { λ r. ⌜ r ≡ nonterminalsIn (now (tables .entry)) ⌝ }
+{
+    base::index(tables[NONTERMINALS])
+}
+
+// Where in the tables the first places of the productions of nonterminal a begin, and where those of the one before it end.
+pub fn rule_at(tables: &[u32], a: usize) -> usize
+    requires { ⌜ (a ≤ maxNonterminals) × (length (now tables) ≡ tableWords) ⌝ }
+    ensures { λ r. ⌜ r ≡ ruleAt (now (tables .entry)) a ⌝ }
+{
+    FIRSTS + base::index(tables[RULES + a])
+}
+
+// The first place of the production whose word stands at k in the tables.
+pub fn first_place(tables: &[u32], k: usize) -> usize
+    requires { ⌜ (k < tableWords) × (length (now tables) ≡ tableWords) ⌝ }
+    ensures { λ r. ⌜ r ≡ getD (now (tables .entry)) k 0 ⌝ }
+{
+    base::index(tables[k])
+}

@@ -7,8 +7,8 @@ use Prim.Native.Nat.{ℕ, _≤_, _<_}
 use lib.ListN.{length}
 use Rattle.base.specs.Search.{LowestIs, this, nothing}
 use Rattle.base.proofs.Booleans.{clash}
-use Rattle.grammar.specs.declared.number.Refusal.{Refusal}
-use Rattle.grammar.specs.declared.number.Refusal.the-variants.{Unproductive, LeftRecursive as Recursive}
+use Rattle.number.specs.declared.Refusal.{Refusal}
+use Rattle.number.specs.declared.Refusal.the-variants.{Unproductive, LeftRecursive as Recursive}
 use Rattle.grammar.specs.Decode.{Rules, Mark, Parsed, got, refused, decode}
 use Rattle.grammar.specs.Grammar.{Grammar, compile}
 use Rattle.soundness.specs.declared.judgement.Verdict.{Verdict}

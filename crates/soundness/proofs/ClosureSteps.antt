@@ -15,8 +15,8 @@ use Rattle.base.specs.Bits.{testBit, setBit}
 use Rattle.base.specs.Rounds.{anyOf}
 use Rattle.base.proofs.Booleans.{or-T, T-or-r, true→T, T→true}
 use Rattle.base.proofs.Bits.{test-set, test-none, set-ge, set-fits}
-use Rattle.grammar.specs.declared.places.Symbol.{Symbol}
-use Rattle.grammar.specs.declared.places.Symbol.the-variants.{Token, Nonterminal, End}
+use Rattle.grammar.specs.declared.Symbol.{Symbol}
+use Rattle.grammar.specs.declared.Symbol.the-variants.{Token, Nonterminal, End}
 use Rattle.grammar.specs.Grammar.{Grammar, suffix, facing, alternatives}
 use Rattle.grammar.specs.Tables.{grammarIn, nonterminalsIn, ruleAt, Fits}
 use Rattle.grammar.proofs.WordLaws.{facing-past, alternatives-in, length-starts-in}

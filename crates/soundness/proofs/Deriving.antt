@@ -13,8 +13,8 @@ use Rattle.base.specs.Rounds.{rounds}
 use Rattle.base.proofs.Booleans.{clash, and-T, T-and, same}
 use Rattle.base.proofs.Lists.{anyOf-T, T-anyOf}
 use Rattle.base.proofs.Fixpoint.{Within, least}
-use Rattle.grammar.specs.declared.places.Symbol.{Symbol}
-use Rattle.grammar.specs.declared.places.Symbol.the-variants.{Token, Nonterminal, End}
+use Rattle.grammar.specs.declared.Symbol.{Symbol}
+use Rattle.grammar.specs.declared.Symbol.the-variants.{Token, Nonterminal, End}
 use Rattle.grammar.specs.Grammar.{Grammar, facing, before, alternatives, suffix}
 use Rattle.grammar.specs.Derivation.{Leftmost, Derives}
 use Rattle.grammar.proofs.GrammarLaws.{suffix-is, production-is, production-from, first-pos, no-alternatives, leftmost-append, admits-self}

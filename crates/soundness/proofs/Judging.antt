@@ -9,16 +9,16 @@ use Rattle.base.specs.Bits.{testBit}
 use Rattle.base.specs.Search.{lowestFrom}
 use Rattle.base.proofs.Booleans.{clash}
 use Rattle.base.proofs.Lowest.{lowest-same}
-use Rattle.grammar.specs.declared.number.Refusal.{Refusal}
-use Rattle.grammar.specs.declared.number.Refusal.the-variants.{Unproductive, LeftRecursive}
-use Rattle.grammar.specs.declared.number.Cursor.{Cursor}
-use Rattle.grammar.specs.declared.number.Read.{Read}
-use Rattle.grammar.specs.declared.number.Read.the-variants.{Value, Refused as Unread}
+use Rattle.number.specs.declared.Refusal.{Refusal}
+use Rattle.number.specs.declared.Refusal.the-variants.{Unproductive, LeftRecursive}
+use Rattle.number.specs.declared.Cursor.{Cursor}
+use Rattle.number.specs.declared.Read.{Read}
+use Rattle.number.specs.declared.Read.the-variants.{Value, Refused as Unread}
 use Rattle.grammar.specs.Decode.{Rules, Mark, Parsed, got, refused, decode}
 use Rattle.grammar.specs.Grammar.{Grammar, compile, Limited}
 use Rattle.grammar.specs.Tables.{grammarIn, nonterminalsIn, Fits}
-use Rattle.grammar.specs.Pass.{Out, out, passOf}
-use Rattle.grammar.proofs.ReadLaws.{Outcome, none, whole, outcome}
+use Rattle.reader.specs.Pass.{Out, out, passOf}
+use Rattle.reader.proofs.ReadLaws.{Outcome, none, whole, outcome}
 use Rattle.grammar.proofs.WordLaws.{length-starts-in}
 use Rattle.soundness.specs.declared.judgement.Verdict.{Verdict}
 use Rattle.soundness.specs.declared.judgement.Verdict.the-variants.{Sound, Refused}
@@ -36,8 +36,8 @@ pub unproductive-is : (t : List ℕ) (x n : ℕ) → DerivingIs true (grammarIn 
 unfolding DerivingIs unproductiveOf lowestUnproductive
 unproductive-is t x n d e =
     ap (refuseAt Unproductive)
-      (lowest-same (λ a. not (testBit x a)) (λ a. not (deriving? true (grammarIn t) a)) 0 n (λ a l m. ap not (d a))
-      ∙ ap (lowestFrom (λ a. not (deriving? true (grammarIn t) a)) 0) (e ∙ sym (length-starts-in t)))
+    (lowest-same (λ a. not (testBit x a)) (λ a. not (deriving? true (grammarIn t) a)) 0 n (λ a l m. ap not (d a))
+    ∙ ap (lowestFrom (λ a. not (deriving? true (grammarIn t) a)) 0) (e ∙ sym (length-starts-in t)))
 
 -- ---- 7
 pub recursive-is : (t : List ℕ) → Fits t → (nullable n : ℕ) (rows : List ℕ) → DerivingIs false (grammarIn t) nullable → n ≡ nonterminalsIn t → length rows ≡ 32
@@ -50,9 +50,9 @@ recursive-is t f nullable n rows d e l h {after} q =
     let named : (a c : ℕ) → Move g a c → c < n = λ a c v. let (p, u) = move-to g v in omega (arith, e, f .named p c u) in
     let rows-n : Rows nullable g n rows = rw e h in
     ap (refuseAt LeftRecursive)
-      (lowest-same (λ a. testBit (getD after a 0) a) (leftRecursive? g) 0 n
-        (λ a k b. ap (λ (r : List ℕ). testBit (getD r a 0) a) q ∙ reached nullable g n rows m named (omega (arith, l, e, f .few)) d rows-n a (omega (arith, b)))
-      ∙ ap (lowestFrom (leftRecursive? g) 0) m)
+    (lowest-same (λ a. testBit (getD after a 0) a) (leftRecursive? g) 0 n
+    (λ a k b. ap (λ (r : List ℕ). testBit (getD r a 0) a) q ∙ reached nullable g n rows m named (omega (arith, l, e, f .few)) d rows-n a (omega (arith, b)))
+    ∙ ap (lowestFrom (leftRecursive? g) 0) m)
 
 -- ---- 6 before 7
 module _ (g : Grammar) {v : Verdict} (e : v ≡ unproductiveOf g) where
@@ -93,5 +93,5 @@ module _ (s t₀ : List ℕ) {x : Read} {t : List ℕ} (z : t₀ ≡ replicate 5
             record {
               verdict = j ∙ ap judgeOf u ∙ ap judged (sym q);
               says = λ g′ m′ q′. let y : g ≡ g′ = cc in rw (← y) u;
-              fits = λ g′ m′ q′. f
+              fits = λ g′ m′ q′. f;
             }

@@ -13,8 +13,8 @@ use Rattle.base.specs.Rounds.{rounds, anyOf, upFrom}
 use Rattle.base.proofs.Booleans.{clash, and-T, T-and, or-T, T-or-l, T-or-r, same}
 use Rattle.base.proofs.Lists.{anyOf-T, T-anyOf, get-upFrom, upFrom-get}
 use Rattle.base.proofs.Fixpoint.{Within}
-use Rattle.grammar.specs.declared.places.Symbol.{Symbol}
-use Rattle.grammar.specs.declared.places.Symbol.the-variants.{Token, Nonterminal, End}
+use Rattle.grammar.specs.declared.Symbol.{Symbol}
+use Rattle.grammar.specs.declared.Symbol.the-variants.{Token, Nonterminal, End}
 use Rattle.grammar.specs.Grammar.{Grammar, facing, before, alternatives, suffix}
 use Rattle.grammar.proofs.GrammarLaws.{suffix-is, production-is, production-from, first-pos, no-alternatives}
 use Rattle.soundness.specs.Textbook.{Move, Reaches, one, more, LeftRecursive}

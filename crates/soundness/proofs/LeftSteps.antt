@@ -16,8 +16,8 @@ use Rattle.base.specs.Bits.{testBit, setBit}
 use Rattle.base.specs.Rounds.{anyOf}
 use Rattle.base.proofs.Booleans.{same, or-T, T-or-l, T-or-r, and-T, T-and, true→T, T→true}
 use Rattle.base.proofs.Bits.{test-set, test-none, test-or, same?}
-use Rattle.grammar.specs.declared.places.Symbol.{Symbol}
-use Rattle.grammar.specs.declared.places.Symbol.the-variants.{Token, Nonterminal, End}
+use Rattle.grammar.specs.declared.Symbol.{Symbol}
+use Rattle.grammar.specs.declared.Symbol.the-variants.{Token, Nonterminal, End}
 use Rattle.grammar.specs.Grammar.{Grammar, suffix, facing, alternatives}
 use Rattle.grammar.specs.Tables.{grammarIn, nonterminalsIn, ruleAt, Fits}
 use Rattle.grammar.proofs.WordLaws.{facing-past, alternatives-in, length-starts-in}
@@ -64,7 +64,7 @@ module _ (t : List ℕ) (nullable first from x p : ℕ) (i : Onward t nullable f
     joined : (c : ℕ) → (testBit y c || (d && leads (testBit nullable) c (suffix (grammarIn t) (suc p)))) ≡ (testBit from c || leads (testBit nullable) c (suffix (grammarIn t) first))
     joined c =
         rw (q, h, test-set, eqb-sym c b)
-          (or-assoc (testBit x c) (eqb b c) (testBit nullable b && leads (testBit nullable) c (suffix (grammarIn t) (suc p))) ∙ along e c)
+        (or-assoc (testBit x c) (eqb b c) (testBit nullable b && leads (testBit nullable) c (suffix (grammarIn t) (suc p))) ∙ along e c)
 
     pub left-stops : not d ≡ true → Leads nullable from (suffix (grammarIn t) first) y
     unfolding Leads
@@ -92,7 +92,7 @@ module _ (t : List ℕ) (nullable a e : ℕ) where
     unfolding anyOf Leads
     moves-next f y l h q z c =
         rw (z c, add-one) (or-assoc (testBit x c) (leads (testBit nullable) c (suffix (grammarIn t) f)) (anyOf (λ f. leads (testBit nullable) c (suffix (grammarIn t) f)) (slice (suc k) e t))
-          ∙ (rw (slice-cons k e t 0 l h, ← q) at (i c)))
+        ∙ (rw (slice-cons k e t 0 l h, ← q) at (i c)))
 
     pub moves-done : e ≤ k → Moves nullable (grammarIn t) a x
     unfolding anyOf Moves

@@ -73,12 +73,12 @@ module _ (row b : ℕ) where
   unfolding throughOf
   through-at zero a rows h l c = absurd (omega arith)
   through-at (suc n) a rows h l c = elim (decLt a n) [
-      yes k ↦ ap (λ (x : ℕ). testBit x c) (join-other n a (throughOf row b n rows) (λ e. omega arith)) ∙ through-at n a rows k l c
+    | yes k ↦ ap (λ (x : ℕ). testBit x c) (join-other n a (throughOf row b n rows) (λ e. omega arith)) ∙ through-at n a rows k l c
     | no k ↦
         (let e : n ≡ a = omega arith in
         rw e (join-same a (throughOf row b a rows) (omega (arith, through-length a rows)) c
-          ∙ ap (λ (x : ℕ). testBit x c || (testBit x b && testBit row c)) (through-above a a rows (omega arith))))
-    ]
+        ∙ ap (λ (x : ℕ). testBit x c || (testBit x b && testBit row c)) (through-above a a rows (omega arith))))
+  ]
 
 -- through b: what a row held, and if it held b, what b's row held
 pivot-at : (n b a : ℕ) (rows : List ℕ) → a < n → a < length rows → (c : ℕ) → holds (pivotOf n b rows) a c ≡ (holds rows a c || (holds rows a b && holds rows b c))
@@ -133,6 +133,7 @@ module _ (n : ℕ) where
       onto (inl e) (inl s) u = rw e at s
       onto (inr e) (inl s) u = h a m b la lm (omega arith) s u
       onto e (inr s) u = s .0
+
       go : (m ≡ b) ⊎ (m ≡ b → ⊥) → T (holds rows a m) ⊎ (T (holds rows a b) × T (holds rows b m)) → T (holds rows m c) ⊎ (T (holds rows m b) × T (holds rows b c))
           → T (holds (pivotOf n b rows) a c)
       go e s (inr t) = pivot-adds b rows few a c la (onto e s (t .0)) (t .1)
@@ -178,9 +179,9 @@ module _ (nullable : ℕ) (g : Grammar) (n : ℕ) (rows : List ℕ) (e : n ≡ l
   pub reached : (a : ℕ) → a < n → holds (reachOf n n rows) a a ≡ leftRecursive? g a
   reached a l =
       rows-recursive g (holds (reachOf n n rows)) a
-        (rows-exact-below g (holds (reachOf n n rows))
-          (λ a c m. omega (arith, e, named a c m))
-          (λ a c la lc t. reach-keeps n n rows few a c (omega (arith, e)) (rw (row-is a (omega (arith, e)) c) t))
-          (λ a b c la lb lc s t. reach-closed n n rows few (omega arith) a b c (omega (arith, e)) (omega (arith, e)) (omega (arith, e)) s t)
-          (λ a c la t. reach-sound n g n rows few (omega arith) (λ a c la t. one (move-iff g a c .0 (rw (row-is a la c) at t))) a c (omega (arith, e)) t)
-          a (omega (arith, e)) a)
+      (rows-exact-below g (holds (reachOf n n rows))
+      (λ a c m. omega (arith, e, named a c m))
+      (λ a c la lc t. reach-keeps n n rows few a c (omega (arith, e)) (rw (row-is a (omega (arith, e)) c) t))
+      (λ a b c la lb lc s t. reach-closed n n rows few (omega arith) a b c (omega (arith, e)) (omega (arith, e)) (omega (arith, e)) s t)
+      (λ a c la t. reach-sound n g n rows few (omega arith) (λ a c la t. one (move-iff g a c .0 (rw (row-is a la c) at t))) a c (omega (arith, e)) t)
+      a (omega (arith, e)) a)

@@ -2,9 +2,9 @@
 use mathlib.Core.Option.{Option, none, some}
 use mathlib.Core.List.{List}
 use Prim.Native.Nat.{ℕ}
-use Rattle.grammar.specs.declared.number.Refusal.{Refusal}
-use Rattle.grammar.specs.declared.number.Refusal.the-variants.{Unproductive, LeftRecursive}
-use Rattle.grammar.specs.Refusals.{refusalNumber, refusalPlace}
+use Rattle.number.specs.declared.Refusal.{Refusal}
+use Rattle.number.specs.declared.Refusal.the-variants.{Unproductive, LeftRecursive}
+use Rattle.number.specs.Refusals.{refusalNumber, refusalPlace}
 use Rattle.grammar.specs.Decode.{Rules, Parsed, got, refused, decode}
 use Rattle.grammar.specs.Grammar.{Grammar, compile}
 use Rattle.soundness.specs.Closures.{lowestUnproductive, lowestLeftRecursive}

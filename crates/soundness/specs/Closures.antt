@@ -8,8 +8,8 @@ use lib.Dec.{eqb}
 use lib.ListN.{length}
 use Rattle.base.specs.Rounds.{rounds, anyOf, upFrom}
 use Rattle.base.specs.Search.{lowestFrom}
-use Rattle.grammar.specs.declared.places.Symbol.{Symbol}
-use Rattle.grammar.specs.declared.places.Symbol.the-variants.{Token, Nonterminal, End}
+use Rattle.grammar.specs.declared.Symbol.{Symbol}
+use Rattle.grammar.specs.declared.Symbol.the-variants.{Token, Nonterminal, End}
 use Rattle.grammar.specs.Grammar.{Grammar, alternatives, suffix}
 
 -- ---- what derives some row of tokens (the flag `tokens` is true), or the empty row (it is false)

@@ -8,7 +8,7 @@ use lib.Bits.{bitOr}
 use lib.Dec.{eqb}
 use Rattle.base.specs.Bits.{testBit, setBit}
 use Rattle.base.specs.Rounds.{anyOf}
-use Rattle.grammar.specs.declared.places.Symbol.{Symbol}
+use Rattle.grammar.specs.declared.Symbol.{Symbol}
 use Rattle.grammar.specs.Grammar.{Grammar, alternatives, suffix}
 use Rattle.soundness.specs.Closures.{derivingRound, deriving?, leads}
 

@@ -3,8 +3,8 @@ use mathlib.Core.Path.{_≡_}
 use mathlib.Core.Option.{some}
 use mathlib.Core.List.{List, [], _∷_, _++_}
 use Prim.Native.Nat.{ℕ}
-use Rattle.grammar.specs.declared.places.Symbol.{Symbol}
-use Rattle.grammar.specs.declared.places.Symbol.the-variants.{Nonterminal}
+use Rattle.grammar.specs.declared.Symbol.{Symbol}
+use Rattle.grammar.specs.declared.Symbol.the-variants.{Nonterminal}
 use Rattle.grammar.specs.Grammar.{Grammar, production}
 use Rattle.grammar.specs.Derivation.{Derives}
 

@@ -15,7 +15,7 @@ fn all_pass(tables: &[u32], tokens: bool, set: u32, first: usize) -> bool
     ensures { λ r. ⌜ r ≡ passes tokens (testBit set) (suffix (grammarIn (now (tables .entry))) first) ⌝ }
 {
     let mut p = first;
-    while p < 256 {
+    while p <= grammar::END_PLACE {
         let place = grammar::place_at(tables, p);
         let symbol = place.symbol;
         p += 1;

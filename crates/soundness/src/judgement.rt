@@ -1,13 +1,14 @@
 // The check itself, and what readings use of it: a grammar judged, and compiled into tables.
-use grammar::Read;
-use grammar::Refusal;
+use number::Read;
+use number::Refusal;
 ghost use mathlib.Core.Path.{_≡_};
 ghost use mathlib.Core.Bool.{not};
 ghost use Prim.Native.Nat.{_≤_};
 ghost use lib.ListN.{length, getD, replicate};
 ghost use Rattle.base.specs.Bits.{testBit};
 ghost use Rattle.base.specs.Search.{lowestFrom};
-ghost use Rattle.grammar.specs.Tables.{grammarIn, Fits};
+ghost use Rattle.grammar.specs.Limits.{maxNonterminals};
+ghost use Rattle.grammar.specs.Tables.{grammarIn, Fits, tableWords};
 ghost use Rattle.soundness.specs.Check.{refuseAt, unproductiveOf, leftRecursiveOf, judgeOf, checkOf, verdictNumber, verdictPlace};
 ghost use Rattle.soundness.specs.Compiled.{Compiled};
 
@@ -41,7 +42,7 @@ impl Verdict {
 
 // The lowest nonterminal of the first n that is missing from the set.
 fn lowest_missing(set: u32, n: usize) -> Verdict
-    requires { ⌜ n ≤ 32 ⌝ }
+    requires { ⌜ n ≤ maxNonterminals ⌝ }
     ensures { λ r. ⌜ r ≡ refuseAt Refusal.Unproductive (lowestFrom (λ a. not (testBit set a)) 0 n) ⌝ }
 {
     let mut a = 0;
@@ -56,7 +57,7 @@ fn lowest_missing(set: u32, n: usize) -> Verdict
 
 // The lowest nonterminal of the first n whose row holds it.
 fn lowest_own(rows: &[u32], n: usize) -> Verdict
-    requires { ⌜ (n ≤ 32) × (length (now rows) ≡ 32) ⌝ }
+    requires { ⌜ (n ≤ maxNonterminals) × (length (now rows) ≡ maxNonterminals) ⌝ }
     ensures { λ r. ⌜ r ≡ refuseAt Refusal.LeftRecursive (lowestFrom (λ a. testBit (getD (now (rows .entry)) a 0) a) 0 n) ⌝ }
 {
     let mut a = 0;
@@ -106,10 +107,10 @@ fn judge(tables: &[u32]) -> Verdict
 
 // Checks a grammar, and leaves it compiled in tables, which come in as zeros.
 pub fn compile(bytes: &[u8], tables: &mut [u32]) -> Verdict
-    requires { ⌜ now tables ≡ replicate 547 0 ⌝ }
+    requires { ⌜ now tables ≡ replicate tableWords 0 ⌝ }
     ensures { λ r. ⌜ Compiled (now (bytes .entry)) r (now (tables .exit)) ⌝ }
 {
-    let answer = grammar::read_grammar(bytes, tables);
+    let answer = reader::read_grammar(bytes, tables);
     match answer {
         Read::Refused(r) => Verdict::Refused(r),
         Read::Value(_, _) => judge(tables),
@@ -120,6 +121,6 @@ pub fn compile(bytes: &[u8], tables: &mut [u32]) -> Verdict
 pub fn check(grammar: &[u8]) -> Verdict
     ensures { λ r. ⌜ r ≡ checkOf (now (grammar .entry)) ⌝ }
 {
-    let mut tables = [0u32; 547];
+    let mut tables = [0u32; grammar::TABLE_WORDS];
     compile(grammar, &mut tables)
 }

@@ -6,6 +6,7 @@ ghost use Prim.Native.Nat.{ℕ, _≤_, _<_};
 ghost use lib.ListN.{length};
 ghost use Rattle.base.specs.Bits.{testBit};
 ghost use Rattle.grammar.specs.Grammar.{suffix, alternatives};
+ghost use Rattle.grammar.specs.Limits.{maxNonterminals};
 ghost use Rattle.grammar.specs.Tables.{grammarIn, nonterminalsIn, Fits};
 ghost use Rattle.soundness.specs.Closures.{leads};
 ghost use Rattle.soundness.specs.Steps.{Leads, Moves, Rows, throughOf, reachOf};
@@ -17,7 +18,7 @@ fn left_from(tables: &[u32], nullable: u32, first: usize, from: u32) -> u32
 {
     let mut set = from;
     let mut p = first;
-    while p < 256 {
+    while p <= grammar::END_PLACE {
         let place = grammar::place_at(tables, p);
         let symbol = place.symbol;
         p += 1;
@@ -54,7 +55,7 @@ fn moves(tables: &[u32], nullable: u32, a: usize) -> u32
 
 // A row for each nonterminal: where one move leads.
 pub fn begin(tables: &[u32], nullable: u32, rows: &mut [u32])
-    requires { ⌜ Fits (now tables) × (length (now rows) ≡ 32) ⌝ }
+    requires { ⌜ Fits (now tables) × (length (now rows) ≡ maxNonterminals) ⌝ }
     ensures { λ r. ⌜ Rows nullable (grammarIn (now (tables .entry))) (nonterminalsIn (now (tables .entry))) (now (rows .exit)) ⌝ }
 {
     let n = grammar::nonterminals(tables);
@@ -67,7 +68,7 @@ pub fn begin(tables: &[u32], nullable: u32, rows: &mut [u32])
 
 // Every row that holds b is joined by the row of b, `row`.
 fn through(rows: &mut [u32], n: usize, row: u32, b: usize)
-    requires { ⌜ (n ≤ 32) × (b < 32) × (length (now rows) ≡ 32) ⌝ }
+    requires { ⌜ (n ≤ maxNonterminals) × (b < maxNonterminals) × (length (now rows) ≡ maxNonterminals) ⌝ }
     ensures { λ r. ⌜ now (rows .exit) ≡ throughOf row b n (now (rows .entry)) ⌝ }
 {
     let mut a = 0;
@@ -83,7 +84,7 @@ fn through(rows: &mut [u32], n: usize, row: u32, b: usize)
 
 // Where one or more moves lead (Warshall: through the first nonterminal, then also through the next, and so on). An empty row joins nothing.
 pub fn reach(rows: &mut [u32], n: usize)
-    requires { ⌜ (n ≤ 32) × (length (now rows) ≡ 32) ⌝ }
+    requires { ⌜ (n ≤ maxNonterminals) × (length (now rows) ≡ maxNonterminals) ⌝ }
     ensures { λ r. ⌜ now (rows .exit) ≡ reachOf n n (now (rows .entry)) ⌝ }
 {
     let mut b = 0;

@@ -4,7 +4,7 @@ use Rattle.soundness.proofs.judgement.compile.Statement.{statement}
 use Rattle.soundness.proofs.judgement.compile.Tie as tie
 use Rattle.soundness.proofs.judgement.compile.Reads as reads
 use Rattle.soundness.proofs.judgement.compile.Lts as lts
-use Rattle.grammar.proofs.read_grammar.Reads as read-grammar-reads
+use Rattle.reader.proofs.read_grammar.Reads as read-grammar-reads
 use Rattle.soundness.proofs.judgement.judge.Reads as judge-reads
 
 -- src/judgement.rt:112:9

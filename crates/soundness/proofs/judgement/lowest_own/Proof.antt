@@ -9,7 +9,7 @@ use borrow.Author.Tests.{not-true, not-false}
 use Rattle.base.specs.Bits.{testBit}
 use Rattle.base.specs.Search.{lowestFrom}
 use Rattle.base.proofs.Lowest.{lowest-none, lowest-hit, lowest-miss}
-use Rattle.grammar.specs.declared.number.Refusal.the-variants.{Unproductive, LeftRecursive}
+use Rattle.number.specs.declared.Refusal.the-variants.{Unproductive, LeftRecursive}
 use Rattle.soundness.specs.Check.{refuseAt}
 use Rattle.soundness.proofs.judgement.lowest_own.Statement.{statement}
 use Rattle.soundness.proofs.judgement.lowest_own.Tie as tie

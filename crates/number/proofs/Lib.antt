@@ -1,0 +1,2 @@
+-- Laws on numbers.
+pub mod NumberLaws

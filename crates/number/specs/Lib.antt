@@ -1,0 +1,4 @@
+-- The numbers that a grammar is written in, and the refusals.
+pub mod Types
+pub mod Refusals
+pub mod Number

@@ -1,0 +1,56 @@
+-- The number format: groups of seven bits, lowest group first; the top bit of a byte says that another follows. Only the shortest form counts: a last
+-- byte 0 behind another is refused. A third byte is at most 3: more would be above 65,535, or announce a fourth.
+use Prim.Native.Nat.{ℕ, suc, _+_, _*_, _/_, _%_}
+use mathlib.Core.List.{List}
+use mathlib.Core.Bool.{Bool, cond, _&&_}
+use lib.ListN.{length, getD}
+use lib.Dec.{ltb, leb, eqb}
+use Rattle.number.specs.Types.{Cursor, Read, Value, Refused, Refusal, Unfinished, Malformed, OverLimit, UnknownSymbol}
+
+-- a cursor at a byte
+abbrev pub cursor : ℕ → Cursor
+cursor at = record { at = at }
+
+-- the number whose first byte stands at `at` and is `low`, whose second is `middle`, and whose third and last stands at `here`
+unfoldable pub thirdByte : List ℕ → ℕ → ℕ → ℕ → ℕ → Read
+thirdByte s at low middle here =
+    cond (leb (length s) here) (Refused (Unfinished at))
+    (cond (eqb (getD s here 0) 0) (Refused (Malformed at))
+    (cond (ltb 3 (getD s here 0)) (Refused (Malformed at))
+    (Value (low % 128 + (middle % 128 + getD s here 0 * 128) * 128) (cursor (here + 1)))))
+
+-- the number whose first byte stands at `at` and is `low`, and whose second stands at `here`
+unfoldable pub secondByte : List ℕ → ℕ → ℕ → ℕ → Read
+unfolding thirdByte
+secondByte s at low here =
+    cond (leb (length s) here) (Refused (Unfinished at))
+    (cond (eqb (getD s here 0) 0) (Refused (Malformed at))
+    (cond (ltb (getD s here 0) 128) (Value (low % 128 + getD s here 0 * 128) (cursor (here + 1)))
+    (thirdByte s at low (getD s here 0) (here + 1))))
+
+-- the number at `at` and the cursor behind it; or 1 or 2, at the number's start
+unfoldable pub numberAt : List ℕ → ℕ → Read
+unfolding secondByte
+numberAt s at =
+    cond (leb (length s) at) (Refused (Unfinished at))
+    (cond (ltb (getD s at 0) 128) (Value (getD s at 0) (cursor (at + 1)))
+    (secondByte s at (getD s at 0) (at + 1)))
+
+-- a number that must pass a test, or a refusal of it
+unfoldable pub tested : (ℕ → Bool) → Refusal → Read → Read
+tested ok refusal (Value v c) = cond (ok v) (Value v c) (Refused refusal)
+tested ok refusal (Refused r) = Refused r
+
+-- the number at `at`, from lo to hi, or 3
+unfoldable pub limitedAt : List ℕ → ℕ → ℕ → ℕ → Read
+unfolding numberAt tested
+limitedAt s lo hi at = tested (λ v. leb lo v && leb v hi) (OverLimit at) (numberAt s at)
+
+-- v writes a token from 1 to t, as twice its number, or a nonterminal below n, as one more than that
+unfoldable pub legal : ℕ → ℕ → ℕ → Bool
+legal t n v = cond (eqb (v % 2) 0) (leb 1 (v / 2) && leb (v / 2) t) (ltb (v / 2) n)
+
+-- the number at `at`, writing a symbol, or 4
+unfoldable pub symbolAt : List ℕ → ℕ → ℕ → ℕ → Read
+unfolding numberAt tested legal
+symbolAt s t n at = tested (legal t n) (UnknownSymbol at) (numberAt s at)

@@ -1,0 +1,6 @@
+-- Laws on the one pass, one subject a file.
+pub mod PassSteps
+pub mod PassLaws
+pub mod TableLaws
+pub mod FitsLaws
+pub mod ReadLaws

@@ -1,0 +1,3 @@
+-- What the one pass over a grammar does.
+pub mod Types
+pub mod Pass
