@@ -1,13 +1,13 @@
 -- Laws of single bits: of `|`, of a power of two; a number that has no bit below 32 and is below 2 ^ 32 is 0.
-use mathlib.Core.Path.{_≡_, refl, sym, _∙_, ap}
+use mathlib.Core.Path.{_≡_, refl, sym, _∙_}
 use mathlib.Core.Logic.{_⊎_, inl, inr, ⊎-elim}
 use mathlib.Core.Bool.{Bool, true, false, _||_}
 use Prim.Native.Nat.{ℕ, zero, suc, _+_, _-_, _*_, _/_, _%_, _^_, _≤_, _<_, max}
 use native.Mathlib.Nat.{one-mul, div-self, div-eq-of-lt, pow-suc, lt-of-lt-of-le, mul-mod-left}
 use native.Mathlib.Omega.{arith}
 use native.Mathlib.Decide.{decLt}
-use lib.Dec.{T, eqb}
-use lib.Bits.{bitOr, bitAnd, or-shr, or-step, or-add-and, and-le-r, or-lt}
+use lib.Dec.{eqb}
+use lib.Bits.{bitOr, or-shr, or-step, or-add-and, and-le-r, or-lt}
 use lib.Pow.{pow-pos, pow-lt, pow-mono, pow-add, shl-exact, shl-shr}
 use lib.Arith.{digits-mod}
 use borrow.Author.Tests.{eqb-true, eqb-false, eq-eqb, ne-eqb}

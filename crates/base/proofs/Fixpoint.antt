@@ -1,6 +1,6 @@
 -- The least fixpoint of a monotone operator on finitely many Boolean cells, with no condition on ranges: every cell is in the list, or one round
 -- settles it whatever stood before. One round more than there are cells reaches the fixpoint; whatever is sound and closed equals it.
-use mathlib.Core.Path.{_≡_, refl, sym}
+use mathlib.Core.Path.{_≡_, refl}
 use mathlib.Core.Logic.{_⊎_, inl, inr}
 use mathlib.Core.Bool.{Bool, true, false}
 use mathlib.Core.List.{List, [], _∷_, List·Memᴰ, List·Memᴰ·head, List·Memᴰ·tail, List·Memᴰ·not-nil, List·Memᴰ·cases-cons}

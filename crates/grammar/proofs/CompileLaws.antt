@@ -1,15 +1,14 @@
 -- Compiling keeps the rules: production b of nonterminal a of the table of places is the one that was written.
 use mathlib.Core.Path.{_≡_, refl, sym, ap, _∙_}
 use mathlib.Core.Option.{Option, none, some}
-use mathlib.Core.List.{List, [], _∷_, _++_, append-assoc, map}
-use Prim.Native.Nat.{ℕ, zero, suc, _+_, _-_, _≤_, _<_}
-use native.Mathlib.Nat.{zero-add}
+use mathlib.Core.List.{List, [], _∷_, _++_, append-assoc}
+use Prim.Native.Nat.{ℕ, zero, suc, _+_, _-_}
 use native.Mathlib.Omega.{arith}
 use lib.ListN.{length, getD, getElem?, drop, replicate, length-append}
 use lib.Seq.{drop-at}
 use Rattle.grammar.specs.Types.{Symbol, Token, Nonterminal, End, Place}
 use Rattle.grammar.specs.Decode.{Rules, AllOf, Legal, Production, Alternatives}
-use Rattle.grammar.specs.Grammar.{Grammar, at, nowhere, oneth, first, alternatives, spell, suffix, production, layOne, layEach, layAll, sizeEach, sizeAll, startsEach, startsAll, padded, compile, Limited}
+use Rattle.grammar.specs.Grammar.{Grammar, at, nowhere, oneth, first, alternatives, spell, suffix, production, layOne, layEach, layAll, sizeEach, startsEach, startsAll, padded, compile, Limited}
 
 -- the symbols from a place on, where there is one
 abbrev spelled : List Place → Option ℕ → Option (List Symbol)

@@ -1,10 +1,10 @@
 -- What grammar bytes say: the rules, or the first refusal of 1 to 5 in the order of the bytes.
 use Prim.Native.Nat.{ℕ, zero, suc, _+_, _/_, _%_, _≤_, _<_}
 use mathlib.Core.List.{List, [], _∷_}
-use mathlib.Core.Bool.{Bool, cond}
+use mathlib.Core.Bool.{cond}
 use lib.ListN.{length}
 use lib.Dec.{ltb, eqb}
-use Rattle.grammar.specs.Types.{Refusal, OverLimit, Trailing, Cursor, Read, Value, Refused, Symbol, Token, Nonterminal, End}
+use Rattle.grammar.specs.Types.{Refusal, OverLimit, Trailing, Read, Value, Refused, Symbol, Token, Nonterminal, End}
 use Rattle.grammar.specs.Limits.{maxKinds, maxNonterminals, maxProductions, maxLength, maxPlaces}
 use Rattle.number.specs.Number.{limitedAt, symbolAt}
 

@@ -4,7 +4,7 @@
 --   511 .. 543  for each nonterminal the number of its first production, counted over all; behind the last, the number of productions
 --   544, 545, 546   the highest kind, the number of nonterminals, the number of places
 use mathlib.Core.Path.{_≡_}
-use Prim.Native.Nat.{ℕ, zero, suc, _+_, _-_, _*_, _/_, _%_, _≤_, _<_}
+use Prim.Native.Nat.{ℕ, suc, _+_, _-_, _*_, _/_, _%_, _≤_, _<_}
 use mathlib.Core.List.{List, [], _∷_, map}
 use mathlib.Core.Bool.{cond}
 use lib.ListN.{length, getD, take}

@@ -6,10 +6,10 @@ use mathlib.Core.List.{List}
 use native.Mathlib.Nat.{add-comm}
 use native.Mathlib.Omega.{arith}
 use lib.ListN.{length, getD}
-use lib.Dec.{T, eqb, leb, ltb, leb→le, ltb→lt}
+use lib.Dec.{eqb, leb, ltb, leb→le, ltb→lt}
 use lib.Bits.{bitOr, bitAnd, and-mask, or-shifted-r}
 use borrow.Author.Tests.{lt-ltb, le-ltb, le-leb, lt-leb, eq-eqb, ne-eqb, not-true, not-false}
-use Rattle.base.proofs.Booleans.{clash, and-T, true→T}
+use Rattle.base.proofs.Booleans.{clash, and-T, true→T, and-none}
 use Rattle.number.specs.Types.{Refusal, Read, Cursor, Value, Refused, Unfinished, Malformed, OverLimit, UnknownSymbol}
 use Rattle.number.specs.Number.{numberAt, secondByte, thirdByte, cursor, tested, limitedAt, legal, symbolAt}
 
@@ -96,10 +96,6 @@ module _ (ok : ℕ → Bool) (f : Refusal) {x n : Read} (e : n ≡ x) where
   unfolding tested
   tested-yes h q = rw (← e, h, q)
 
-off : (b : Bool) → (b && false) ≡ false
-off true = refl
-off false = refl
-
 module _ (s : List ℕ) (lo hi at : ℕ) {n : Read} (e : n ≡ numberAt s at) where
   pub limited-refused : {r : Refusal} → n ≡ Refused r → n ≡ limitedAt s lo hi at
   unfolding limitedAt
@@ -112,7 +108,7 @@ module _ (s : List ℕ) (lo hi at : ℕ) {n : Read} (e : n ≡ numberAt s at) wh
 
     pub limited-above : hi < v → Refused (OverLimit at) ≡ limitedAt s lo hi at
     unfolding limitedAt
-    limited-above l = tested-no (λ v. leb lo v && leb v hi) (OverLimit at) e h (rw (lt-leb v hi l) (off (leb lo v)))
+    limited-above l = tested-no (λ v. leb lo v && leb v hi) (OverLimit at) e h (rw (lt-leb v hi l) (and-none (leb lo v)))
 
     pub limited-in : lo ≤ v → v ≤ hi → Value v c ≡ limitedAt s lo hi at
     unfolding limitedAt

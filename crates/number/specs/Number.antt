@@ -1,6 +1,6 @@
 -- The number format: groups of seven bits, lowest group first; the top bit of a byte says that another follows. Only the shortest form counts: a last
 -- byte 0 behind another is refused. A third byte is at most 3: more would be above 65,535, or announce a fourth.
-use Prim.Native.Nat.{ℕ, suc, _+_, _*_, _/_, _%_}
+use Prim.Native.Nat.{ℕ, _+_, _*_, _/_, _%_}
 use mathlib.Core.List.{List}
 use mathlib.Core.Bool.{Bool, cond, _&&_}
 use lib.ListN.{length, getD}

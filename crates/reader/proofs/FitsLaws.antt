@@ -1,14 +1,14 @@
 -- The tables of decoded rules fit: every index that they say is in range.
-use mathlib.Core.Path.{_≡_, refl, sym, ap, _∙_}
-use mathlib.Core.List.{List, [], _∷_, _++_, map}
+use mathlib.Core.Path.{_≡_, sym, ap, _∙_}
+use mathlib.Core.List.{List, [], _∷_, _++_}
 use Prim.Native.Nat.{ℕ, zero, suc, _+_, _-_, _≤_, _<_}
 use native.Mathlib.Omega.{arith}
 use lib.ListN.{length, getD, replicate, length-append}
 use Rattle.base.proofs.Booleans.{clash}
 use Rattle.reader.specs.Types.{Symbol, Token, Nonterminal, End, Place}
 use Rattle.grammar.specs.Decode.{Rules, AllOf, Legal, Production, Alternatives}
-use Rattle.grammar.specs.Grammar.{Grammar, at, nowhere, facing, layOne, layEach, layAll, sizeEach, sizeAll, padded, compile, Limited}
-use Rattle.grammar.specs.Tables.{ruleAt, grammarIn, tableWords, nonterminalsIn, Fits}
+use Rattle.grammar.specs.Grammar.{Grammar, at, nowhere, facing, layOne, layEach, layAll, sizeAll, padded, compile, Limited}
+use Rattle.grammar.specs.Tables.{ruleAt, tableWords, nonterminalsIn, Fits}
 use Rattle.reader.proofs.PassLaws.{countsOf, laidOut, length-size}
 use Rattle.reader.proofs.TableLaws.{C, A, B, D, held, length-A, length-B, length-D, laid, get-last, get-count, tables-say}
 

@@ -1,20 +1,20 @@
 -- The one pass is `decode`: it refuses exactly where `decode` does, and leaves the decoded rules laid out in the tables.
 use mathlib.Core.Path.{_≡_, refl, sym, ap, subst, _∙_}
-use mathlib.Core.Logic.{inl, inr}
-use mathlib.Core.Bool.{Bool, true, false, cond}
+use mathlib.Core.Logic.{inl}
+use mathlib.Core.Bool.{Bool, true, false, cond, _&&_}
 use mathlib.Core.List.{List, [], _∷_, _++_, map, map-append}
-use Prim.Native.Nat.{ℕ, zero, suc, _+_, _-_, _/_, _%_, _≤_, _<_}
+use Prim.Native.Nat.{ℕ, zero, suc, _+_, _/_, _%_, _≤_}
 use native.Mathlib.Omega.{arith}
 use lib.ListN.{length, set, length-append}
 use lib.Seq.{sets}
-use lib.Dec.{ltb, leb, eqb}
-use borrow.Author.Tests.{lt-ltb, le-ltb, ltb-true, ltb-false, leb-true, eqb-true, eqb-false}
-use Rattle.base.proofs.Booleans.{clash}
-use Rattle.base.proofs.Lists.{set-sets, sets-sets, sets-append}
-use Rattle.reader.specs.Types.{Refusal, Read, Cursor, Value, Refused, OverLimit, Trailing, Symbol, Token, Nonterminal, End}
+use lib.Dec.{ltb, leb, eqb, leb→le}
+use borrow.Author.Tests.{ltb-true, ltb-false}
+use Rattle.base.proofs.Booleans.{and-T, true→T}
+use Rattle.base.proofs.Lists.{sets-sets, sets-append}
+use Rattle.reader.specs.Types.{Read, Cursor, Value, Refused, OverLimit, Trailing, Symbol, Token, Nonterminal}
 use Rattle.number.specs.Number.{limitedAt, symbolAt, legal, cursor}
 use Rattle.grammar.specs.Decode.{Rules, AllOf, Legal, Production, Alternatives, Mark, mark, Parsed, got, refused, andThen, times, fromRead, limited, written, symbol, production, nonterminal, ending, decode}
-use Rattle.grammar.specs.Grammar.{at, layOne, layEach, layAll, sizeEach, sizeAll, startsEach, startsAll, Limited}
+use Rattle.grammar.specs.Grammar.{at, layOne, layEach, layAll, sizeEach, sizeAll, startsEach, Limited}
 use Rattle.grammar.specs.Tables.{wordOf, firstsAt, rulesAt}
 use Rattle.reader.specs.Pass.{Out, out, onRead, onOut, symbolsOf, productionsOf, nonterminalsOf, closing, finished, passOf}
 use Rattle.number.proofs.NumberLaws.{symbol-legal, limited-is}
@@ -49,13 +49,10 @@ legal-written : (t n v : ℕ) → legal t n v ≡ true → Legal t n (written v)
 unfolding legal written
 legal-written t n v h = go (eqb (v % 2) 0) h
   where
-    both : (a b : Bool) → mathlib.Core.Bool._&&_ a b ≡ true → (a ≡ true) × (b ≡ true)
-    both true true e = (refl, refl)
-    both true false e = (refl, e)
-    both false b e = clash (cc)
-
-    go : (b : Bool) → cond b (mathlib.Core.Bool._&&_ (leb 1 (v / 2)) (leb (v / 2) t)) (ltb (v / 2) n) ≡ true → Legal t n (cond b (Token (v / 2)) (Nonterminal (v / 2)))
-    go true e = let h = both (leb 1 (v / 2)) (leb (v / 2) t) e in (leb-true 1 (v / 2) (h .0), leb-true (v / 2) t (h .1))
+    go : (b : Bool) → cond b (leb 1 (v / 2) && leb (v / 2) t) (ltb (v / 2) n) ≡ true → Legal t n (cond b (Token (v / 2)) (Nonterminal (v / 2)))
+    go true e =
+        let h = and-T (leb 1 (v / 2)) (leb (v / 2) t) (true→T (leb 1 (v / 2) && leb (v / 2) t) e) in
+        (leb→le 1 (v / 2) (h .0), leb→le (v / 2) t (h .1))
     go false e = ltb-true (v / 2) n e
 
 -- ---- what the pass writes beside the places

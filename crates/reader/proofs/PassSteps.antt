@@ -1,6 +1,6 @@
 -- The one pass by cases, as the code meets them: one law for each way out of a loop's turn and each way out of a function.
 use mathlib.Core.Path.{_≡_, refl, sym, ap, _∙_}
-use mathlib.Core.Bool.{Bool, true, false, cond}
+use mathlib.Core.Bool.{cond}
 use mathlib.Core.List.{List}
 use Prim.Native.Nat.{ℕ, zero, suc, _+_, _-_, _≤_, _<_}
 use native.Mathlib.Omega.{arith}
@@ -8,7 +8,6 @@ use native.Mathlib.Decide.{decLe}
 use lib.ListN.{length, set}
 use lib.Dec.{ltb}
 use borrow.Author.Tests.{lt-ltb, le-ltb}
-use Rattle.base.proofs.Booleans.{clash}
 use Rattle.reader.specs.Types.{Refusal, Read, Cursor, Value, Refused, OverLimit, Trailing, End}
 use Rattle.number.specs.Number.{limitedAt, symbolAt}
 use Rattle.grammar.specs.Decode.{written}

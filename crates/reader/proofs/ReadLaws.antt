@@ -1,11 +1,11 @@
 -- What reading a grammar comes to: the first refusal of 1 to 5, or tables that say what the bytes say. This is all that callers need of the reader.
-use mathlib.Core.Path.{_≡_, refl, sym, ap, subst, _∙_}
+use mathlib.Core.Path.{_≡_, refl, ap, _∙_}
 use mathlib.Core.List.{List}
 use Prim.Native.Nat.{ℕ}
 use lib.ListN.{replicate}
 use Rattle.reader.specs.Types.{Refusal, Read, Cursor, Value, Refused}
 use Rattle.grammar.specs.Decode.{Rules, Mark, Parsed, got, refused, decode}
-use Rattle.grammar.specs.Grammar.{Grammar, compile, Limited}
+use Rattle.grammar.specs.Grammar.{compile, Limited}
 use Rattle.grammar.specs.Tables.{grammarIn, Fits}
 use Rattle.reader.specs.Pass.{Out, out, passOf}
 use Rattle.reader.proofs.PassLaws.{Same, passOut, laidOut, pass-same}

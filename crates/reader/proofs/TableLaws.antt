@@ -1,8 +1,7 @@
 -- The tables that the pass leaves say the compiled grammar: `grammarIn` of them is `compile` of the decoded rules.
-use mathlib.Core.Path.{_≡_, refl, sym, ap, ap₂, subst, _∙_}
-use mathlib.Core.Logic.{inl, inr}
-use mathlib.Core.List.{List, [], _∷_, _++_, append-assoc, append-nil, map, map-append}
-use Prim.Native.Nat.{ℕ, zero, suc, _+_, _-_, _*_, _≤_, _<_}
+use mathlib.Core.Path.{_≡_, refl, sym, ap, ap₂, _∙_}
+use mathlib.Core.List.{List, [], _∷_, _++_, append-assoc, map, map-append}
+use Prim.Native.Nat.{ℕ, zero, suc, _+_, _-_, _≤_, _<_}
 use native.Mathlib.Nat.{sub-zero, add-zero}
 use native.Mathlib.Omega.{arith}
 use lib.ListN.{length, getD, set, take, drop, replicate, length-append, length-replicate, List·getD-append}
@@ -10,7 +9,7 @@ use lib.Seq.{sets, slice, set-at, take-at, drop-at, getD-append-add, drop-drop, 
 use Rattle.base.specs.Rounds.{upFrom}
 use Rattle.reader.specs.Types.{Symbol, Token, Nonterminal, End, Place}
 use Rattle.grammar.specs.Decode.{Rules, AllOf, Legal, Production, Alternatives}
-use Rattle.grammar.specs.Grammar.{Grammar, at, nowhere, layOne, layEach, layAll, sizeEach, sizeAll, startsEach, startsAll, padded, compile, Limited}
+use Rattle.grammar.specs.Grammar.{at, nowhere, layOne, layEach, layAll, sizeEach, sizeAll, startsEach, startsAll, padded, compile, Limited}
 use Rattle.grammar.specs.Tables.{codeOf, wordOf, placeOf, ruleAt, startsIn, grammarIn, tableWords}
 use Rattle.reader.specs.Pass.{finished}
 use Rattle.grammar.proofs.WordLaws.{place-of-word, place-of-none}

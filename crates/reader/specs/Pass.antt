@@ -7,7 +7,7 @@ use lib.ListN.{length, set}
 use lib.Dec.{ltb}
 use Rattle.reader.specs.Types.{Cursor, Read, Value, Refused, OverLimit, Trailing, Token, End}
 use Rattle.grammar.specs.Limits.{maxKinds, maxNonterminals, maxProductions, maxLength, maxPlaces, endPlace, endMark, nobody}
-use Rattle.number.specs.Number.{limitedAt, symbolAt, cursor}
+use Rattle.number.specs.Number.{limitedAt, symbolAt}
 use Rattle.grammar.specs.Decode.{written}
 use Rattle.grammar.specs.Grammar.{at}
 use Rattle.grammar.specs.Tables.{wordOf, firstsAt, rulesAt, kindsAt, nonterminalsAt, sizeAt}

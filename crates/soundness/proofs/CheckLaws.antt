@@ -1,21 +1,20 @@
 -- What the check says of a grammar, in the textbook's words: 6 names the lowest nonterminal that derives no row of tokens, 7 the lowest left recursive
 -- one, and a sound grammar has neither.
-use mathlib.Core.Path.{_≡_, refl, sym, _∙_}
-use mathlib.Core.Option.{Option, none, some}
+use mathlib.Core.Path.{_≡_}
+use mathlib.Core.Option.{Option}
 use mathlib.Core.List.{List}
 use Prim.Native.Nat.{ℕ, _≤_, _<_}
 use lib.ListN.{length}
 use Rattle.base.specs.Search.{LowestIs, this, nothing}
-use Rattle.base.proofs.Booleans.{clash}
 use Rattle.number.specs.declared.Refusal.{Refusal}
 use Rattle.number.specs.declared.Refusal.the-variants.{Unproductive, LeftRecursive as Recursive}
-use Rattle.grammar.specs.Decode.{Rules, Mark, Parsed, got, refused, decode}
+use Rattle.grammar.specs.Decode.{Rules, Mark, got, refused, decode}
 use Rattle.grammar.specs.Grammar.{Grammar, compile}
 use Rattle.soundness.specs.declared.judgement.Verdict.{Verdict}
 use Rattle.soundness.specs.declared.judgement.Verdict.the-variants.{Sound, Refused}
 use Rattle.soundness.specs.Textbook.{Productive, LeftRecursive}
 use Rattle.soundness.specs.Closures.{lowestUnproductive, lowestLeftRecursive}
-use Rattle.soundness.specs.Check.{refuseAt, unproductiveOf, leftRecursiveOf, orElse, judgeOf, judged, checkOf}
+use Rattle.soundness.specs.Check.{refuseAt, unproductiveOf, leftRecursiveOf, orElse, judgeOf, checkOf}
 use Rattle.soundness.proofs.LowestLaws.{lowest-unproductive, lowest-left-recursive}
 
 -- a nonterminal that derives no row of tokens

@@ -2,7 +2,7 @@
 use mathlib.Core.Path.{_≡_, refl, sym, ap, _∙_}
 use mathlib.Core.Logic.{inl, inr}
 use mathlib.Core.Bool.{Bool, true, false, cond, not, _&&_, _||_}
-use mathlib.Core.List.{List, [], _∷_}
+use mathlib.Core.List.{List, []}
 use Prim.Native.Nat.{ℕ, zero, suc, _+_, _-_, _≤_, _<_, _^_}
 use native.Mathlib.Numerals.{add-one}
 use native.Mathlib.Omega.{arith}
@@ -17,10 +17,10 @@ use Rattle.base.proofs.Booleans.{or-T, T-or-r, true→T, T→true}
 use Rattle.base.proofs.Bits.{test-set, test-none, set-ge, set-fits}
 use Rattle.grammar.specs.declared.Symbol.{Symbol}
 use Rattle.grammar.specs.declared.Symbol.the-variants.{Token, Nonterminal, End}
-use Rattle.grammar.specs.Grammar.{Grammar, suffix, facing, alternatives}
+use Rattle.grammar.specs.Grammar.{Grammar, suffix, facing}
 use Rattle.grammar.specs.Tables.{grammarIn, nonterminalsIn, ruleAt, Fits}
-use Rattle.grammar.proofs.WordLaws.{facing-past, alternatives-in, length-starts-in}
-use Rattle.soundness.specs.Closures.{passes, passesBy, derivingRound, deriving?}
+use Rattle.grammar.proofs.WordLaws.{facing-past, alternatives-in}
+use Rattle.soundness.specs.Closures.{passes, passesBy, derivingRound}
 use Rattle.soundness.specs.Steps.{stepOf, passOf, DerivingIs}
 use Rattle.soundness.proofs.Deriving.{passes-place, AllDerive, deriving-adds, deriving-exact}
 

@@ -1,8 +1,8 @@
 -- From sets and rows to verdicts, and from tables to bytes: the check by cases, as the code meets them.
-use mathlib.Core.Path.{_≡_, refl, sym, ap, _∙_}
-use mathlib.Core.Bool.{Bool, true, false, not}
+use mathlib.Core.Path.{_≡_, sym, ap, _∙_}
+use mathlib.Core.Bool.{true, false, not}
 use mathlib.Core.List.{List}
-use Prim.Native.Nat.{ℕ, _+_, _≤_, _<_}
+use Prim.Native.Nat.{ℕ, _<_}
 use native.Mathlib.Omega.{arith}
 use lib.ListN.{length, getD, replicate}
 use Rattle.base.specs.Bits.{testBit}
@@ -14,10 +14,9 @@ use Rattle.number.specs.declared.Refusal.the-variants.{Unproductive, LeftRecurs
 use Rattle.number.specs.declared.Cursor.{Cursor}
 use Rattle.number.specs.declared.Read.{Read}
 use Rattle.number.specs.declared.Read.the-variants.{Value, Refused as Unread}
-use Rattle.grammar.specs.Decode.{Rules, Mark, Parsed, got, refused, decode}
-use Rattle.grammar.specs.Grammar.{Grammar, compile, Limited}
+use Rattle.grammar.specs.Grammar.{Grammar}
 use Rattle.grammar.specs.Tables.{grammarIn, nonterminalsIn, Fits}
-use Rattle.reader.specs.Pass.{Out, out, passOf}
+use Rattle.reader.specs.Pass.{out, passOf}
 use Rattle.reader.proofs.ReadLaws.{Outcome, none, whole, outcome}
 use Rattle.grammar.proofs.WordLaws.{length-starts-in}
 use Rattle.soundness.specs.declared.judgement.Verdict.{Verdict}
@@ -25,7 +24,7 @@ use Rattle.soundness.specs.declared.judgement.Verdict.the-variants.{Soun
 use Rattle.soundness.specs.Textbook.{Move}
 use Rattle.soundness.specs.Closures.{deriving?, leftRecursive?, lowestUnproductive, lowestLeftRecursive}
 use Rattle.soundness.specs.Steps.{DerivingIs, Rows, reachOf}
-use Rattle.soundness.specs.Check.{refuseAt, unproductiveOf, leftRecursiveOf, orElse, judgeOf, judged, checkOf}
+use Rattle.soundness.specs.Check.{refuseAt, unproductiveOf, leftRecursiveOf, judgeOf, judged, checkOf}
 use Rattle.soundness.specs.Compiled.{Compiled}
 use Rattle.soundness.proofs.LeftRecursion.{move-to}
 use Rattle.soundness.proofs.Warshall.{reached}

@@ -1,40 +1,30 @@
 -- The loops of left recursion by cases, as the code meets them; and that the rows they end with are where moves lead.
-use mathlib.Core.Path.{_≡_, refl, sym, ap, ap₂, _∙_}
+use mathlib.Core.Path.{_≡_, sym, ap, _∙_}
 use mathlib.Core.Logic.{_⊎_, inl, inr}
-use mathlib.Core.Bool.{Bool, true, false, cond, not, _&&_, _||_}
-use mathlib.Core.List.{List, [], _∷_}
-use Prim.Native.Nat.{ℕ, zero, suc, _+_, _-_, _≤_, _<_}
+use mathlib.Core.Bool.{Bool, true, false, not, _&&_, _||_}
+use mathlib.Core.List.{List, []}
+use Prim.Native.Nat.{ℕ, suc, _+_, _≤_, _<_}
 use native.Mathlib.Numerals.{add-one}
 use native.Mathlib.Omega.{arith}
-use native.Mathlib.Decide.{decLt}
 use lib.Bits.{bitOr}
-use lib.Dec.{T, eqb, eqb→eq, eqb-refl}
-use lib.ListN.{length, getD, set, take, length-set, length-take, drop-of-length-le}
+use lib.Dec.{eqb, eqb→eq, eqb-refl}
+use lib.ListN.{length, getD, set, take, length-take, drop-of-length-le}
 use lib.Seq.{slice, slice-cons, getD-set-same, getD-set-other}
 use borrow.Author.Tests.{not-true, not-false, eq-eqb, ne-eqb}
 use Rattle.base.specs.Bits.{testBit, setBit}
 use Rattle.base.specs.Rounds.{anyOf}
-use Rattle.base.proofs.Booleans.{same, or-T, T-or-l, T-or-r, and-T, T-and, true→T, T→true}
-use Rattle.base.proofs.Bits.{test-set, test-none, test-or, same?}
+use Rattle.base.proofs.Booleans.{same, or-assoc, or-none}
+use Rattle.base.proofs.Bits.{test-set, test-none, same?}
 use Rattle.grammar.specs.declared.Symbol.{Symbol}
 use Rattle.grammar.specs.declared.Symbol.the-variants.{Token, Nonterminal, End}
 use Rattle.grammar.specs.Grammar.{Grammar, suffix, facing, alternatives}
-use Rattle.grammar.specs.Tables.{grammarIn, nonterminalsIn, ruleAt, Fits}
-use Rattle.grammar.proofs.WordLaws.{facing-past, alternatives-in, length-starts-in}
-use Rattle.soundness.specs.Textbook.{Move, Reaches, one}
-use Rattle.soundness.specs.Closures.{leads, leadsBy, deriving?, move?, reaches?, leftRecursive?}
-use Rattle.soundness.specs.Steps.{DerivingIs, Leads, Moves, Rows, joinOf, throughOf, pivotOf, reachOf}
-use Rattle.soundness.proofs.LeftRecursion.{leads-place, move-iff, move-to, reaches-trans, rows-exact-below, rows-recursive}
+use Rattle.grammar.specs.Tables.{grammarIn, nonterminalsIn, ruleAt}
+use Rattle.grammar.proofs.WordLaws.{facing-past, alternatives-in}
+use Rattle.soundness.specs.Closures.{leads, leadsBy}
+use Rattle.soundness.specs.Steps.{Leads, Moves, Rows, joinOf, throughOf, pivotOf, reachOf}
+use Rattle.soundness.proofs.LeftRecursion.{leads-place}
 
 -- ---- Booleans
-or-assoc : (a b c : Bool) → ((a || b) || c) ≡ (a || (b || c))
-or-assoc true b c = refl
-or-assoc false b c = refl
-
-or-none : (a : Bool) → (a || false) ≡ a
-or-none true = refl
-or-none false = refl
-
 eqb-sym : (a b : ℕ) → eqb a b ≡ eqb b a
 eqb-sym a b = same (eqb a b) (eqb b a) (λ t. rw (eqb→eq a b t) (eqb-refl b)) (λ t. rw (eqb→eq b a t) (eqb-refl a))
 

@@ -3,7 +3,7 @@ use mathlib.Core.Path.{_≡_, refl, sym, ap, _∙_, fun-ext}
 use mathlib.Core.Logic.{_⊎_, inl, inr}
 use mathlib.Core.Bool.{Bool, true, false, cond, _&&_, _||_}
 use mathlib.Core.List.{List}
-use Prim.Native.Nat.{ℕ, zero, suc, _+_, _≤_, _<_}
+use Prim.Native.Nat.{ℕ, zero, suc, _≤_, _<_}
 use native.Mathlib.Omega.{arith}
 use native.Mathlib.Decide.{decLt}
 use lib.Bits.{bitOr}
@@ -13,25 +13,17 @@ use lib.Seq.{getD-set-same, getD-set-other}
 use borrow.Author.Tests.{eqb-true}
 use Rattle.base.specs.Bits.{testBit}
 use Rattle.base.specs.Rounds.{anyOf}
-use Rattle.base.proofs.Booleans.{or-T, T-or-l, T-or-r, and-T, T-and}
+use Rattle.base.proofs.Booleans.{or-T, T-or-l, T-or-r, and-T, T-and, or-none, and-none}
 use Rattle.base.proofs.Bits.{test-none, test-or, same?}
 use Rattle.grammar.specs.Grammar.{Grammar, suffix, alternatives}
 use Rattle.soundness.specs.Textbook.{Move, Reaches, one}
-use Rattle.soundness.specs.Closures.{leads, deriving?, move?, reaches?, leftRecursive?}
+use Rattle.soundness.specs.Closures.{leads, move?, leftRecursive?}
 use Rattle.soundness.specs.Steps.{DerivingIs, Moves, Rows, joinOf, throughOf, pivotOf, reachOf}
 use Rattle.soundness.proofs.LeftRecursion.{move-iff, reaches-trans, rows-exact-below, rows-recursive}
 
 -- row a holds c
 abbrev pub holds : List ℕ → ℕ → ℕ → Bool
 holds rows a c = testBit (getD rows a 0) c
-
-and-none : (b : Bool) → (b && false) ≡ false
-and-none true = refl
-and-none false = refl
-
-or-none : (b : Bool) → (b || false) ≡ b
-or-none true = refl
-or-none false = refl
 
 -- ---- one join, one pivot
 module _ (row b : ℕ) where

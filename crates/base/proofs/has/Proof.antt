@@ -1,3 +1,4 @@
+-- `base::has` meets its contract.
 use lib.Bits.{and-mask}
 use Rattle.base.specs.Bits.{testBit, bit}
 use borrow.Author.Needs.{needs}

@@ -1,3 +1,4 @@
+-- `base::with` meets its contract.
 use Rattle.base.specs.Bits.{setBit}
 use Rattle.base.proofs.Bits.{shl-one}
 use borrow.Author.Needs.{needs}

@@ -1,34 +1,26 @@
+-- `grammar::rule_at` meets its contract.
 use Rattle.grammar.specs.Tables.{ruleAt}
 use Prim.Native.Nat.{_+_}
 use native.Mathlib.Omega.{arith}
 use borrow.Author.Needs.{needs}
 use Rattle.grammar.proofs.rule_at.Statement.{statement}
 use Rattle.grammar.proofs.rule_at.Tie as tie
-use Rattle.grammar.proofs.rule_at.Reads as reads
-use Rattle.grammar.proofs.rule_at.Lts as lts
-use Rattle.base.proofs.index.Reads as index-reads
 
--- src/places.rt:90:33
 add-index : tie.Need-add-index
 add-index c = search needs
 
--- src/places.rt:90:26
 mul-index : tie.Need-mul-index
 mul-index c = search needs
 
--- src/places.rt:90:26
 shared-slice-read-index : tie.Need-shared-slice-read-index
 shared-slice-read-index c = search needs
 
--- src/places.rt:90:14
 index-requires : tie.Need-index-requires
 index-requires c κs = search needs
 
--- src/places.rt:90:5
 add-result : tie.Need-add-result
 add-result c = omega (arith, c .before .shared-slice-known2 .given (511 + c .before .before .before .args .a))
 
--- src/places.rt:86:1
 returns : tie.Need-returns
 unfolding ruleAt
 returns c = omega arith

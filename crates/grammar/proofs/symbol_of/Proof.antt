@@ -1,24 +1,19 @@
+-- `grammar::symbol_of` meets its contract.
 use Rattle.grammar.proofs.WordLaws.{code-end, code-token, code-nonterminal}
 use native.Mathlib.Omega.{arith}
 use borrow.Author.Needs.{needs}
 use Rattle.grammar.proofs.symbol_of.Statement.{statement}
 use Rattle.grammar.proofs.symbol_of.Tie as tie
-use Rattle.grammar.proofs.symbol_of.Reads as reads
-use Rattle.grammar.proofs.symbol_of.Lts as lts
 
--- src/places.rt:26:9
 returns : tie.Need-returns
 returns c = code-end _ (omega arith)
 
--- src/places.rt:31:29
 sub-t7 : tie.Need-sub-t7
 sub-t7 c = search needs
 
--- src/places.rt:22:1
 returns-2 : tie.Need-returns-2
 returns-2 c = code-token _ (c .before .if1 .left) (omega arith)
 
--- src/places.rt:22:1
 returns-3 : tie.Need-returns-3
 returns-3 c = code-nonterminal _ (c .before .if1 .left) (c .if2 .left)
 

@@ -1,19 +1,15 @@
+-- `number::is_legal` meets its contract.
 use Rattle.number.proofs.NumberLaws.{legal-zero, legal-token, legal-nonterminal}
 use native.Mathlib.Omega.{arith}
 use Rattle.number.proofs.is_legal.Statement.{statement}
 use Rattle.number.proofs.is_legal.Tie as tie
-use Rattle.number.proofs.is_legal.Reads as reads
-use Rattle.number.proofs.is_legal.Lts as lts
 
--- src/number.rt:43:13
 returns : tie.Need-returns
 returns c = legal-zero _ _ _ (omega arith) (omega arith)
 
--- src/number.rt:45:9
 returns-2 : tie.Need-returns-2
 returns-2 c = legal-token _ _ _ (omega arith) (omega arith)
 
--- src/number.rt:37:1
 returns-3 : tie.Need-returns-3
 returns-3 c = legal-nonterminal _ _ _ (c .if1 .left)
 

@@ -1,46 +1,34 @@
+-- `reader::finish` meets its contract.
 use Rattle.grammar.specs.Tables.{wordOf}
 use Rattle.reader.specs.Pass.{finished}
-use mathlib.Core.Path.{refl}
 use borrow.Author.Needs.{needs}
 use Rattle.reader.proofs.finish.Statement.{statement}
 use Rattle.reader.proofs.finish.Tie as tie
-use Rattle.reader.proofs.finish.Reads as reads
-use Rattle.reader.proofs.finish.Lts as lts
-use Rattle.base.proofs.narrow.Reads as narrow-reads
 
--- src/reader.rt:126:5
 slice-write-tables : tie.Need-slice-write-tables
 slice-write-tables c = search needs
 
--- src/reader.rt:127:21
 narrow-requires : tie.Need-narrow-requires
 narrow-requires c κs = search needs
 
--- src/reader.rt:127:5
 slice-write-tables-2 : tie.Need-slice-write-tables-2
 slice-write-tables-2 c = search needs
 
--- src/reader.rt:128:28
 narrow-requires-2 : tie.Need-narrow-requires-2
 narrow-requires-2 c κs = search needs
 
--- src/reader.rt:128:5
 slice-write-tables-3 : tie.Need-slice-write-tables-3
 slice-write-tables-3 c = search needs
 
--- src/reader.rt:129:20
 narrow-requires-3 : tie.Need-narrow-requires-3
 narrow-requires-3 c κs = search needs
 
--- src/reader.rt:129:5
 slice-write-tables-4 : tie.Need-slice-write-tables-4
 slice-write-tables-4 c = search needs
 
--- src/reader.rt:122:1
 same-length : tie.Need-same-length
 same-length c = search needs
 
--- src/reader.rt:122:1
 returns : tie.Need-returns
 unfolding finished wordOf
 returns c = cc

@@ -1,18 +1,14 @@
+-- `reader::productions` meets its contract.
 use native.Mathlib.Omega.{arith}
 use borrow.Author.Needs.{needs}
-use mathlib.Core.Path.{_≡_, refl, sym, _∙_}
-use Prim.Native.Nat.{_+_, _≤_, _-_}
+use mathlib.Core.Path.{_≡_}
+use Prim.Native.Nat.{_≤_}
 use lib.ListN.{length, length-set}
 use Rattle.reader.specs.Pass.{productionsOf}
 use Rattle.number.proofs.NumberLaws.{limited-is}
 use Rattle.reader.proofs.PassSteps.{productions-done, productions-refused, productions-full, productions-piece, productions-more, symbols-end}
 use Rattle.reader.proofs.productions.Statement.{statement}
 use Rattle.reader.proofs.productions.Tie as tie
-use Rattle.reader.proofs.productions.Reads as reads
-use Rattle.reader.proofs.productions.Lts as lts
-use Rattle.base.proofs.narrow.Reads as narrow-reads
-use Rattle.number.proofs.Cursor.limited.Reads as limited-reads
-use Rattle.reader.proofs.symbols.Reads as symbols-reads
 
 abbrev Inv-loop : tie.InvT-loop
 Inv-loop bytes count kinds nonterminals owner tables₀ first production c₀ p₀ k₀ left₀ tables c p k left =
@@ -22,95 +18,72 @@ Inv-loop bytes count kinds nonterminals owner tables₀ first production c₀ p�
 abbrev μ-loop : tie.MeasureT-loop
 μ-loop bytes count kinds nonterminals owner tables₀ first production c₀ p₀ k₀ left₀ tables c p k left = left
 
--- src/reader.rt:71:5
 loop-holds : tie.Need-loop-holds Inv-loop μ-loop
 loop-holds c = search needs
 
--- src/reader.rt:73:13
 limited-requires : tie.Need-limited-requires Inv-loop μ-loop
 limited-requires c κs = search needs
 
--- src/reader.rt:74:25
 enum-known-n : tie.Need-enum-known-n Inv-loop μ-loop
 enum-known-n c = search needs
 
--- src/reader.rt:75:13
 enum-told : tie.Need-enum-told Inv-loop μ-loop
 enum-told c = search needs
 
--- src/reader.rt:75:13
 same-length : tie.Need-same-length Inv-loop μ-loop
 same-length c = search needs
 
--- src/reader.rt:75:13
 returns : tie.Need-returns Inv-loop μ-loop
 returns c = productions-refused _ _ _ _ _ _ _ _ _ (omega arith) (c .before .before .before .before .loop .inv .3) (c .before .before .limited .ensures) (c .enum-told .given .1)
 
--- src/reader.rt:77:25
 add-if1 : tie.Need-add-if1 Inv-loop μ-loop
 add-if1 c = let h = limited-is _ _ _ _ (c .before .before .before .limited .ensures) (c .before .n .given .1) in omega arith
 
--- src/reader.rt:77:25
 add-if1-2 : tie.Need-add-if1-2 Inv-loop μ-loop
 add-if1-2 c = let h = limited-is _ _ _ _ (c .before .before .before .limited .ensures) (c .before .n .given .1) in omega arith
 
--- src/reader.rt:78:13
 same-length-2 : tie.Need-same-length-2 Inv-loop μ-loop
 same-length-2 c = search needs
 
--- src/reader.rt:78:13
 returns-2 : tie.Need-returns-2 Inv-loop μ-loop
 returns-2 c = productions-full _ _ _ _ _ _ _ _ _ (omega arith) (c .before .before .before .before .before .before .loop .inv .3) (c .before .before .before .before .limited .ensures) (c .before .before .n .given .1) (omega arith)
 
--- src/reader.rt:80:30
 narrow-requires : tie.Need-narrow-requires Inv-loop μ-loop
 narrow-requires c κs = search needs
 
--- src/reader.rt:80:16
 add-tables : tie.Need-add-tables Inv-loop μ-loop
 add-tables c = search needs
 
--- src/reader.rt:80:9
 mul-tables : tie.Need-mul-tables Inv-loop μ-loop
 mul-tables c = search needs
 
--- src/reader.rt:80:9
 slice-write-tables : tie.Need-slice-write-tables Inv-loop μ-loop
 slice-write-tables c = search needs
 
--- src/reader.rt:81:13
 symbols-requires : tie.Need-symbols-requires Inv-loop μ-loop
 symbols-requires c κs = simp length-set (omega arith)
 
--- src/reader.rt:82:25
 enum-known-piece : tie.Need-enum-known-piece Inv-loop μ-loop
 enum-known-piece c = search needs
 
--- src/reader.rt:83:13
 enum-told-2 : tie.Need-enum-told-2 Inv-loop μ-loop
 enum-told-2 c = search needs
 
--- src/reader.rt:83:13
 same-length-3 : tie.Need-same-length-3 Inv-loop μ-loop
 same-length-3 c = omega (arith, simp length-set at (c .before .before .before .before .symbols .kept .1 .1 .1 .1 .1 .1 .0))
 
--- src/reader.rt:83:13
 returns-3 : tie.Need-returns-3 Inv-loop μ-loop
 returns-3 c = productions-piece _ _ _ _ _ _ _ _ _ (omega arith) (c .before .before .before .before .before .before .before .before .before .before .before .before .before .loop .inv .3) (c .before .before .before .before .before .before .before .before .before .before .before .limited .ensures) (c .before .before .before .before .before .before .before .before .before .n .given .1) (c .before .before .before .before .before .before .narrow .ensures) (omega arith) (c .before .before .before .before .symbols .ensures) (c .enum-told2 .given .1)
 
--- src/reader.rt:86:9
 add-k : tie.Need-add-k Inv-loop μ-loop
 add-k c = search needs
 
--- src/reader.rt:87:9
 sub-left : tie.Need-sub-left Inv-loop μ-loop
 sub-left c = search needs
 
--- src/reader.rt:71:5
 loop-less : tie.Need-loop-less Inv-loop μ-loop
 loop-less c = search needs
 
--- src/reader.rt:71:5
 loop-again : tie.Need-loop-again Inv-loop μ-loop
 loop-again c =
     let h = symbols-end _ _ _ _ _ _ _ _ (c .before .before .before .before .before .symbols .ensures) (c .before .piece .given .1) in (
@@ -120,11 +93,9 @@ loop-again c =
       productions-more _ _ _ _ _ _ _ _ _ (omega arith) (c .before .before .before .before .before .before .before .before .before .before .before .before .before .before .loop .inv .3) (c .before .before .before .before .before .before .before .before .before .before .before .before .limited .ensures) (c .before .before .before .before .before .before .before .before .before .before .n .given .1) (c .before .before .before .before .before .before .before .narrow .ensures) (omega arith) (c .before .before .before .before .before .symbols .ensures) (c .before .piece .given .1),
     )
 
--- src/reader.rt:53:1
 same-length-4 : tie.Need-same-length-4 Inv-loop μ-loop
 same-length-4 c = search needs
 
--- src/reader.rt:53:1
 returns-4 : tie.Need-returns-4 Inv-loop μ-loop
 returns-4 c = productions-done _ _ _ _ _ _ _ _ _ (omega arith) (c .before .loop .inv .3)
 

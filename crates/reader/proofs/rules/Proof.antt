@@ -1,7 +1,8 @@
+-- `reader::rules` meets its contract.
 use native.Mathlib.Omega.{arith}
 use borrow.Author.Needs.{needs}
-use mathlib.Core.Path.{_≡_, refl, sym, _∙_, ap}
-use Prim.Native.Nat.{_+_, _≤_, _-_}
+use mathlib.Core.Path.{_≡_, refl}
+use Prim.Native.Nat.{_≤_, _-_}
 use native.Mathlib.Nat.{sub-zero}
 use lib.ListN.{length, length-set}
 use Rattle.reader.specs.Pass.{nonterminalsOf}
@@ -9,11 +10,6 @@ use Rattle.number.proofs.NumberLaws.{limited-is}
 use Rattle.reader.proofs.PassSteps.{rules-done, rules-refused, rules-piece, rules-more, productions-end}
 use Rattle.reader.proofs.rules.Statement.{statement}
 use Rattle.reader.proofs.rules.Tie as tie
-use Rattle.reader.proofs.rules.Reads as reads
-use Rattle.reader.proofs.rules.Lts as lts
-use Rattle.base.proofs.narrow.Reads as narrow-reads
-use Rattle.number.proofs.Cursor.limited.Reads as limited-reads
-use Rattle.reader.proofs.productions.Reads as productions-reads
 
 abbrev Inv-loop : tie.InvT-loop
 Inv-loop bytes kinds nonterminals tables₀ c₀ p₀ k₀ a₀ tables c p k a =
@@ -23,79 +19,60 @@ Inv-loop bytes kinds nonterminals tables₀ c₀ p₀ k₀ a₀ tables c p k a =
 abbrev μ-loop : tie.MeasureT-loop
 μ-loop bytes kinds nonterminals tables₀ c₀ p₀ k₀ a₀ tables c p k a = nonterminals - a
 
--- src/reader.rt:102:5
 loop-holds : tie.Need-loop-holds Inv-loop μ-loop
 loop-holds c = (omega arith, omega arith, omega arith, refl, rw sub-zero refl)
 
--- src/reader.rt:103:13
 limited-requires : tie.Need-limited-requires Inv-loop μ-loop
 limited-requires c κs = search needs
 
--- src/reader.rt:104:25
 enum-known-n : tie.Need-enum-known-n Inv-loop μ-loop
 enum-known-n c = search needs
 
--- src/reader.rt:105:13
 enum-told : tie.Need-enum-told Inv-loop μ-loop
 enum-told c = search needs
 
--- src/reader.rt:105:13
 same-length : tie.Need-same-length Inv-loop μ-loop
 same-length c = search needs
 
--- src/reader.rt:105:13
 returns : tie.Need-returns Inv-loop μ-loop
 returns c = rules-refused _ _ _ _ _ _ _ _ _ (omega arith) (c .before .before .before .before .loop .inv .4) (c .before .before .limited .ensures) (c .enum-told .given .1)
 
--- src/reader.rt:107:29
 narrow-requires : tie.Need-narrow-requires Inv-loop μ-loop
 narrow-requires c κs = search needs
 
--- src/reader.rt:107:16
 add-tables : tie.Need-add-tables Inv-loop μ-loop
 add-tables c = search needs
 
--- src/reader.rt:107:9
 mul-tables : tie.Need-mul-tables Inv-loop μ-loop
 mul-tables c = search needs
 
--- src/reader.rt:107:9
 slice-write-tables : tie.Need-slice-write-tables Inv-loop μ-loop
 slice-write-tables c = search needs
 
--- src/reader.rt:108:13
 productions-requires : tie.Need-productions-requires Inv-loop μ-loop
 productions-requires c κs = simp length-set (omega arith)
 
--- src/reader.rt:109:25
 enum-known-piece : tie.Need-enum-known-piece Inv-loop μ-loop
 enum-known-piece c = search needs
 
--- src/reader.rt:110:13
 enum-told-2 : tie.Need-enum-told-2 Inv-loop μ-loop
 enum-told-2 c = search needs
 
--- src/reader.rt:110:13
 same-length-2 : tie.Need-same-length-2 Inv-loop μ-loop
 same-length-2 c = omega (arith, simp length-set at (c .before .before .before .before .productions .kept .1 .1 .1 .1 .1 .1 .0))
 
--- src/reader.rt:110:13
 returns-2 : tie.Need-returns-2 Inv-loop μ-loop
 returns-2 c = rules-piece _ _ _ _ _ _ _ _ _ (omega arith) (c .before .before .before .before .before .before .before .before .before .before .before .before .loop .inv .4) (c .before .before .before .before .before .before .before .before .before .before .limited .ensures) (c .before .before .before .before .before .before .before .before .n .given .1) (c .before .before .before .before .before .before .narrow .ensures) (c .before .before .before .before .productions .ensures) (c .enum-told2 .given .1)
 
--- src/reader.rt:113:9
 add-k : tie.Need-add-k Inv-loop μ-loop
 add-k c = let h = limited-is _ _ _ _ (c .before .before .before .before .before .before .before .before .before .before .before .limited .ensures) (c .before .before .before .before .before .before .before .before .before .n .given .1) in omega arith
 
--- src/reader.rt:114:9
 add-a : tie.Need-add-a Inv-loop μ-loop
 add-a c = search needs
 
--- src/reader.rt:102:5
 loop-less : tie.Need-loop-less Inv-loop μ-loop
 loop-less c = search needs
 
--- src/reader.rt:102:5
 loop-again : tie.Need-loop-again Inv-loop μ-loop
 loop-again c =
     let h = productions-end _ _ _ _ _ _ _ _ _ (c .before .before .before .before .before .productions .ensures) (c .before .piece .given .1) (omega arith) in (
@@ -106,27 +83,21 @@ loop-again c =
       rules-more _ _ _ _ _ _ _ _ _ (omega arith) (c .before .before .before .before .before .before .before .before .before .before .before .before .before .loop .inv .4) (c .before .before .before .before .before .before .before .before .before .before .before .limited .ensures) (c .before .before .before .before .before .before .before .before .before .n .given .1) (c .before .before .before .before .before .before .before .narrow .ensures) (c .before .before .before .before .before .productions .ensures) _ (omega arith) (c .before .piece .given .1),
     )
 
--- src/reader.rt:117:25
 narrow-requires-2 : tie.Need-narrow-requires-2 Inv-loop μ-loop
 narrow-requires-2 c κs = search needs
 
--- src/reader.rt:117:12
 add-tables-2 : tie.Need-add-tables-2 Inv-loop μ-loop
 add-tables-2 c = search needs
 
--- src/reader.rt:117:5
 mul-tables-2 : tie.Need-mul-tables-2 Inv-loop μ-loop
 mul-tables-2 c = search needs
 
--- src/reader.rt:117:5
 slice-write-tables-2 : tie.Need-slice-write-tables-2 Inv-loop μ-loop
 slice-write-tables-2 c = search needs
 
--- src/reader.rt:94:1
 same-length-3 : tie.Need-same-length-3 Inv-loop μ-loop
 same-length-3 c = search needs
 
--- src/reader.rt:94:1
 returns-3 : tie.Need-returns-3 Inv-loop μ-loop
 returns-3 c = rules-done _ _ _ _ _ _ _ _ _ (omega arith) (c .narrow2 .ensures) (c .before .before .loop .inv .4)
 

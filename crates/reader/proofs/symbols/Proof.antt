@@ -1,18 +1,14 @@
+-- `reader::symbols` meets its contract.
 use native.Mathlib.Omega.{arith}
 use borrow.Author.Needs.{needs}
-use mathlib.Core.Path.{_≡_, refl, sym, _∙_}
-use Prim.Native.Nat.{_+_, _≤_, _-_}
+use mathlib.Core.Path.{_≡_}
+use Prim.Native.Nat.{_+_}
 use lib.ListN.{length, length-set}
 use Rattle.reader.specs.Pass.{symbolsOf}
 use Rattle.number.proofs.NumberLaws.{symbol-low}
 use Rattle.reader.proofs.PassSteps.{symbols-done, symbols-refused, symbols-more}
 use Rattle.reader.proofs.symbols.Statement.{statement}
 use Rattle.reader.proofs.symbols.Tie as tie
-use Rattle.reader.proofs.symbols.Reads as reads
-use Rattle.reader.proofs.symbols.Lts as lts
-use Rattle.number.proofs.Cursor.symbol.Reads as symbol-reads
-use Rattle.grammar.proofs.end_word.Reads as end-word-reads
-use Rattle.grammar.proofs.symbol_word.Reads as symbol-word-reads
 
 abbrev Inv-loop : tie.InvT-loop
 Inv-loop bytes count kinds nonterminals owner tables₀ first c₀ p₀ left₀ tables c p left =
@@ -22,79 +18,60 @@ Inv-loop bytes count kinds nonterminals owner tables₀ first c₀ p₀ left₀ 
 abbrev μ-loop : tie.MeasureT-loop
 μ-loop bytes count kinds nonterminals owner tables₀ first c₀ p₀ left₀ tables c p left = left
 
--- src/reader.rt:38:5
 loop-holds : tie.Need-loop-holds Inv-loop μ-loop
 loop-holds c = search needs
 
--- src/reader.rt:39:13
 symbol-requires : tie.Need-symbol-requires Inv-loop μ-loop
 symbol-requires c κs = search needs
 
--- src/reader.rt:40:25
 enum-known-n : tie.Need-enum-known-n Inv-loop μ-loop
 enum-known-n c = search needs
 
--- src/reader.rt:41:13
 enum-told : tie.Need-enum-told Inv-loop μ-loop
 enum-told c = search needs
 
--- src/reader.rt:41:13
 same-length : tie.Need-same-length Inv-loop μ-loop
 same-length c = search needs
 
--- src/reader.rt:41:13
 returns : tie.Need-returns Inv-loop μ-loop
 returns c = symbols-refused _ _ _ _ _ _ _ _ (omega arith) (c .before .before .before .before .loop .inv .2) (c .before .before .symbol .ensures) (c .enum-told .given .1)
 
--- src/reader.rt:43:21
 symbol-word-requires : tie.Need-symbol-word-requires Inv-loop μ-loop
 symbol-word-requires c κs = symbol-low _ _ _ _ (omega arith) (omega arith) (c .before .before .before .symbol .ensures) (c .before .n .given .1)
 
--- src/reader.rt:43:9
 mul-tables : tie.Need-mul-tables Inv-loop μ-loop
 mul-tables c = search needs
 
--- src/reader.rt:43:9
 slice-write-tables : tie.Need-slice-write-tables Inv-loop μ-loop
 slice-write-tables c = search needs
 
--- src/reader.rt:44:9
 add-p : tie.Need-add-p Inv-loop μ-loop
 add-p c = search needs
 
--- src/reader.rt:45:9
 sub-left : tie.Need-sub-left Inv-loop μ-loop
 sub-left c = search needs
 
--- src/reader.rt:38:5
 loop-less : tie.Need-loop-less Inv-loop μ-loop
 loop-less c = search needs
 
--- src/reader.rt:38:5
 loop-again : tie.Need-loop-again Inv-loop μ-loop
 loop-again c = (omega arith, simp length-set (omega arith), symbols-more _ _ _ _ _ _ _ _ (omega arith) (c .before .before .before .before .before .before .loop .inv .2) (c .before .before .before .before .symbol .ensures) (c .before .before .n .given .1) (c .symbol-word .ensures))
 
--- src/reader.rt:48:17
 end-word-requires : tie.Need-end-word-requires Inv-loop μ-loop
 end-word-requires c κs = search needs
 
--- src/reader.rt:48:5
 mul-tables-2 : tie.Need-mul-tables-2 Inv-loop μ-loop
 mul-tables-2 c = search needs
 
--- src/reader.rt:48:5
 slice-write-tables-2 : tie.Need-slice-write-tables-2 Inv-loop μ-loop
 slice-write-tables-2 c = search needs
 
--- src/reader.rt:49:17
 add-t20 : tie.Need-add-t20 Inv-loop μ-loop
 add-t20 c = search needs
 
--- src/reader.rt:22:1
 same-length-2 : tie.Need-same-length-2 Inv-loop μ-loop
 same-length-2 c = search needs
 
--- src/reader.rt:22:1
 returns-2 : tie.Need-returns-2 Inv-loop μ-loop
 returns-2 c = symbols-done _ _ _ _ _ _ _ _ (omega arith) (c .before .before .loop .inv .2) (c .end-word .ensures)
 

@@ -1,94 +1,70 @@
+-- `number::Cursor::number` meets its contract.
 use Rattle.number.proofs.NumberLaws.{none, one, cut, long, two, cut2, long2, high, three}
 use native.Mathlib.Omega.{arith}
 use borrow.Author.Needs.{needs}
 use Rattle.number.proofs.Cursor.number.Statement.{statement}
 use Rattle.number.proofs.Cursor.number.Tie as tie
-use Rattle.number.proofs.Cursor.number.Reads as reads
-use Rattle.number.proofs.Cursor.number.Lts as lts
-use Rattle.base.proofs.wide.Reads as wide-reads
-use Rattle.number.proofs.join.Reads as join-reads
 
--- src/number.rt:43:13
 returns : tie.Need-returns
 returns c = none _ _ (omega arith)
 
--- src/number.rt:45:30
 shared-slice-read-wide : tie.Need-shared-slice-read-wide
 shared-slice-read-wide c = search needs
 
--- src/number.rt:45:13
 wide-requires : tie.Need-wide-requires
 wide-requires c κs = search needs
 
--- src/number.rt:46:19
 add-at1 : tie.Need-add-at1
 add-at1 c = search needs
 
--- src/number.rt:48:13
 returns-2 : tie.Need-returns-2
 returns-2 c = one _ _ (omega arith) (omega arith) (omega arith)
 
--- src/number.rt:51:13
 returns-3 : tie.Need-returns-3
 returns-3 c = cut _ _ (omega arith) (omega arith) (omega arith)
 
--- src/number.rt:53:33
 shared-slice-read-wide-2 : tie.Need-shared-slice-read-wide-2
 shared-slice-read-wide-2 c = search needs
 
--- src/number.rt:53:13
 wide-requires-2 : tie.Need-wide-requires-2
 wide-requires-2 c κs = search needs
 
--- src/number.rt:54:19
 add-at2 : tie.Need-add-at2
 add-at2 c = search needs
 
--- src/number.rt:56:13
 returns-4 : tie.Need-returns-4
 returns-4 c = long _ _ (omega arith) (omega arith) (omega arith) (omega arith)
 
--- src/number.rt:59:17
 join-requires : tie.Need-join-requires
 join-requires c κs = search needs
 
--- src/number.rt:60:13
 returns-5 : tie.Need-returns-5
 returns-5 c = two _ _ (omega arith) (omega arith) (omega arith) (omega arith) (omega arith) (omega arith)
 
--- src/number.rt:63:13
 returns-6 : tie.Need-returns-6
 returns-6 c = cut2 _ _ (omega arith) (omega arith) (omega arith) (omega arith) (omega arith)
 
--- src/number.rt:65:31
 shared-slice-read-wide-3 : tie.Need-shared-slice-read-wide-3
 shared-slice-read-wide-3 c = search needs
 
--- src/number.rt:65:13
 wide-requires-3 : tie.Need-wide-requires-3
 wide-requires-3 c κs = search needs
 
--- src/number.rt:67:13
 returns-7 : tie.Need-returns-7
 returns-7 c = long2 _ _ (omega arith) (omega arith) (omega arith) (omega arith) (omega arith) (omega arith)
 
--- src/number.rt:70:13
 returns-8 : tie.Need-returns-8
 returns-8 c = high _ _ (omega arith) (omega arith) (omega arith) (omega arith) (omega arith) (omega arith)
 
--- src/number.rt:72:13
 join-requires-2 : tie.Need-join-requires-2
 join-requires-2 c κs = search needs
 
--- src/number.rt:73:13
 join-requires-3 : tie.Need-join-requires-3
 join-requires-3 c κs = search needs
 
--- src/number.rt:74:37
 add-t12 : tie.Need-add-t12
 add-t12 c = search needs
 
--- src/number.rt:38:5
 returns-9 : tie.Need-returns-9
 returns-9 c = three _ _ (omega arith) (omega arith) (omega arith) (omega arith) (omega arith) (omega arith) (omega arith) (cc)
 

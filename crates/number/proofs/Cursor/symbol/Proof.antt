@@ -1,38 +1,27 @@
+-- `number::Cursor::symbol` meets its contract.
 use Rattle.number.proofs.NumberLaws.{symbol-refused, symbol-illegal, symbol-in}
-use native.Mathlib.Omega.{arith}
 use borrow.Author.Needs.{needs}
 use Rattle.number.proofs.Cursor.symbol.Statement.{statement}
 use Rattle.number.proofs.Cursor.symbol.Tie as tie
-use Rattle.number.proofs.Cursor.symbol.Reads as reads
-use Rattle.number.proofs.Cursor.symbol.Lts as lts
-use Rattle.number.proofs.Cursor.number.Reads as number-reads
-use Rattle.number.proofs.is_legal.Reads as is-legal-reads
 
--- src/number.rt:114:13
 number-requires : tie.Need-number-requires
 number-requires c κs = search needs
 
--- src/number.rt:115:25
 enum-known-n : tie.Need-enum-known-n
 enum-known-n c = search needs
 
--- src/number.rt:116:13
 enum-told : tie.Need-enum-told
 enum-told c = search needs
 
--- src/number.rt:116:13
 returns : tie.Need-returns
 returns c = symbol-refused _ _ _ _ (c .before .before .number .ensures) (c .enum-told .given .1)
 
--- src/number.rt:118:13
 is-legal-requires : tie.Need-is-legal-requires
 is-legal-requires c κs = search needs
 
--- src/number.rt:119:13
 returns-2 : tie.Need-returns-2
 returns-2 c = symbol-illegal _ _ _ _ (c .before .before .before .before .before .number .ensures) (c .before .before .before .n .given .1) (c .before .is-legal .ensures) (c .if1 .taken)
 
--- src/number.rt:110:5
 returns-3 : tie.Need-returns-3
 returns-3 c = symbol-in _ _ _ _ (c .before .before .before .before .before .number .ensures) (c .before .before .before .n .given .1) (c .before .is-legal .ensures) (c .if1 .left)
 

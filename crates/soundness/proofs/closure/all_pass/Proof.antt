@@ -1,20 +1,16 @@
-use lib.ListN.{length-set}
+-- `soundness::closure::all_pass` meets its contract.
 use native.Mathlib.Omega.{arith}
 use borrow.Author.Needs.{needs}
-use mathlib.Core.Path.{_≡_, refl}
+use mathlib.Core.Path.{_≡_}
 use Prim.Native.Nat.{_-_}
 use Rattle.base.specs.Bits.{testBit}
 use Rattle.grammar.specs.Grammar.{suffix}
-use Rattle.grammar.specs.Tables.{grammarIn, Fits}
+use Rattle.grammar.specs.Tables.{grammarIn}
 use Rattle.grammar.proofs.WordLaws.{facing-of}
 use Rattle.soundness.specs.Closures.{passes}
 use Rattle.soundness.proofs.ClosureSteps.{pass-end, pass-past, pass-token-stops, pass-token, pass-stops, pass-goes}
 use Rattle.soundness.proofs.closure.all_pass.Statement.{statement}
 use Rattle.soundness.proofs.closure.all_pass.Tie as tie
-use Rattle.soundness.proofs.closure.all_pass.Reads as reads
-use Rattle.soundness.proofs.closure.all_pass.Lts as lts
-use Rattle.base.proofs.has.Reads as has-reads
-use Rattle.grammar.proofs.place_at.Reads as place-at-reads
 
 abbrev Inv-loop : tie.InvT-loop
 Inv-loop tables tokens set first p₀ p =
@@ -23,63 +19,48 @@ Inv-loop tables tokens set first p₀ p =
 abbrev μ-loop : tie.MeasureT-loop
 μ-loop tables tokens set first p₀ p = 256 - p
 
--- src/closure.rt:18:5
 loop-holds : tie.Need-loop-holds Inv-loop μ-loop
 loop-holds c = search needs
 
--- src/closure.rt:19:13
 place-at-requires : tie.Need-place-at-requires Inv-loop μ-loop
 place-at-requires c κs = c .before .before .before .pre .long
 
--- src/closure.rt:21:9
 add-p : tie.Need-add-p Inv-loop μ-loop
 add-p c = search needs
 
--- src/closure.rt:23:28
 enum-told : tie.Need-enum-told Inv-loop μ-loop
 enum-told c = search needs
 
--- src/closure.rt:23:28
 returns : tie.Need-returns Inv-loop μ-loop
 returns c = pass-end _ _ _ _ _ (c .before .before .before .before .loop .inv) (facing-of _ _ (c .before .before .place-at .ensures) (c .enum-told .given .1))
 
--- src/closure.rt:25:20
 enum-told-2 : tie.Need-enum-told-2 Inv-loop μ-loop
 enum-told-2 c = search needs
 
--- src/closure.rt:26:21
 returns-2 : tie.Need-returns-2 Inv-loop μ-loop
 returns-2 c = pass-token-stops _ _ _ _ _ (c .before .before .before .before .before .loop .inv) (facing-of _ _ (c .before .before .before .place-at .ensures) (c .before .enum-told2 .given .1)) (c .if1 .taken)
 
--- src/closure.rt:18:5
 loop-less : tie.Need-loop-less Inv-loop μ-loop
 loop-less c = search needs
 
--- src/closure.rt:18:5
 loop-again : tie.Need-loop-again Inv-loop μ-loop
 loop-again c = pass-token _ _ _ _ _ (c .before .before .before .before .before .loop .inv) (facing-of _ _ (c .before .before .before .place-at .ensures) (c .before .enum-told2 .given .1)) (c .if1 .left)
 
--- src/closure.rt:29:33
 enum-known-symbol : tie.Need-enum-known-symbol Inv-loop μ-loop
 enum-known-symbol c = search needs
 
--- src/closure.rt:30:21
 has-requires : tie.Need-has-requires Inv-loop μ-loop
 has-requires c κs = let n = c .before .before .before .before .before .before .before .pre .named _ _ (facing-of _ _ (c .before .before .before .place-at .ensures) (c .before .symbol .given .1)) in omega (arith, c .before .before .before .before .before .before .before .pre .few)
 
--- src/closure.rt:31:21
 returns-3 : tie.Need-returns-3 Inv-loop μ-loop
 returns-3 c = pass-stops _ _ _ _ _ (c .before .before .before .before .before .before .before .loop .inv) (facing-of _ _ (c .before .before .before .before .before .place-at .ensures) (c .before .before .before .symbol .given .1)) (c .before .has .ensures) (c .if2 .taken)
 
--- src/closure.rt:18:5
 loop-less-2 : tie.Need-loop-less-2 Inv-loop μ-loop
 loop-less-2 c = search needs
 
--- src/closure.rt:18:5
 loop-again-2 : tie.Need-loop-again-2 Inv-loop μ-loop
 loop-again-2 c = pass-goes _ _ _ _ _ (c .before .before .before .before .before .before .before .loop .inv) (facing-of _ _ (c .before .before .before .before .before .place-at .ensures) (c .before .before .before .symbol .given .1)) (c .before .has .ensures) (c .if2 .left)
 
--- src/closure.rt:13:1
 returns-4 : tie.Need-returns-4 Inv-loop μ-loop
 returns-4 c = pass-past _ _ _ _ _ (c .before .loop .inv) (omega arith)
 

@@ -1,14 +1,12 @@
-use mathlib.Core.Path.{_≡_, sym, _∙_}
+-- `soundness::closure::derivers` meets its contract.
+use mathlib.Core.Path.{sym, _∙_}
 use Prim.Native.Nat.{_<_, _-_, _^_}
 use native.Mathlib.Omega.{arith}
-use Rattle.grammar.specs.Tables.{grammarIn, nonterminalsIn, Fits}
+use Rattle.grammar.specs.Tables.{grammarIn, nonterminalsIn}
 use Rattle.grammar.proofs.WordLaws.{length-starts-in}
 use Rattle.soundness.proofs.ClosureSteps.{Sound, sound-none, pass-keeps, pass-ge, pass-fits, closure-exact}
 use Rattle.soundness.proofs.closure.derivers.Statement.{statement}
 use Rattle.soundness.proofs.closure.derivers.Tie as tie
-use Rattle.soundness.proofs.closure.derivers.Reads as reads
-use Rattle.soundness.proofs.closure.derivers.Lts as lts
-use Rattle.soundness.proofs.closure.pass.Reads as pass-reads
 
 abbrev Inv-loop : tie.InvT-loop
 Inv-loop tables tokens set₀ set = (set < 2 ^ 32) × Sound tokens (grammarIn tables) set
@@ -16,23 +14,18 @@ Inv-loop tables tokens set₀ set = (set < 2 ^ 32) × Sound tokens (grammarIn ta
 abbrev μ-loop : tie.MeasureT-loop
 μ-loop tables tokens set₀ set = 2 ^ 32 - set
 
--- src/closure.rt:91:5
 loop-holds : tie.Need-loop-holds Inv-loop μ-loop
 loop-holds c = (omega arith, sound-none _ _)
 
--- src/closure.rt:92:13
 pass-requires : tie.Need-pass-requires Inv-loop μ-loop
 pass-requires c κs = c .before .before .pre
 
--- src/closure.rt:94:13
 returns : tie.Need-returns Inv-loop μ-loop
 returns c = closure-exact _ _ _ _ (length-starts-in _) (c .before .before .loop .inv .1) (sym (c .if1 .taken) ∙ c .before .pass .ensures)
 
--- src/closure.rt:91:5
 loop-less : tie.Need-loop-less Inv-loop μ-loop
 loop-less c = omega (arith, pass-ge (c .before .before .before .before .args .tokens) (grammarIn (c .before .before .before .before .args .tables .now)) (nonterminalsIn (c .before .before .before .before .args .tables .now)) (c .before .before .loop .set), pass-fits (c .before .before .before .before .args .tokens) (grammarIn (c .before .before .before .before .args .tables .now)) (nonterminalsIn (c .before .before .before .before .args .tables .now)) (c .before .before .loop .set) (c .before .before .before .before .pre .few) (c .before .before .loop .inv .0), c .before .pass .ensures)
 
--- src/closure.rt:91:5
 loop-again : tie.Need-loop-again Inv-loop μ-loop
 loop-again c = (omega (arith, pass-fits (c .before .before .before .before .args .tokens) (grammarIn (c .before .before .before .before .args .tables .now)) (nonterminalsIn (c .before .before .before .before .args .tables .now)) (c .before .before .loop .set) (c .before .before .before .before .pre .few) (c .before .before .loop .inv .0), c .before .pass .ensures), pass-keeps _ _ _ _ (c .before .pass .ensures) (c .before .before .loop .inv .1))
 

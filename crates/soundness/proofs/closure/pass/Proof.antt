@@ -1,15 +1,12 @@
-use mathlib.Core.Path.{_≡_, refl, ap}
-use Prim.Native.Nat.{ℕ, _≤_, _-_}
+-- `soundness::closure::pass` meets its contract.
+use mathlib.Core.Path.{_≡_, ap}
+use Prim.Native.Nat.{ℕ, _≤_}
 use native.Mathlib.Omega.{arith}
-use Rattle.grammar.specs.Tables.{grammarIn, nonterminalsIn, Fits}
+use Rattle.grammar.specs.Tables.{grammarIn, nonterminalsIn}
 use Rattle.soundness.specs.Steps.{passOf}
 use Rattle.soundness.proofs.ClosureSteps.{pass-more, pass-done}
 use Rattle.soundness.proofs.closure.pass.Statement.{statement}
 use Rattle.soundness.proofs.closure.pass.Tie as tie
-use Rattle.soundness.proofs.closure.pass.Reads as reads
-use Rattle.soundness.proofs.closure.pass.Lts as lts
-use Rattle.grammar.proofs.nonterminals.Reads as nonterminals-reads
-use Rattle.soundness.proofs.closure.step.Reads as step-reads
 
 abbrev Inv-loop : tie.InvT-loop
 Inv-loop tables tokens from set₀ a₀ set a =
@@ -18,31 +15,24 @@ Inv-loop tables tokens from set₀ a₀ set a =
 abbrev μ-loop : tie.MeasureT-loop
 μ-loop tables tokens from set₀ a₀ set a = a
 
--- src/closure.rt:77:9
 nonterminals-requires : tie.Need-nonterminals-requires Inv-loop μ-loop
 nonterminals-requires c κs = c .before .pre .long
 
--- src/closure.rt:78:5
 loop-holds : tie.Need-loop-holds Inv-loop μ-loop
 loop-holds c = (omega (arith, c .nonterminals .ensures), ap (λ (n : ℕ). passOf (c .before .before .args .tokens) (grammarIn (c .before .before .args .tables .now)) n (c .before .before .args .from)) (c .nonterminals .ensures))
 
--- src/closure.rt:79:9
 sub-a : tie.Need-sub-a Inv-loop μ-loop
 sub-a c = omega arith
 
--- src/closure.rt:80:9
 step-requires : tie.Need-step-requires Inv-loop μ-loop
 step-requires c κs = (c .before .before .before .before .pre, omega arith)
 
--- src/closure.rt:78:5
 loop-less : tie.Need-loop-less Inv-loop μ-loop
 loop-less c = omega arith
 
--- src/closure.rt:78:5
 loop-again : tie.Need-loop-again Inv-loop μ-loop
 loop-again c = (omega arith, pass-more _ _ _ _ (omega arith) (c .before .before .loop .inv .1) (c .step .ensures))
 
--- src/closure.rt:72:1
 returns : tie.Need-returns Inv-loop μ-loop
 returns c = pass-done _ _ _ _ (omega arith) (c .before .loop .inv .1)
 

@@ -1,22 +1,17 @@
-use lib.ListN.{length-set}
+-- `soundness::closure::some_passes` meets its contract.
 use native.Mathlib.Omega.{arith}
 use borrow.Author.Needs.{needs}
-use mathlib.Core.Path.{_≡_, refl}
+use mathlib.Core.Path.{_≡_}
 use Prim.Native.Nat.{_-_}
 use lib.Seq.{slice}
 use Rattle.base.specs.Bits.{testBit}
 use Rattle.base.specs.Rounds.{anyOf}
 use Rattle.grammar.specs.Grammar.{suffix}
-use Rattle.grammar.specs.Tables.{grammarIn, Fits}
+use Rattle.grammar.specs.Tables.{grammarIn}
 use Rattle.soundness.specs.Closures.{passes, derivingRound}
 use Rattle.soundness.proofs.ClosureSteps.{round-in, rule-within, any-none, any-found, any-later}
 use Rattle.soundness.proofs.closure.some_passes.Statement.{statement}
 use Rattle.soundness.proofs.closure.some_passes.Tie as tie
-use Rattle.soundness.proofs.closure.some_passes.Reads as reads
-use Rattle.soundness.proofs.closure.some_passes.Lts as lts
-use Rattle.grammar.proofs.first_place.Reads as first-place-reads
-use Rattle.grammar.proofs.rule_at.Reads as rule-at-reads
-use Rattle.soundness.proofs.closure.all_pass.Reads as all-pass-reads
 
 abbrev Inv-loop : tie.InvT-loop
 Inv-loop tables tokens set a start end k₀ k =
@@ -25,47 +20,36 @@ Inv-loop tables tokens set a start end k₀ k =
 abbrev μ-loop : tie.MeasureT-loop
 μ-loop tables tokens set a start end k₀ k = end - k
 
--- src/closure.rt:44:9
 rule-at-requires : tie.Need-rule-at-requires Inv-loop μ-loop
 rule-at-requires c κs = search needs
 
--- src/closure.rt:45:40
 add-rule-at : tie.Need-add-rule-at Inv-loop μ-loop
 add-rule-at c = search needs
 
--- src/closure.rt:45:9
 rule-at-requires-2 : tie.Need-rule-at-requires-2 Inv-loop μ-loop
 rule-at-requires-2 c κs = search needs
 
--- src/closure.rt:47:5
 loop-holds : tie.Need-loop-holds Inv-loop μ-loop
 loop-holds c = round-in _ _ _ _ (c .before .before .before .pre .1) (c .before .rule-at .ensures) (c .rule-at2 .ensures)
 
--- src/closure.rt:48:13
 first-place-requires : tie.Need-first-place-requires Inv-loop μ-loop
 first-place-requires c κs = let h = rule-within _ (c .before .before .before .before .before .pre .0) _ (c .before .before .before .before .before .pre .1) (c .before .before .rule-at2 .ensures) in omega (arith, c .before .before .before .before .before .pre .0 .long)
 
--- src/closure.rt:49:12
 all-pass-requires : tie.Need-all-pass-requires Inv-loop μ-loop
 all-pass-requires c κs = search needs
 
--- src/closure.rt:50:13
 returns : tie.Need-returns Inv-loop μ-loop
 returns c = any-found (c .before .before .before .before .before .before .before .before .args .tables .now) (λ f. passes (c .before .before .before .before .before .before .before .before .args .tokens) (testBit (c .before .before .before .before .before .before .before .before .args .set)) (suffix (grammarIn (c .before .before .before .before .before .before .before .before .args .tables .now)) f)) (c .before .before .before .before .loop .k) (c .before .before .before .before .before .rule-at2 .result) (c .before .before .before .before .loop .inv) (omega arith) (let h = rule-within _ (c .before .before .before .before .before .before .before .before .pre .0) _ (c .before .before .before .before .before .before .before .before .pre .1) (c .before .before .before .before .before .rule-at2 .ensures) in omega (arith, c .before .before .before .before .before .before .before .before .pre .0 .long)) (c .before .before .first-place .ensures) (c .before .all-pass .ensures) (c .if1 .taken)
 
--- src/closure.rt:52:9
 add-k : tie.Need-add-k Inv-loop μ-loop
 add-k c = search needs
 
--- src/closure.rt:47:5
 loop-less : tie.Need-loop-less Inv-loop μ-loop
 loop-less c = search needs
 
--- src/closure.rt:47:5
 loop-again : tie.Need-loop-again Inv-loop μ-loop
 loop-again c = any-later (c .before .before .before .before .before .before .before .before .args .tables .now) (λ f. passes (c .before .before .before .before .before .before .before .before .args .tokens) (testBit (c .before .before .before .before .before .before .before .before .args .set)) (suffix (grammarIn (c .before .before .before .before .before .before .before .before .args .tables .now)) f)) (c .before .before .before .before .loop .k) (c .before .before .before .before .before .rule-at2 .result) (c .before .before .before .before .loop .inv) (omega arith) (let h = rule-within _ (c .before .before .before .before .before .before .before .before .pre .0) _ (c .before .before .before .before .before .before .before .before .pre .1) (c .before .before .before .before .before .rule-at2 .ensures) in omega (arith, c .before .before .before .before .before .before .before .before .pre .0 .long)) (c .before .before .first-place .ensures) (c .before .all-pass .ensures) (c .if1 .left)
 
--- src/closure.rt:40:1
 returns-2 : tie.Need-returns-2 Inv-loop μ-loop
 returns-2 c = any-none (c .before .before .before .before .before .args .tables .now) (λ f. passes (c .before .before .before .before .before .args .tokens) (testBit (c .before .before .before .before .before .args .set)) (suffix (grammarIn (c .before .before .before .before .before .args .tables .now)) f)) (c .before .loop .k) (c .before .before .rule-at2 .result) (c .before .loop .inv) (omega arith)
 

@@ -1,34 +1,24 @@
+-- `soundness::closure::step` meets its contract.
 use Rattle.soundness.proofs.ClosureSteps.{step-has, step-adds, step-stays}
 use borrow.Author.Needs.{needs}
 use Rattle.soundness.proofs.closure.step.Statement.{statement}
 use Rattle.soundness.proofs.closure.step.Tie as tie
-use Rattle.soundness.proofs.closure.step.Reads as reads
-use Rattle.soundness.proofs.closure.step.Lts as lts
-use Rattle.base.proofs.has.Reads as has-reads
-use Rattle.base.proofs.with.Reads as with-reads
-use Rattle.soundness.proofs.closure.some_passes.Reads as some-passes-reads
 
--- src/closure.rt:62:8
 has-requires : tie.Need-has-requires
 has-requires c κs = search needs
 
--- src/closure.rt:63:9
 returns : tie.Need-returns
 returns c = step-has _ _ _ _ (c .before .has .ensures) (c .if1 .taken)
 
--- src/closure.rt:65:8
 some-passes-requires : tie.Need-some-passes-requires
 some-passes-requires c κs = search needs
 
--- src/closure.rt:66:9
 with-requires : tie.Need-with-requires
 with-requires c κs = search needs
 
--- src/closure.rt:66:9
 returns-2 : tie.Need-returns-2
 returns-2 c = step-adds _ _ _ _ (c .before .before .before .before .has .ensures) (c .before .before .before .if1 .left) (c .before .before .some-passes .ensures) (c .before .if2 .taken) (c .with .ensures)
 
--- src/closure.rt:58:1
 returns-3 : tie.Need-returns-3
 returns-3 c = step-stays _ _ _ _ (c .before .before .before .has .ensures) (c .before .before .if1 .left) (c .before .some-passes .ensures) (c .if2 .left)
 

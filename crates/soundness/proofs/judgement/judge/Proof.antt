@@ -1,33 +1,24 @@
+-- `soundness::judgement::judge` meets its contract.
 use Rattle.soundness.proofs.Judging.{judge-first, judge-second}
 use borrow.Author.Needs.{needs}
 use Rattle.soundness.proofs.judgement.judge.Statement.{statement}
 use Rattle.soundness.proofs.judgement.judge.Tie as tie
-use Rattle.soundness.proofs.judgement.judge.Reads as reads
-use Rattle.soundness.proofs.judgement.judge.Lts as lts
-use Rattle.soundness.proofs.judgement.left_recursive.Reads as left-recursive-reads
-use Rattle.soundness.proofs.judgement.unproductive.Reads as unproductive-reads
 
--- src/judgement.rt:100:9
 unproductive-requires : tie.Need-unproductive-requires
 unproductive-requires c κs = search needs
 
--- src/judgement.rt:102:26
 enum-known-first : tie.Need-enum-known-first
 enum-known-first c = search needs
 
--- src/judgement.rt:103:27
 enum-told : tie.Need-enum-told
 enum-told c = search needs
 
--- src/judgement.rt:103:27
 left-recursive-requires : tie.Need-left-recursive-requires
 left-recursive-requires c κs = search needs
 
--- src/judgement.rt:96:1
 returns : tie.Need-returns
 returns c = judge-first _ (c .before .before .before .unproductive .ensures) (c .before .first .given .1)
 
--- src/judgement.rt:96:1
 returns-2 : tie.Need-returns-2
 returns-2 c = judge-second _ (c .before .before .before .unproductive .ensures) (c .before .enum-told .given .1) (c .left-recursive .ensures)
 

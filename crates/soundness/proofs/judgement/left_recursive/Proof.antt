@@ -1,49 +1,34 @@
+-- `soundness::judgement::left_recursive` meets its contract.
 use Rattle.soundness.proofs.Judging.{recursive-is}
 use mathlib.Core.Path.{_∙_}
 use borrow.Author.Needs.{needs}
 use Rattle.soundness.proofs.judgement.left_recursive.Statement.{statement}
 use Rattle.soundness.proofs.judgement.left_recursive.Tie as tie
-use Rattle.soundness.proofs.judgement.left_recursive.Reads as reads
-use Rattle.soundness.proofs.judgement.left_recursive.Lts as lts
-use Rattle.grammar.proofs.nonterminals.Reads as nonterminals-reads
-use Rattle.soundness.proofs.closure.derivers.Reads as derivers-reads
-use Rattle.soundness.proofs.judgement.lowest_own.Reads as lowest-own-reads
-use Rattle.soundness.proofs.left.begin.Reads as begin-reads
-use Rattle.soundness.proofs.left.reach.Reads as reach-reads
 
--- src/judgement.rt:87:9
 derivers-requires : tie.Need-derivers-requires
 derivers-requires c κs = search needs
 
--- src/judgement.rt:88:9
 nonterminals-requires : tie.Need-nonterminals-requires
 nonterminals-requires c κs = search needs
 
--- src/judgement.rt:90:42
 slice-aggregate-begin : tie.Need-slice-aggregate-begin
 slice-aggregate-begin c = search needs
 
--- src/judgement.rt:90:5
 begin-requires : tie.Need-begin-requires
 begin-requires c κs = search needs
 
--- src/judgement.rt:91:24
 slice-aggregate-reach : tie.Need-slice-aggregate-reach
 slice-aggregate-reach c = search needs
 
--- src/judgement.rt:91:5
 reach-requires : tie.Need-reach-requires
 reach-requires c κs = search needs
 
--- src/judgement.rt:92:16
 slice-aggregate-lowest-own : tie.Need-slice-aggregate-lowest-own
 slice-aggregate-lowest-own c = search needs
 
--- src/judgement.rt:92:5
 lowest-own-requires : tie.Need-lowest-own-requires
 lowest-own-requires c κs = search needs
 
--- src/judgement.rt:83:1
 returns : tie.Need-returns
 returns c = c .lowest-own .ensures ∙ recursive-is _ (c .before .before .before .before .before .before .before .before .before .before .before .pre) _ _ _ (c .before .before .before .before .before .before .before .before .before .derivers .ensures) (c .before .before .before .before .before .before .before .before .nonterminals .ensures) (c .before .before .before .before .before .before .begin .kept .1 .1 .0) (c .before .before .before .before .before .before .begin .ensures) (c .before .before .before .reach .ensures)
 

@@ -1,21 +1,17 @@
+-- `soundness::judgement::lowest_missing` meets its contract.
 use borrow.Author.Needs.{needs}
 use mathlib.Core.Path.{_≡_, refl, ap, sym, _∙_}
 use mathlib.Core.Bool.{not}
 use Prim.Native.Nat.{_≤_, _-_}
 use native.Mathlib.Nat.{sub-zero}
 use native.Mathlib.Omega.{arith}
-use lib.ListN.{length, getD, length-set}
-use borrow.Author.Tests.{not-true, not-false}
 use Rattle.base.specs.Bits.{testBit}
 use Rattle.base.specs.Search.{lowestFrom}
 use Rattle.base.proofs.Lowest.{lowest-none, lowest-hit, lowest-miss}
-use Rattle.number.specs.declared.Refusal.the-variants.{Unproductive, LeftRecursive}
+use Rattle.number.specs.declared.Refusal.the-variants.{Unproductive}
 use Rattle.soundness.specs.Check.{refuseAt}
 use Rattle.soundness.proofs.judgement.lowest_missing.Statement.{statement}
 use Rattle.soundness.proofs.judgement.lowest_missing.Tie as tie
-use Rattle.soundness.proofs.judgement.lowest_missing.Reads as reads
-use Rattle.soundness.proofs.judgement.lowest_missing.Lts as lts
-use Rattle.base.proofs.has.Reads as has-reads
 
 abbrev Inv-loop : tie.InvT-loop
 Inv-loop set n a₀ a = (a ≤ n) × (lowestFrom (λ a. not (testBit set a)) a (n - a) ≡ lowestFrom (λ a. not (testBit set a)) 0 n)
@@ -23,31 +19,24 @@ Inv-loop set n a₀ a = (a ≤ n) × (lowestFrom (λ a. not (testBit set a)) a (
 abbrev μ-loop : tie.MeasureT-loop
 μ-loop set n a₀ a = n - a
 
--- src/judgement.rt:48:5
 loop-holds : tie.Need-loop-holds Inv-loop μ-loop
 loop-holds c = (omega arith, rw sub-zero refl)
 
--- src/judgement.rt:49:13
 has-requires : tie.Need-has-requires Inv-loop μ-loop
 has-requires c κs = search needs
 
--- src/judgement.rt:50:13
 returns : tie.Need-returns Inv-loop μ-loop
 returns c = ap (refuseAt Unproductive) (lowest-hit (λ a. not (testBit (c .before .before .before .before .args .set) a)) _ _ (c .before .before .before .loop .inv .1) (omega arith) (ap not (sym (c .before .has .ensures)) ∙ c .if1 .taken))
 
--- src/judgement.rt:52:9
 add-a : tie.Need-add-a Inv-loop μ-loop
 add-a c = search needs
 
--- src/judgement.rt:48:5
 loop-less : tie.Need-loop-less Inv-loop μ-loop
 loop-less c = search needs
 
--- src/judgement.rt:48:5
 loop-again : tie.Need-loop-again Inv-loop μ-loop
 loop-again c = (omega arith, ap (lowestFrom (λ a. not (testBit (c .before .before .before .before .args .set) a)) _) (omega arith) ∙ lowest-miss (λ a. not (testBit (c .before .before .before .before .args .set) a)) _ _ (c .before .before .before .loop .inv .1) (omega arith) (ap not (sym (c .before .has .ensures)) ∙ c .if1 .left))
 
--- src/judgement.rt:43:1
 returns-2 : tie.Need-returns-2 Inv-loop μ-loop
 returns-2 c = ap (refuseAt Unproductive) (lowest-none (λ a. not (testBit (c .before .before .args .set) a)) _ _ (c .before .loop .inv .1) (omega arith))
 

@@ -1,21 +1,17 @@
+-- `soundness::judgement::lowest_own` meets its contract.
 use borrow.Author.Needs.{needs}
 use mathlib.Core.Path.{_≡_, refl, ap, sym, _∙_}
-use mathlib.Core.Bool.{not}
 use Prim.Native.Nat.{_≤_, _-_}
 use native.Mathlib.Nat.{sub-zero}
 use native.Mathlib.Omega.{arith}
-use lib.ListN.{length, getD, length-set}
-use borrow.Author.Tests.{not-true, not-false}
+use lib.ListN.{getD}
 use Rattle.base.specs.Bits.{testBit}
 use Rattle.base.specs.Search.{lowestFrom}
 use Rattle.base.proofs.Lowest.{lowest-none, lowest-hit, lowest-miss}
-use Rattle.number.specs.declared.Refusal.the-variants.{Unproductive, LeftRecursive}
+use Rattle.number.specs.declared.Refusal.the-variants.{LeftRecursive}
 use Rattle.soundness.specs.Check.{refuseAt}
 use Rattle.soundness.proofs.judgement.lowest_own.Statement.{statement}
 use Rattle.soundness.proofs.judgement.lowest_own.Tie as tie
-use Rattle.soundness.proofs.judgement.lowest_own.Reads as reads
-use Rattle.soundness.proofs.judgement.lowest_own.Lts as lts
-use Rattle.base.proofs.has.Reads as has-reads
 
 abbrev Inv-loop : tie.InvT-loop
 Inv-loop rows n a₀ a = (a ≤ n) × (lowestFrom (λ a. testBit (getD rows a 0) a) a (n - a) ≡ lowestFrom (λ a. testBit (getD rows a 0) a) 0 n)
@@ -23,39 +19,30 @@ Inv-loop rows n a₀ a = (a ≤ n) × (lowestFrom (λ a. testBit (getD rows a 0)
 abbrev μ-loop : tie.MeasureT-loop
 μ-loop rows n a₀ a = n - a
 
--- src/judgement.rt:63:5
 loop-holds : tie.Need-loop-holds Inv-loop μ-loop
 loop-holds c = (omega arith, rw sub-zero refl)
 
--- src/judgement.rt:64:22
 mul-has : tie.Need-mul-has Inv-loop μ-loop
 mul-has c = search needs
 
--- src/judgement.rt:64:22
 shared-slice-read-has : tie.Need-shared-slice-read-has Inv-loop μ-loop
 shared-slice-read-has c = search needs
 
--- src/judgement.rt:64:12
 has-requires : tie.Need-has-requires Inv-loop μ-loop
 has-requires c κs = search needs
 
--- src/judgement.rt:65:13
 returns : tie.Need-returns Inv-loop μ-loop
 returns c = ap (refuseAt LeftRecursive) (lowest-hit (λ a. testBit (getD (c .before .before .before .before .before .before .args .rows .now) a 0) a) _ _ (c .before .before .before .before .loop .inv .1) (omega arith) (sym (c .before .has .ensures) ∙ c .if1 .taken))
 
--- src/judgement.rt:67:9
 add-a : tie.Need-add-a Inv-loop μ-loop
 add-a c = search needs
 
--- src/judgement.rt:63:5
 loop-less : tie.Need-loop-less Inv-loop μ-loop
 loop-less c = search needs
 
--- src/judgement.rt:63:5
 loop-again : tie.Need-loop-again Inv-loop μ-loop
 loop-again c = (omega arith, ap (lowestFrom (λ a. testBit (getD (c .before .before .before .before .before .before .args .rows .now) a 0) a) _) (omega arith) ∙ lowest-miss (λ a. testBit (getD (c .before .before .before .before .before .before .args .rows .now) a 0) a) _ _ (c .before .before .before .before .loop .inv .1) (omega arith) (sym (c .before .has .ensures) ∙ c .if1 .left))
 
--- src/judgement.rt:58:1
 returns-2 : tie.Need-returns-2 Inv-loop μ-loop
 returns-2 c = ap (refuseAt LeftRecursive) (lowest-none (λ a. testBit (getD (c .before .before .before .args .rows .now) a 0) a) _ _ (c .before .loop .inv .1) (omega arith))
 

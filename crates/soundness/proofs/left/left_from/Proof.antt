@@ -1,18 +1,11 @@
-use lib.ListN.{length-set}
+-- `soundness::left::left_from` meets its contract.
 use borrow.Author.Needs.{needs}
-use mathlib.Core.Path.{_≡_, refl}
 use Prim.Native.Nat.{_-_}
 use native.Mathlib.Omega.{arith}
-use Rattle.grammar.specs.Tables.{Fits}
 use Rattle.grammar.proofs.WordLaws.{facing-of}
 use Rattle.soundness.proofs.LeftSteps.{Onward, left-end, left-token, left-past, left-stops, left-goes}
 use Rattle.soundness.proofs.left.left_from.Statement.{statement}
 use Rattle.soundness.proofs.left.left_from.Tie as tie
-use Rattle.soundness.proofs.left.left_from.Reads as reads
-use Rattle.soundness.proofs.left.left_from.Lts as lts
-use Rattle.base.proofs.has.Reads as has-reads
-use Rattle.base.proofs.with.Reads as with-reads
-use Rattle.grammar.proofs.place_at.Reads as place-at-reads
 
 abbrev Inv-loop : tie.InvT-loop
 Inv-loop tables nullable first from set₀ p₀ set p = Onward tables nullable first from set p
@@ -20,59 +13,45 @@ Inv-loop tables nullable first from set₀ p₀ set p = Onward tables nullable f
 abbrev μ-loop : tie.MeasureT-loop
 μ-loop tables nullable first from set₀ p₀ set p = 256 - p
 
--- src/left.rt:20:5
 loop-holds : tie.Need-loop-holds Inv-loop μ-loop
 loop-holds c = search needs
 
--- src/left.rt:21:13
 place-at-requires : tie.Need-place-at-requires Inv-loop μ-loop
 place-at-requires c κs = search needs
 
--- src/left.rt:23:9
 add-p : tie.Need-add-p Inv-loop μ-loop
 add-p c = search needs
 
--- src/left.rt:25:28
 enum-told : tie.Need-enum-told Inv-loop μ-loop
 enum-told c = search needs
 
--- src/left.rt:25:28
 returns : tie.Need-returns Inv-loop μ-loop
 returns c = left-end _ _ _ _ _ _ (c .before .before .before .before .loop .inv) (facing-of _ _ (c .before .before .place-at .ensures) (c .enum-told .given .1))
 
--- src/left.rt:26:33
 enum-told-2 : tie.Need-enum-told-2 Inv-loop μ-loop
 enum-told-2 c = search needs
 
--- src/left.rt:26:33
 returns-2 : tie.Need-returns-2 Inv-loop μ-loop
 returns-2 c = left-token _ _ _ _ _ _ (c .before .before .before .before .loop .inv) (facing-of _ _ (c .before .before .place-at .ensures) (c .enum-told2 .given .1))
 
--- src/left.rt:27:33
 enum-known-symbol : tie.Need-enum-known-symbol Inv-loop μ-loop
 enum-known-symbol c = search needs
 
--- src/left.rt:28:17
 with-requires : tie.Need-with-requires Inv-loop μ-loop
 with-requires c κs = let n = c .before .before .before .before .before .before .before .pre .named _ _ (facing-of _ _ (c .before .before .before .place-at .ensures) (c .before .symbol .given .1)) in omega (arith, c .before .before .before .before .before .before .before .pre .few)
 
--- src/left.rt:29:21
 has-requires : tie.Need-has-requires Inv-loop μ-loop
 has-requires c κs = let n = c .before .before .before .before .before .before .before .before .pre .named _ _ (facing-of _ _ (c .before .before .before .before .place-at .ensures) (c .before .before .symbol .given .1)) in omega (arith, c .before .before .before .before .before .before .before .before .pre .few)
 
--- src/left.rt:30:21
 returns-3 : tie.Need-returns-3 Inv-loop μ-loop
 returns-3 c = left-stops _ _ _ _ _ _ (c .before .before .before .before .before .before .before .before .loop .inv) (facing-of _ _ (c .before .before .before .before .before .before .place-at .ensures) (c .before .before .before .before .symbol .given .1)) (c .before .before .with .ensures) (c .before .has .ensures) (c .if1 .taken)
 
--- src/left.rt:20:5
 loop-less : tie.Need-loop-less Inv-loop μ-loop
 loop-less c = search needs
 
--- src/left.rt:20:5
 loop-again : tie.Need-loop-again Inv-loop μ-loop
 loop-again c = left-goes _ _ _ _ _ _ (c .before .before .before .before .before .before .before .before .loop .inv) (facing-of _ _ (c .before .before .before .before .before .before .place-at .ensures) (c .before .before .before .before .symbol .given .1)) (c .before .before .with .ensures) (c .before .has .ensures) (c .if1 .left)
 
--- src/left.rt:14:1
 returns-4 : tie.Need-returns-4 Inv-loop μ-loop
 returns-4 c = left-past _ _ _ _ _ _ (c .before .loop .inv) (omega arith)
 

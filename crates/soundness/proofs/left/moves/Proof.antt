@@ -1,18 +1,11 @@
-use mathlib.Core.Path.{refl}
-use lib.ListN.{length-set}
+-- `soundness::left::moves` meets its contract.
 use borrow.Author.Needs.{needs}
 use Prim.Native.Nat.{_-_}
 use native.Mathlib.Omega.{arith}
-use Rattle.grammar.specs.Tables.{Fits}
 use Rattle.soundness.proofs.ClosureSteps.{rule-within}
 use Rattle.soundness.proofs.LeftSteps.{Rest, moves-begin, moves-next, moves-done}
 use Rattle.soundness.proofs.left.moves.Statement.{statement}
 use Rattle.soundness.proofs.left.moves.Tie as tie
-use Rattle.soundness.proofs.left.moves.Reads as reads
-use Rattle.soundness.proofs.left.moves.Lts as lts
-use Rattle.grammar.proofs.first_place.Reads as first-place-reads
-use Rattle.grammar.proofs.rule_at.Reads as rule-at-reads
-use Rattle.soundness.proofs.left.left_from.Reads as left-from-reads
 
 abbrev Inv-loop : tie.InvT-loop
 Inv-loop tables nullable a start end set₀ k₀ set k = Rest tables nullable a end set k
@@ -20,43 +13,33 @@ Inv-loop tables nullable a start end set₀ k₀ set k = Rest tables nullable a 
 abbrev μ-loop : tie.MeasureT-loop
 μ-loop tables nullable a start end set₀ k₀ set k = end - k
 
--- src/left.rt:43:9
 rule-at-requires : tie.Need-rule-at-requires Inv-loop μ-loop
 rule-at-requires c κs = search needs
 
--- src/left.rt:44:40
 add-rule-at : tie.Need-add-rule-at Inv-loop μ-loop
 add-rule-at c = search needs
 
--- src/left.rt:44:9
 rule-at-requires-2 : tie.Need-rule-at-requires-2 Inv-loop μ-loop
 rule-at-requires-2 c κs = search needs
 
--- src/left.rt:47:5
 loop-holds : tie.Need-loop-holds Inv-loop μ-loop
 loop-holds c = moves-begin _ _ _ _ (c .before .before .before .pre .1) (c .before .rule-at .ensures) (c .rule-at2 .ensures)
 
--- src/left.rt:48:13
 first-place-requires : tie.Need-first-place-requires Inv-loop μ-loop
 first-place-requires c κs = let h = rule-within _ (c .before .before .before .before .before .pre .0) _ (c .before .before .before .before .before .pre .1) (c .before .before .rule-at2 .ensures) in omega (arith, c .before .before .before .before .before .pre .0 .long)
 
--- src/left.rt:49:9
 left-from-requires : tie.Need-left-from-requires Inv-loop μ-loop
 left-from-requires c κs = search needs
 
--- src/left.rt:50:9
 add-k : tie.Need-add-k Inv-loop μ-loop
 add-k c = search needs
 
--- src/left.rt:47:5
 loop-less : tie.Need-loop-less Inv-loop μ-loop
 loop-less c = search needs
 
--- src/left.rt:47:5
 loop-again : tie.Need-loop-again Inv-loop μ-loop
 loop-again c = moves-next (c .before .before .before .before .before .before .before .args .tables .now) (c .before .before .before .before .before .before .before .args .nullable) (c .before .before .before .before .before .before .before .args .a) (c .before .before .before .before .rule-at2 .result) (c .before .before .before .loop .set) (c .before .before .before .loop .k) (c .before .before .before .loop .inv) _ _ (omega arith) (let h = rule-within _ (c .before .before .before .before .before .before .before .pre .0) _ (c .before .before .before .before .before .before .before .pre .1) (c .before .before .before .before .rule-at2 .ensures) in omega (arith, c .before .before .before .before .before .before .before .pre .0 .long)) (c .before .first-place .ensures) (c .left-from .ensures)
 
--- src/left.rt:39:1
 returns : tie.Need-returns Inv-loop μ-loop
 returns c = moves-done (c .before .before .before .before .before .args .tables .now) (c .before .before .before .before .before .args .nullable) (c .before .before .before .before .before .args .a) (c .before .before .rule-at2 .result) (c .before .loop .set) (c .before .loop .k) (c .before .loop .inv) (omega arith)
 

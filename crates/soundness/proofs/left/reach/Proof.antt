@@ -1,15 +1,13 @@
+-- `soundness::left::reach` meets its contract.
 use borrow.Author.Needs.{needs}
 use mathlib.Core.Path.{_≡_, refl, ap, _∙_}
 use Prim.Native.Nat.{ℕ, _≤_, _-_}
 use native.Mathlib.Omega.{arith}
-use lib.ListN.{length, length-set}
+use lib.ListN.{length}
 use Rattle.soundness.specs.Steps.{reachOf}
 use Rattle.soundness.proofs.LeftSteps.{reach-pivot, reach-empty}
 use Rattle.soundness.proofs.left.reach.Statement.{statement}
 use Rattle.soundness.proofs.left.reach.Tie as tie
-use Rattle.soundness.proofs.left.reach.Reads as reads
-use Rattle.soundness.proofs.left.reach.Lts as lts
-use Rattle.soundness.proofs.left.through.Reads as through-reads
 
 abbrev Inv-loop : tie.InvT-loop
 Inv-loop rows₀ n b₀ rows b = (b ≤ n) × (length rows ≡ length rows₀) × (rows ≡ reachOf n b rows₀)
@@ -17,48 +15,37 @@ Inv-loop rows₀ n b₀ rows b = (b ≤ n) × (length rows ≡ length rows₀) �
 abbrev μ-loop : tie.MeasureT-loop
 μ-loop rows₀ n b₀ rows b = n - b
 
--- src/left.rt:90:5
 loop-holds : tie.Need-loop-holds Inv-loop μ-loop
 unfolding reachOf
 loop-holds c = (omega arith, refl, refl)
 
--- src/left.rt:91:19
 mul-row : tie.Need-mul-row Inv-loop μ-loop
 mul-row c = search needs
 
--- src/left.rt:91:19
 slice-read-row : tie.Need-slice-read-row Inv-loop μ-loop
 slice-read-row c = search needs
 
--- src/left.rt:93:9
 add-b : tie.Need-add-b Inv-loop μ-loop
 add-b c = search needs
 
--- src/left.rt:95:13
 through-requires : tie.Need-through-requires Inv-loop μ-loop
 through-requires c κs = search needs
 
--- src/left.rt:90:5
 loop-less : tie.Need-loop-less Inv-loop μ-loop
 loop-less c = search needs
 
--- src/left.rt:90:5
 loop-again : tie.Need-loop-again Inv-loop μ-loop
 loop-again c = (omega arith, omega (arith, c .before .before .through .kept .0), reach-pivot _ _ _ _ (c .before .before .before .before .before .before .before .loop .inv .2) refl (c .before .before .before .before .if1 .taken) (c .before .before .through .ensures))
 
--- src/left.rt:90:5
 loop-less-2 : tie.Need-loop-less-2 Inv-loop μ-loop
 loop-less-2 c = search needs
 
--- src/left.rt:90:5
 loop-again-2 : tie.Need-loop-again-2 Inv-loop μ-loop
 loop-again-2 c = (omega arith, omega arith, reach-empty _ _ _ _ (c .before .before .before .loop .inv .2) refl (c .if1 .left))
 
--- src/left.rt:85:1
 same-length : tie.Need-same-length Inv-loop μ-loop
 same-length c = search needs
 
--- src/left.rt:85:1
 returns : tie.Need-returns Inv-loop μ-loop
 returns c = c .before .loop .inv .2 ∙ ap (λ (k : ℕ). reachOf (c .before .before .before .args .n) k (c .before .before .before .args .rows .now)) (omega arith)
 
