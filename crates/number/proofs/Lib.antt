@@ -1,2 +1,3 @@
 -- Laws on numbers.
 pub mod NumberLaws
+pub mod ShortestForm

@@ -1,7 +1,7 @@
 -- The number format: groups of seven bits, lowest group first; the top bit of a byte says that another follows. Only the shortest form counts: a last
 -- byte 0 behind another is refused. A third byte is at most 3: more would be above 65,535, or announce a fourth.
 use Prim.Native.Nat.{ℕ, _+_, _*_, _/_, _%_}
-use mathlib.Core.List.{List}
+use mathlib.Core.List.{List, [], _∷_}
 use mathlib.Core.Bool.{Bool, cond, _&&_}
 use lib.ListN.{length, getD}
 use lib.Dec.{ltb, leb, eqb}
@@ -35,6 +35,17 @@ numberAt s at =
     cond (leb (length s) at) (Refused (Unfinished at))
     (cond (ltb (getD s at 0) 128) (Value (getD s at 0) (cursor (at + 1)))
     (secondByte s at (getD s at 0) (at + 1)))
+
+-- the highest number that is written
+abbrev pub maxNumber : ℕ
+maxNumber = 65535
+
+-- the shortest form of a number up to that; proofs/ShortestForm says that `numberAt` reads exactly these
+unfoldable pub shortest : ℕ → List ℕ
+shortest v =
+    cond (ltb v 128) (v ∷ [])
+    (cond (ltb v 16384) ((v % 128 + 128) ∷ (v / 128) ∷ [])
+    ((v % 128 + 128) ∷ (v / 128 % 128 + 128) ∷ (v / 16384) ∷ []))
 
 -- a number that must pass a test, or a refusal of it
 unfoldable pub tested : (ℕ → Bool) → Refusal → Read → Read
