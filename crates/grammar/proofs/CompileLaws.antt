@@ -7,6 +7,7 @@ use native.Mathlib.Omega.{arith}
 use lib.ListN.{length, getD, getElem?, drop, replicate, length-append}
 use lib.Seq.{drop-at}
 use Rattle.grammar.specs.Types.{Symbol, Token, Nonterminal, End, Place}
+use Rattle.grammar.specs.Limits.{maxPlaces, endMark, nobody}
 use Rattle.grammar.specs.Decode.{Rules, AllOf, Legal, Production, Alternatives}
 use Rattle.grammar.specs.Grammar.{Grammar, at, nowhere, oneth, first, alternatives, spell, suffix, production, layOne, layEach, layAll, sizeEach, startsEach, startsAll, padded, compile, Limited}
 
@@ -77,4 +78,4 @@ unfolding compile alternatives padded
 compile-production r h a b =
     by-first (compile r) a b
     ∙ all-spelled (r .kinds) (length (r .productions)) 0 (r .productions) []
-    (replicate (255 - length (layAll 0 (r .productions))) nowhere ++ (at 32 (Token 0) ∷ [])) 0 refl (h .each) a b
+    (replicate (maxPlaces - length (layAll 0 (r .productions))) nowhere ++ (at nobody (Token endMark) ∷ [])) 0 refl (h .each) a b

@@ -12,9 +12,10 @@ use borrow.Author.Tests.{eq-eqb, ne-eqb, eqb-true, eqb-false}
 use Rattle.base.specs.Rounds.{upFrom}
 use Rattle.base.proofs.Lists.{length-upFrom}
 use Rattle.grammar.specs.Types.{Symbol, Token, Nonterminal, End, Place}
+use Rattle.grammar.specs.Limits.{endPlace}
 use Rattle.grammar.specs.Decode.{written}
 use Rattle.grammar.specs.Grammar.{Grammar, at, nowhere, placeAt, facing, alternatives}
-use Rattle.grammar.specs.Tables.{codeOf, wordOf, symbolOf, placeOf, ruleAt, startsIn, grammarIn, nonterminalsIn}
+use Rattle.grammar.specs.Tables.{placeWords, codeOf, wordOf, symbolOf, placeOf, ruleAt, startsIn, grammarIn, nonterminalsIn}
 
 -- ---- the code's ways through `symbolOf`
 pub code-end : (c : ℕ) → c ≡ 0 → End ≡ symbolOf c
@@ -78,22 +79,22 @@ unfolding placeOf symbolOf
 place-of-none = refl
 
 -- ---- reading places out of tables
-pub place-past : (t : List ℕ) (p : ℕ) {x : Place} → 255 < p → x ≡ placeOf 0 → x ≡ placeAt (grammarIn t) p
+pub place-past : (t : List ℕ) (p : ℕ) {x : Place} → endPlace < p → x ≡ placeOf 0 → x ≡ placeAt (grammarIn t) p
 unfolding grammarIn
 place-past t p h e =
-    e ∙ place-of-none ∙ sym (List·getD-eq-default (map placeOf (take 256 t)) nowhere {n = p} (omega (arith, length-map (take 256 t) placeOf, length-take 256 t)))
+    e ∙ place-of-none ∙ sym (List·getD-eq-default (map placeOf (take placeWords t)) nowhere {n = p} (omega (arith, length-map (take placeWords t) placeOf, length-take placeWords t)))
 
-pub place-in : (t : List ℕ) (p : ℕ) {x : Place} → p ≤ 255 → x ≡ placeOf (getD t p 0) → x ≡ placeAt (grammarIn t) p
+pub place-in : (t : List ℕ) (p : ℕ) {x : Place} → p ≤ endPlace → x ≡ placeOf (getD t p 0) → x ≡ placeAt (grammarIn t) p
 unfolding grammarIn
 place-in t p h e =
-    e ∙ ap placeOf (sym (getD-take 256 t p 0 (omega arith))) ∙ sym (List·getD-map placeOf (take 256 t) p 0)
-    ∙ ap (getD (map placeOf (take 256 t)) p) place-of-none
+    e ∙ ap placeOf (sym (getD-take placeWords t p 0 (omega arith))) ∙ sym (List·getD-map placeOf (take placeWords t) p 0)
+    ∙ ap (getD (map placeOf (take placeWords t)) p) place-of-none
 
 pub facing-of : (g : Grammar) (p : ℕ) {x : Place} {s : Symbol} → x ≡ placeAt g p → x .symbol ≡ s → facing g p ≡ s
 unfolding facing
 facing-of g p e f = ap (λ (x : Place). x .symbol) (sym e) ∙ f
 
-pub facing-past : (t : List ℕ) (p : ℕ) → 256 ≤ p → facing (grammarIn t) p ≡ End
+pub facing-past : (t : List ℕ) (p : ℕ) → placeWords ≤ p → facing (grammarIn t) p ≡ End
 facing-past t p h = facing-of (grammarIn t) p (place-past t p h refl) (ap (λ (x : Place). x .symbol) place-of-none)
 
 -- ---- the productions of a nonterminal in tables

@@ -15,6 +15,14 @@ use Rattle.grammar.specs.Types.{Symbol, Token, Nonterminal, End, Place}
 use Rattle.grammar.specs.Limits.{maxNonterminals}
 use Rattle.grammar.specs.Grammar.{Grammar, facing}
 
+-- the words that hold places, the end place among them
+abbrev pub placeWords : ℕ
+placeWords = 256
+
+-- the words that hold the numbers of first productions, and behind the last the number of productions
+abbrev pub ruleWords : ℕ
+ruleWords = 33
+
 abbrev pub firstsAt : ℕ
 firstsAt = 256
 
@@ -68,7 +76,7 @@ grammarIn t = record {
   kinds = getD t kindsAt 0;
   size = getD t sizeAt 0;
   starts = startsIn t (upFrom 0 (getD t nonterminalsAt 0));
-  places = map placeOf (take 256 t);
+  places = map placeOf (take placeWords t);
 }
 
 -- how many nonterminals tables say

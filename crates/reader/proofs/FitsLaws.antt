@@ -6,9 +6,10 @@ use native.Mathlib.Omega.{arith}
 use lib.ListN.{length, getD, replicate, length-append}
 use Rattle.base.proofs.Booleans.{clash}
 use Rattle.reader.specs.Types.{Symbol, Token, Nonterminal, End, Place}
+use Rattle.grammar.specs.Limits.{maxPlaces, endMark, nobody}
 use Rattle.grammar.specs.Decode.{Rules, AllOf, Legal, Production, Alternatives}
 use Rattle.grammar.specs.Grammar.{Grammar, at, nowhere, facing, layOne, layEach, layAll, sizeAll, padded, compile, Limited}
-use Rattle.grammar.specs.Tables.{ruleAt, tableWords, nonterminalsIn, Fits}
+use Rattle.grammar.specs.Tables.{rulesAt, tableWords, ruleAt, nonterminalsIn, Fits}
 use Rattle.reader.proofs.PassLaws.{countsOf, laidOut, length-size}
 use Rattle.reader.proofs.TableLaws.{C, A, B, D, held, length-A, length-B, length-D, laid, get-last, get-count, tables-say}
 
@@ -56,10 +57,10 @@ unfolding facing compile padded
 compile-named r h p a e =
     let N : Place → Type 0 = Named (r .kinds) (length (r .productions)) in
     let none : N nowhere = λ a e. clash (cc) in
-    let pad : List Place = replicate (255 - length (layAll 0 (r .productions))) nowhere in
-    all-at N nowhere none (layAll 0 (r .productions) ++ (pad ++ (at 32 (Token 0) ∷ [])))
-    (all-append N (layAll 0 (r .productions)) (pad ++ (at 32 (Token 0) ∷ [])) (named-all (r .kinds) (length (r .productions)) 0 (r .productions) (h .each))
-    (all-append N pad (at 32 (Token 0) ∷ []) (all-replicate N nowhere none (255 - length (layAll 0 (r .productions)))) (λ a e. clash (cc), tt))) p a e
+    let pad : List Place = replicate (maxPlaces - length (layAll 0 (r .productions))) nowhere in
+    all-at N nowhere none (layAll 0 (r .productions) ++ (pad ++ (at nobody (Token endMark) ∷ [])))
+    (all-append N (layAll 0 (r .productions)) (pad ++ (at nobody (Token endMark) ∷ [])) (named-all (r .kinds) (length (r .productions)) 0 (r .productions) (h .each))
+    (all-append N pad (at nobody (Token endMark) ∷ []) (all-replicate N nowhere none (maxPlaces - length (layAll 0 (r .productions)))) (λ a e. clash (cc), tt))) p a e
 
 -- ---- the words
 counts-le : (k : ℕ) (l : List (List (List Symbol))) (j : ℕ) → getD (countsOf k l) j 0 ≤ k + sizeAll l
@@ -70,7 +71,7 @@ counts-le k (n ∷ l) zero = omega arith
 counts-le k (n ∷ l) (suc j) = omega (arith, counts-le (k + length n) l j, length-size n)
 
 module _ (r : Rules) (limits : Limited r) where
-  length-held : length (held r limits) ≡ 547
+  length-held : length (held r limits) ≡ tableWords
   length-held =
       let E : List ℕ = r .kinds ∷ length (r .productions) ∷ sizeAll (r .productions) ∷ [] in
       omega (
@@ -86,15 +87,15 @@ module _ (r : Rules) (limits : Limited r) where
   pub tables-fit : Fits (laidOut (replicate tableWords 0) r)
   unfolding ruleAt C
   tables-fit =
-      let N : nonterminalsIn (laidOut (replicate 547 0) r) ≡ length (r .productions)
+      let N : nonterminalsIn (laidOut (replicate tableWords 0) r) ≡ length (r .productions)
       = rw (laid r limits) (get-last r limits 1 (r .kinds ∷ length (r .productions) ∷ sizeAll (r .productions) ∷ [])) in
       record {
         long = rw (laid r limits) length-held;
         few = omega (arith, N, limits .few);
         within = λ a h.
             rw (laid r limits)
-            (let e : 511 + suc a ≡ 511 + (0 + suc a) = omega arith in
-            let f : getD (held r limits) (511 + suc a) 0 ≡ getD (countsOf 0 (r .productions)) (suc a) 0
+            (let e : rulesAt + suc a ≡ rulesAt + (0 + suc a) = omega arith in
+            let f : getD (held r limits) (rulesAt + suc a) 0 ≡ getD (countsOf 0 (r .productions)) (suc a) 0
             = ap (λ (q : ℕ). getD (held r limits) q 0) e ∙ get-count r limits (suc a) (omega (arith, N)) in
             omega (arith, f, counts-le 0 (r .productions) (suc a), limits .small));
         named = λ p a e. rw N (compile-named r limits p a (ap (λ (g : Grammar). facing g p) (sym (tables-say r limits)) ∙ e));

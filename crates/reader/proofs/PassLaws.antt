@@ -12,6 +12,7 @@ use borrow.Author.Tests.{ltb-true, ltb-false}
 use Rattle.base.proofs.Booleans.{and-T, true→T}
 use Rattle.base.proofs.Lists.{sets-sets, sets-append}
 use Rattle.reader.specs.Types.{Read, Cursor, Value, Refused, OverLimit, Trailing, Symbol, Token, Nonterminal}
+use Rattle.grammar.specs.Limits.{maxKinds, maxNonterminals, maxProductions, maxLength, maxPlaces}
 use Rattle.number.specs.Number.{limitedAt, symbolAt, legal, cursor}
 use Rattle.grammar.specs.Decode.{Rules, AllOf, Legal, Production, Alternatives, Mark, mark, Parsed, got, refused, andThen, times, fromRead, limited, written, symbol, production, nonterminal, ending, decode}
 use Rattle.grammar.specs.Grammar.{at, layOne, layEach, layAll, sizeEach, sizeAll, startsEach, Limited}
@@ -128,17 +129,17 @@ module _ (s : List ℕ) (kt nt : ℕ) where
   productionsOut a p k t l m = out (Value (m .places) (cursor (m .byte))) (sets (sets t (firstsAt + k) (startsEach p l)) p (map wordOf (layEach a l)))
 
   abbrev Productions : ℕ → ℕ → List (List Symbol) → Mark → Type 0
-  Productions n p l m = (length l ≡ n) × (m .places ≡ p + sizeEach l) × (m .places ≤ 255) × AllOf (Production kt nt) l
+  Productions n p l m = (length l ≡ n) × (m .places ≡ p + sizeEach l) × (m .places ≤ maxPlaces) × AllOf (Production kt nt) l
 
   -- one production behind which others follow
-  productions-push : (a p k : ℕ) (t : List ℕ) (β : List Symbol) (l : List (List Symbol)) (p′ : ℕ) → p′ ≡ p + suc (length β) → p′ ≤ 255
+  productions-push : (a p k : ℕ) (t : List ℕ) (β : List Symbol) (l : List (List Symbol)) (p′ : ℕ) → p′ ≡ p + suc (length β) → p′ ≤ maxPlaces
       → sets (sets (sets (set t (firstsAt + k) p) p (map wordOf (layOne a β))) (firstsAt + (k + 1)) (startsEach p′ l)) p′ (map wordOf (layEach a l))
       ≡ sets (sets t (firstsAt + k) (startsEach p (β ∷ l))) p (map wordOf (layEach a (β ∷ l)))
   unfolding startsEach layEach
   productions-push a p k t β l p′ e h =
       let W : List ℕ = map wordOf (layOne a β) in
       let w : p′ ≡ p + length W = omega (arith, e, length-layOne a β) in
-      let f : 256 + (k + 1) ≡ suc (256 + k) = omega arith in
+      let f : firstsAt + (k + 1) ≡ suc (firstsAt + k) = omega arith in
       ap (λ (r : List ℕ). sets r p′ (map wordOf (layEach a l)))
       (sets-sets (set t (firstsAt + k) p) (firstsAt + (k + 1)) (startsEach p′ l) p W (inl (omega (arith, w))))
       ∙ ap (λ (q : ℕ). sets (sets (sets (set t (firstsAt + k) p) (firstsAt + (k + 1)) (startsEach p′ l)) p W) q (map wordOf (layEach a l))) w
@@ -161,13 +162,13 @@ module _ (s : List ℕ) (kt nt : ℕ) where
       (λ l m q h. (q ∙ ap (λ (n : ℕ). out (Value (p + suc n) (cursor (m .byte))) (sets t p (map wordOf (layOne a l)))) (h .0), (h .0, h .1, refl)))
 
   abbrev ProductionsSame : ℕ → ℕ → Type 0
-  ProductionsSame n a = (c : Cursor) (p k : ℕ) (t : List ℕ) → p ≤ 255
+  ProductionsSame n a = (c : Cursor) (p k : ℕ) (t : List ℕ) → p ≤ maxPlaces
       → Same (productionsOf s kt nt a n c p k t) (productionsOut a p k t) (Productions n p) (times n (production s kt nt) (mark (c .at) p))
 
   -- what decoding does behind a length, and behind a production
   abbrev behindLength : Cursor → ℕ → ℕ → Mark → Parsed (List Symbol)
   behindLength c p k m′ =
-      cond (ltb 255 (p + suc k)) (refused (OverLimit (c .at))) (andThen (times k (symbol s kt nt) m′) (λ l m″. got l (mark (m″ .byte) (p + suc k))))
+      cond (ltb maxPlaces (p + suc k)) (refused (OverLimit (c .at))) (andThen (times k (symbol s kt nt) m′) (λ l m″. got l (mark (m″ .byte) (p + suc k))))
 
   abbrev behindOne : ℕ → List Symbol → Mark → Parsed (List (List Symbol))
   behindOne n β m′ = andThen (times n (production s kt nt) m′) (λ l m″. got (β ∷ l) m″)
@@ -175,9 +176,9 @@ module _ (s : List ℕ) (kt nt : ℕ) where
   productions-same : (n a : ℕ) → ProductionsSame n a
   unfolding productionsOf times production limited andThen onRead startsEach layEach sizeEach
   productions-same zero a c p k t l = (refl, (refl, omega arith, l, tt))
-  productions-same (suc n) a c p k t l = go (limitedAt s 0 30 (c .at)) refl (productions-same n a)
+  productions-same (suc n) a c p k t l = go (limitedAt s 0 maxLength (c .at)) refl (productions-same n a)
     where
-      next-one : ProductionsSame n a → (len : ℕ) → len ≤ 30 → p + suc len ≤ 255 → (β : List Symbol) (m : Mark) → One p len β m
+      next-one : ProductionsSame n a → (len : ℕ) → len ≤ maxLength → p + suc len ≤ maxPlaces → (β : List Symbol) (m : Mark) → One p len β m
           → Same (onOut (oneOut a p (set t (firstsAt + k) p) β m) (λ q c′ t′. productionsOf s kt nt a n c′ q (k + 1) t′)) (productionsOut a p k t) (Productions (suc n) p) (behindOne n β m)
       next-one ih len most fits β m h =
           let b : m .places ≡ p + suc (length β) = omega (arith, h .0, h .2) in
@@ -190,7 +191,7 @@ module _ (s : List ℕ) (kt nt : ℕ) where
             (ap suc (g .0), omega (arith, b, g .1), g .2, ((omega (arith, h .0), h .1), g .3)),
           ))
 
-      by-room : ProductionsSame n a → (len : ℕ) (next : Cursor) → len ≤ 30 → (b : Bool) → ltb 255 (p + suc len) ≡ b
+      by-room : ProductionsSame n a → (len : ℕ) (next : Cursor) → len ≤ maxLength → (b : Bool) → ltb maxPlaces (p + suc len) ≡ b
           → Same (cond b (out (Refused (OverLimit (c .at))) t) (onOut (symbolsOf s kt nt a len next p (set t (firstsAt + k) p)) (λ q c′ t′. productionsOf s kt nt a n c′ q (k + 1) t′)))
           (productionsOut a p k t) (Productions (suc n) p)
           (andThen (cond b (refused (OverLimit (c .at))) (andThen (times len (symbol s kt nt) (mark (next .at) p)) (λ l m″. got l (mark (m″ .byte) (p + suc len))))) (behindOne n))
@@ -199,14 +200,14 @@ module _ (s : List ℕ) (kt nt : ℕ) where
           same-out (symbolsOf s kt nt a len next p (set t (firstsAt + k) p)) (andThen (times len (symbol s kt nt) (mark (next .at) p)) (λ l m″. got l (mark (m″ .byte) (p + suc len))))
           (oneOut a p (set t (firstsAt + k) p)) (One p len) (λ q c′ t′. productionsOf s kt nt a n c′ q (k + 1) t′) (behindOne n) (productionsOut a p k t) (Productions (suc n) p)
           (one-same a len next p (set t (firstsAt + k) p))
-          (next-one ih len most (ltb-false 255 (p + suc len) e))
+          (next-one ih len most (ltb-false maxPlaces (p + suc len) e))
 
-      go : (x : Read) → limitedAt s 0 30 (c .at) ≡ x → ProductionsSame n a
-          → Same (onRead t x (λ m next. cond (ltb 255 (p + m + 1)) (out (Refused (OverLimit (c .at))) t) (onOut (symbolsOf s kt nt a m next p (set t (firstsAt + k) p)) (λ q c′ t′. productionsOf s kt nt a n c′ q (k + 1) t′))))
+      go : (x : Read) → limitedAt s 0 maxLength (c .at) ≡ x → ProductionsSame n a
+          → Same (onRead t x (λ m next. cond (ltb maxPlaces (p + m + 1)) (out (Refused (OverLimit (c .at))) t) (onOut (symbolsOf s kt nt a m next p (set t (firstsAt + k) p)) (λ q c′ t′. productionsOf s kt nt a n c′ q (k + 1) t′))))
           (productionsOut a p k t) (Productions (suc n) p) (andThen (andThen (fromRead p x) (behindLength c p)) (behindOne n))
       go (Value len next) e ih =
           let z : p + len + 1 ≡ p + suc len = omega arith in
-          rw z (by-room ih len next (limited-is s 0 30 (c .at) refl e .1) (ltb 255 (p + suc len)) refl)
+          rw z (by-room ih len next (limited-is s 0 maxLength (c .at) refl e .1) (ltb maxPlaces (p + suc len)) refl)
       go (Refused r) e ih = refl
 
   -- ---- nonterminals
@@ -216,10 +217,10 @@ module _ (s : List ℕ) (kt nt : ℕ) where
       out (Value (m .places) (cursor (m .byte))) (sets (sets (sets t (rulesAt + a) (countsOf k l)) (firstsAt + k) (firstsOf p l)) p (map wordOf (layAll a l)))
 
   abbrev AllRules : ℕ → ℕ → List (List (List Symbol)) → Mark → Type 0
-  AllRules n p l m = (length l ≡ n) × (m .places ≡ p + sizeAll l) × (m .places ≤ 255) × AllOf (Alternatives kt nt) l
+  AllRules n p l m = (length l ≡ n) × (m .places ≡ p + sizeAll l) × (m .places ≤ maxPlaces) × AllOf (Alternatives kt nt) l
 
   -- one nonterminal behind which others follow
-  rules-push : (a p k : ℕ) (t : List ℕ) (y : List (List Symbol)) (l : List (List (List Symbol))) (p′ m : ℕ) → p′ ≡ p + sizeEach y → p′ ≤ 255 → k ≤ p → m ≡ length y
+  rules-push : (a p k : ℕ) (t : List ℕ) (y : List (List Symbol)) (l : List (List (List Symbol))) (p′ m : ℕ) → p′ ≡ p + sizeEach y → p′ ≤ maxPlaces → k ≤ p → m ≡ length y
       → sets (sets (sets (sets (sets (set t (rulesAt + a) k) (firstsAt + k) (startsEach p y)) p (map wordOf (layEach a y))) (rulesAt + (a + 1)) (countsOf (k + m) l))
       (firstsAt + (k + m)) (firstsOf p′ l)) p′ (map wordOf (layAll (a + 1) l))
       ≡ sets (sets (sets t (rulesAt + a) (countsOf k (y ∷ l))) (firstsAt + k) (firstsOf p (y ∷ l))) p (map wordOf (layAll a (y ∷ l)))
@@ -233,9 +234,9 @@ module _ (s : List ℕ) (kt nt : ℕ) where
       let B : List ℕ = set t (rulesAt + a) k in
       let B′ : List ℕ = sets B (rulesAt + (a + 1)) C in
       let w : p′ ≡ p + length W = omega (arith, e, length-layEach a y) in
-      let v : 256 + (k + m) ≡ 256 + k + length S = omega (arith, n, length-starts p y) in
+      let v : firstsAt + (k + m) ≡ firstsAt + k + length S = omega (arith, n, length-starts p y) in
       let few : m ≤ sizeEach y = omega (arith, n, length-size y) in
-      let f : 511 + (a + 1) ≡ suc (511 + a) = omega arith in
+      let f : rulesAt + (a + 1) ≡ suc (rulesAt + a) = omega arith in
       let g : a + 1 ≡ suc a = omega arith in
       ap (λ (r : List ℕ). sets (sets r (firstsAt + (k + m)) S′) p′ W′)
       (sets-sets (sets B (firstsAt + k) S) (rulesAt + (a + 1)) C p W (inl (omega (arith, w)))
@@ -249,7 +250,7 @@ module _ (s : List ℕ) (kt nt : ℕ) where
       ∙ (rw (f, g, e, n))
 
   abbrev RulesSame : ℕ → Type 0
-  RulesSame n = (a : ℕ) (c : Cursor) (p k : ℕ) (t : List ℕ) → p ≤ 255 → k ≤ p
+  RulesSame n = (a : ℕ) (c : Cursor) (p k : ℕ) (t : List ℕ) → p ≤ maxPlaces → k ≤ p
       → Same (nonterminalsOf s kt nt a n c p k t) (rulesOut a p k t) (AllRules n p) (times n (nonterminal s kt nt) (mark (c .at) p))
 
   abbrev behindNonterminal : ℕ → List (List Symbol) → Mark → Parsed (List (List (List Symbol)))
@@ -258,9 +259,9 @@ module _ (s : List ℕ) (kt nt : ℕ) where
   rules-same : (n : ℕ) → RulesSame n
   unfolding nonterminalsOf times nonterminal limited andThen onRead countsOf firstsOf layAll sizeAll
   rules-same zero a c p k t l kp = (refl, (refl, omega arith, l, tt))
-  rules-same (suc n) a c p k t l kp = go (limitedAt s 1 16 (c .at)) refl (rules-same n)
+  rules-same (suc n) a c p k t l kp = go (limitedAt s 1 maxProductions (c .at)) refl (rules-same n)
     where
-      next-one : RulesSame n → (m : ℕ) → 1 ≤ m → m ≤ 16 → (y : List (List Symbol)) (mk : Mark) → Productions m p y mk
+      next-one : RulesSame n → (m : ℕ) → 1 ≤ m → m ≤ maxProductions → (y : List (List Symbol)) (mk : Mark) → Productions m p y mk
           → Same (onOut (productionsOut a p k (set t (rulesAt + a) k) y mk) (λ q c′ t′. nonterminalsOf s kt nt (a + 1) n c′ q (k + m) t′)) (rulesOut a p k t) (AllRules (suc n) p) (behindNonterminal n y mk)
       next-one ih m least most y mk h =
           let T : List ℕ = sets (sets (set t (rulesAt + a) k) (firstsAt + k) (startsEach p y)) p (map wordOf (layEach a y)) in
@@ -273,11 +274,11 @@ module _ (s : List ℕ) (kt nt : ℕ) where
             (ap suc (g .0), omega (arith, h .1, g .1), g .2, ((omega (arith, h .0), omega (arith, h .0), h .3), g .3)),
           ))
 
-      go : (x : Read) → limitedAt s 1 16 (c .at) ≡ x → RulesSame n
+      go : (x : Read) → limitedAt s 1 maxProductions (c .at) ≡ x → RulesSame n
           → Same (onRead t x (λ m next. onOut (productionsOf s kt nt a m next p k (set t (rulesAt + a) k)) (λ q c′ t′. nonterminalsOf s kt nt (a + 1) n c′ q (k + m) t′)))
           (rulesOut a p k t) (AllRules (suc n) p) (andThen (andThen (fromRead p x) (λ k m′. times k (production s kt nt) m′)) (behindNonterminal n))
       go (Value m next) e ih =
-          let b = limited-is s 1 16 (c .at) refl e in
+          let b = limited-is s 1 maxProductions (c .at) refl e in
           same-out (productionsOf s kt nt a m next p k (set t (rulesAt + a) k)) (times m (production s kt nt) (mark (next .at) p)) (productionsOut a p k (set t (rulesAt + a) k)) (Productions m p)
           (λ q c′ t′. nonterminalsOf s kt nt (a + 1) n c′ q (k + m) t′) (behindNonterminal n) (rulesOut a p k t) (AllRules (suc n) p)
           (productions-same m a next p k (set t (rulesAt + a) k) l)
@@ -294,7 +295,7 @@ laidOut t r =
 abbrev pub passOut : List ℕ → Rules → Mark → Out
 passOut t r m = out (Value (sizeAll (r .productions)) (cursor (m .byte))) (laidOut t r)
 
-closing-same : (s t : List ℕ) (kt nt : ℕ) → (1 ≤ kt) × (kt ≤ 100) → (1 ≤ nt) × (nt ≤ 32) → (l : List (List (List Symbol))) (m : Mark) → AllRules s kt nt nt 0 l m
+closing-same : (s t : List ℕ) (kt nt : ℕ) → (1 ≤ kt) × (kt ≤ maxKinds) → (1 ≤ nt) × (nt ≤ maxNonterminals) → (l : List (List (List Symbol))) (m : Mark) → AllRules s kt nt nt 0 l m
     → Same (onOut (rulesOut s kt nt 0 0 0 t l m) (λ p c t′. closing s kt nt p c t′)) (passOut t) (λ r m. Limited r) (ending s (record { kinds = kt; productions = l }) m)
 unfolding closing ending laidOut onRead
 closing-same s t kt nt hk hn l m h = go (ltb (m .byte) (length s))
@@ -323,9 +324,9 @@ closing-same s t kt nt hk hn l m h = go (ltb (m .byte) (length s))
 pub pass-same : (s t : List ℕ) → Same (passOf s t) (passOut t) (λ r m. Limited r) (decode s)
 unfolding passOf decode limited
 pass-same s t =
-    same-read t (limitedAt s 1 100 0) 0 _ _ (passOut t) (λ r m. Limited r) (λ kt c e.
-    same-read t (limitedAt s 1 32 (c .at)) 0 _ _ (passOut t) (λ r m. Limited r) (λ nt c′ e′.
+    same-read t (limitedAt s 1 maxKinds 0) 0 _ _ (passOut t) (λ r m. Limited r) (λ kt c e.
+    same-read t (limitedAt s 1 maxNonterminals (c .at)) 0 _ _ (passOut t) (λ r m. Limited r) (λ nt c′ e′.
     same-out (nonterminalsOf s kt nt 0 nt c′ 0 0 t) (times nt (nonterminal s kt nt) (mark (c′ .at) 0)) (rulesOut s kt nt 0 0 0 t) (AllRules s kt nt nt 0)
     (λ p c″ t′. closing s kt nt p c″ t′) (λ l m. ending s (record { kinds = kt; productions = l }) m) (passOut t) (λ r m. Limited r)
     (rules-same s kt nt nt 0 c′ 0 0 t (omega arith) (omega arith))
-    (closing-same s t kt nt (limited-is s 1 100 0 refl e) (limited-is s 1 32 (c .at) refl e′))))
+    (closing-same s t kt nt (limited-is s 1 maxKinds 0 refl e) (limited-is s 1 maxNonterminals (c .at) refl e′))))

@@ -9,6 +9,7 @@ use lib.ListN.{length, set}
 use lib.Dec.{ltb}
 use borrow.Author.Tests.{lt-ltb, le-ltb}
 use Rattle.reader.specs.Types.{Refusal, Read, Cursor, Value, Refused, OverLimit, Trailing, End}
+use Rattle.grammar.specs.Limits.{maxKinds, maxNonterminals, maxProductions, maxLength, maxPlaces}
 use Rattle.number.specs.Number.{limitedAt, symbolAt}
 use Rattle.grammar.specs.Decode.{written}
 use Rattle.grammar.specs.Grammar.{at}
@@ -79,10 +80,10 @@ module _ (s : List ℕ) (kt nt a : ℕ) where
 
   abbrev moreProductions : ℕ → Cursor → ℕ → ℕ → List ℕ → ℕ → Cursor → Out
   moreProductions n c p k t m next =
-      cond (ltb 255 (p + m + 1)) (out (Refused (OverLimit (c .at))) t) (behindSymbols n k (symbolsOf s kt nt a m next p (set t (firstsAt + k) p)))
+      cond (ltb maxPlaces (p + m + 1)) (out (Refused (OverLimit (c .at))) t) (behindSymbols n k (symbolsOf s kt nt a m next p (set t (firstsAt + k) p)))
 
   productions-step : (left : ℕ) (c : Cursor) (p k : ℕ) (t : List ℕ) → 0 < left
-      → productionsOf s kt nt a left c p k t ≡ onRead t (limitedAt s 0 30 (c .at)) (moreProductions (left - 1) c p k t)
+      → productionsOf s kt nt a left c p k t ≡ onRead t (limitedAt s 0 maxLength (c .at)) (moreProductions (left - 1) c p k t)
   unfolding productionsOf
   productions-step zero c p k t h = absurd (omega arith)
   productions-step (suc n) c p k t h = let e : suc n - 1 ≡ n = omega arith in rw e
@@ -93,7 +94,7 @@ module _ (s : List ℕ) (kt nt a : ℕ) where
   productions-done left c p k t e i = rw e at i
 
   module _ (left : ℕ) (c : Cursor) (p k : ℕ) (t : List ℕ) {end : Out} (h : 0 < left) (i : productionsOf s kt nt a left c p k t ≡ end)
-      {n : Read} (e : n ≡ limitedAt s 0 30 (c .at)) where
+      {n : Read} (e : n ≡ limitedAt s 0 maxLength (c .at)) where
     on-length : onRead t n (moreProductions (left - 1) c p k t) ≡ end
     on-length = rw e (sym (productions-step left c p k t h) ∙ i)
 
@@ -104,12 +105,12 @@ module _ (s : List ℕ) (kt nt a : ℕ) where
       counted : moreProductions (left - 1) c p k t m next ≡ end
       counted = sym (on-value t _ q) ∙ on-length
 
-      pub productions-full : 255 < p + m + 1 → out (Refused (OverLimit (c .at))) t ≡ end
-      productions-full l = rw (lt-ltb 255 (p + m + 1) l) at counted
+      pub productions-full : maxPlaces < p + m + 1 → out (Refused (OverLimit (c .at))) t ≡ end
+      productions-full l = rw (lt-ltb maxPlaces (p + m + 1) l) at counted
 
-      module _ {w : ℕ} (z : w ≡ p) (l : p + m + 1 ≤ 255) {x : Read} {t′ : List ℕ} (g : out x t′ ≡ symbolsOf s kt nt a m next p (set t (firstsAt + k) w)) where
+      module _ {w : ℕ} (z : w ≡ p) (l : p + m + 1 ≤ maxPlaces) {x : Read} {t′ : List ℕ} (g : out x t′ ≡ symbolsOf s kt nt a m next p (set t (firstsAt + k) w)) where
         pieced : behindSymbols (left - 1) k (out x t′) ≡ end
-        pieced = ap (behindSymbols (left - 1) k) (rw z at g) ∙ (rw (le-ltb 255 (p + m + 1) l) at counted)
+        pieced = ap (behindSymbols (left - 1) k) (rw z at g) ∙ (rw (le-ltb maxPlaces (p + m + 1) l) at counted)
 
         pub productions-piece : {r : Refusal} → x ≡ Refused r → out x t′ ≡ end
         productions-piece y = sym (on-refused t′ _ y) ∙ pieced
@@ -119,13 +120,13 @@ module _ (s : List ℕ) (kt nt a : ℕ) where
 
   -- where productions end: one place further for each at least, and within the limit
   abbrev EndsIn : ℕ → Read → Type 0
-  EndsIn p (Value q c) = (p ≤ q) × (q ≤ 255)
+  EndsIn p (Value q c) = (p ≤ q) × (q ≤ maxPlaces)
   EndsIn p (Refused r) = Unit {0}
 
   abbrev Bounded : ℕ → Type 0
-  Bounded n = (c : Cursor) (p k : ℕ) (t : List ℕ) → p ≤ 255 → EndsIn (p + n) (productionsOf s kt nt a n c p k t .answer)
+  Bounded n = (c : Cursor) (p k : ℕ) (t : List ℕ) → p ≤ maxPlaces → EndsIn (p + n) (productionsOf s kt nt a n c p k t .answer)
 
-  ends-behind : (n m p k : ℕ) → Bounded n → p + m + 1 ≤ 255 → (o : Out) → EndsAt s kt nt a (p + m + 1) (o .answer) → EndsIn (p + suc n) (behindSymbols n k o .answer)
+  ends-behind : (n m p k : ℕ) → Bounded n → p + m + 1 ≤ maxPlaces → (o : Out) → EndsAt s kt nt a (p + m + 1) (o .answer) → EndsIn (p + suc n) (behindSymbols n k o .answer)
   unfolding onRead
   ends-behind n m p k ih l o = go (o .answer)
     where
@@ -139,22 +140,22 @@ module _ (s : List ℕ) (kt nt a : ℕ) where
 
   ends-length : (n : ℕ) (c : Cursor) (p k : ℕ) (t : List ℕ) → Bounded n → (x : Read) → EndsIn (p + suc n) (onRead t x (moreProductions n c p k t) .answer)
   unfolding onRead
-  ends-length n c p k t ih (Value m next) = go (decLe (p + m + 1) 255)
+  ends-length n c p k t ih (Value m next) = go (decLe (p + m + 1) maxPlaces)
     where
-      go : Dec (p + m + 1 ≤ 255) → EndsIn (p + suc n) (moreProductions n c p k t m next .answer)
+      go : Dec (p + m + 1 ≤ maxPlaces) → EndsIn (p + suc n) (moreProductions n c p k t m next .answer)
       go (yes l) =
-          rw (le-ltb 255 (p + m + 1) l)
+          rw (le-ltb maxPlaces (p + m + 1) l)
           (ends-behind n m p k ih l (symbolsOf s kt nt a m next p (set t (firstsAt + k) p)) (ends s kt nt a m next p (set t (firstsAt + k) p)))
-      go (no l) = rw (lt-ltb 255 (p + m + 1) (omega arith)) tt
+      go (no l) = rw (lt-ltb maxPlaces (p + m + 1) (omega arith)) tt
   ends-length n c p k t ih (Refused r) = tt
 
   ends-productions : (n : ℕ) → Bounded n
   unfolding productionsOf
   ends-productions zero c p k t l = omega arith
-  ends-productions (suc n) c p k t l = ends-length n c p k t (ends-productions n) (limitedAt s 0 30 (c .at))
+  ends-productions (suc n) c p k t l = ends-length n c p k t (ends-productions n) (limitedAt s 0 maxLength (c .at))
 
   pub productions-end : (n : ℕ) (c : Cursor) (p k : ℕ) (t : List ℕ) {x : Read} {t′ : List ℕ} {c′ : Cursor} {q : ℕ}
-      → out x t′ ≡ productionsOf s kt nt a n c p k t → x ≡ Value q c′ → p ≤ 255 → (p + n ≤ q) × (q ≤ 255)
+      → out x t′ ≡ productionsOf s kt nt a n c p k t → x ≡ Value q c′ → p ≤ maxPlaces → (p + n ≤ q) × (q ≤ maxPlaces)
   productions-end n c p k t e f l = rw (← e, f) at (ends-productions n c p k t l)
 
 -- ---- nonterminals
@@ -166,7 +167,7 @@ module _ (s : List ℕ) (kt nt : ℕ) where
   moreNonterminals a n p k t m next = behindProductions a n (k + m) (productionsOf s kt nt a m next p k (set t (rulesAt + a) k))
 
   rules-step : (a left : ℕ) (c : Cursor) (p k : ℕ) (t : List ℕ) → 0 < left
-      → nonterminalsOf s kt nt a left c p k t ≡ onRead t (limitedAt s 1 16 (c .at)) (moreNonterminals a (left - 1) p k t)
+      → nonterminalsOf s kt nt a left c p k t ≡ onRead t (limitedAt s 1 maxProductions (c .at)) (moreNonterminals a (left - 1) p k t)
   unfolding nonterminalsOf
   rules-step a zero c p k t h = absurd (omega arith)
   rules-step a (suc n) c p k t h = let e : suc n - 1 ≡ n = omega arith in rw e
@@ -177,7 +178,7 @@ module _ (s : List ℕ) (kt nt : ℕ) where
   rules-done a left c p k t e z i = rw z (rw e at i)
 
   module _ (a left : ℕ) (c : Cursor) (p k : ℕ) (t : List ℕ) {end : Out} (h : 0 < left) (i : nonterminalsOf s kt nt a left c p k t ≡ end)
-      {n : Read} (e : n ≡ limitedAt s 1 16 (c .at)) where
+      {n : Read} (e : n ≡ limitedAt s 1 maxProductions (c .at)) where
     on-count : onRead t n (moreNonterminals a (left - 1) p k t) ≡ end
     on-count = rw e (sym (rules-step a left c p k t h) ∙ i)
 
@@ -197,9 +198,9 @@ module _ (s : List ℕ) (kt nt : ℕ) where
 
   -- where the nonterminals end
   abbrev BoundedRules : ℕ → Type 0
-  BoundedRules n = (a : ℕ) (c : Cursor) (p k : ℕ) (t : List ℕ) → p ≤ 255 → EndsIn s kt nt 0 0 (nonterminalsOf s kt nt a n c p k t .answer)
+  BoundedRules n = (a : ℕ) (c : Cursor) (p k : ℕ) (t : List ℕ) → p ≤ maxPlaces → EndsIn s kt nt 0 0 (nonterminalsOf s kt nt a n c p k t .answer)
 
-  ends-count : (a n : ℕ) (p k : ℕ) (t : List ℕ) → BoundedRules n → p ≤ 255 → (x : Read) → EndsIn s kt nt 0 0 (onRead t x (moreNonterminals a n p k t) .answer)
+  ends-count : (a n : ℕ) (p k : ℕ) (t : List ℕ) → BoundedRules n → p ≤ maxPlaces → (x : Read) → EndsIn s kt nt 0 0 (onRead t x (moreNonterminals a n p k t) .answer)
   unfolding onRead
   ends-count a n p k t ih l (Value m next) = go (productionsOf s kt nt a m next p k (set t (rulesAt + a) k)) (ends-productions s kt nt a m next p k (set t (rulesAt + a) k) l)
     where
@@ -214,10 +215,10 @@ module _ (s : List ℕ) (kt nt : ℕ) where
   ends-rules : (n : ℕ) → BoundedRules n
   unfolding nonterminalsOf
   ends-rules zero a c p k t l = omega arith
-  ends-rules (suc n) a c p k t l = ends-count a n p k t (ends-rules n) l (limitedAt s 1 16 (c .at))
+  ends-rules (suc n) a c p k t l = ends-count a n p k t (ends-rules n) l (limitedAt s 1 maxProductions (c .at))
 
   pub rules-end : (n a : ℕ) (c : Cursor) (p k : ℕ) (t : List ℕ) {x : Read} {t′ : List ℕ} {c′ : Cursor} {q : ℕ}
-      → out x t′ ≡ nonterminalsOf s kt nt a n c p k t → x ≡ Value q c′ → p ≤ 255 → q ≤ 255
+      → out x t′ ≡ nonterminalsOf s kt nt a n c p k t → x ≡ Value q c′ → p ≤ maxPlaces → q ≤ maxPlaces
   rules-end n a c p k t e f l = (rw (← e, f) at (ends-rules n a c p k t l)) .1
 
 -- ---- the whole
@@ -225,12 +226,12 @@ module _ (s t : List ℕ) where
   abbrev behindRules : ℕ → ℕ → Out → Out
   behindRules kt nt o = onOut o (λ p c t′. closing s kt nt p c t′)
 
-  module _ {n : Read} (e : n ≡ limitedAt s 1 100 0) where
+  module _ {n : Read} (e : n ≡ limitedAt s 1 maxKinds 0) where
     pub pass-kinds : {r : Refusal} → n ≡ Refused r → out n t ≡ passOf s t
     unfolding passOf
     pass-kinds q = rw (← e) (sym (on-refused t _ q))
 
-    module _ {kt : ℕ} {c : Cursor} (q : n ≡ Value kt c) {m : Read} (e′ : m ≡ limitedAt s 1 32 (c .at)) where
+    module _ {kt : ℕ} {c : Cursor} (q : n ≡ Value kt c) {m : Read} (e′ : m ≡ limitedAt s 1 maxNonterminals (c .at)) where
       abbrev afterCount : ℕ → Cursor → Out
       afterCount nt c′ = behindRules kt nt (nonterminalsOf s kt nt 0 nt c′ 0 0 t)
 

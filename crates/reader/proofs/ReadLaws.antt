@@ -6,7 +6,7 @@ use lib.ListN.{replicate}
 use Rattle.reader.specs.Types.{Refusal, Read, Cursor, Value, Refused}
 use Rattle.grammar.specs.Decode.{Rules, Mark, Parsed, got, refused, decode}
 use Rattle.grammar.specs.Grammar.{compile, Limited}
-use Rattle.grammar.specs.Tables.{grammarIn, Fits}
+use Rattle.grammar.specs.Tables.{tableWords, grammarIn, Fits}
 use Rattle.reader.specs.Pass.{Out, out, passOf}
 use Rattle.reader.proofs.PassLaws.{Same, passOut, laidOut, pass-same}
 use Rattle.reader.proofs.TableLaws.{tables-say}
@@ -16,15 +16,15 @@ pub data Outcome (s : List ℕ) (x : Read) (t : List ℕ) : Type 0 where
   none : (r : Refusal) → decode s ≡ refused r → x ≡ Refused r → Outcome s x t
   whole : (r : Rules) (m : Mark) (v : ℕ) (c : Cursor) → decode s ≡ got r m → x ≡ Value v c → Limited r → grammarIn t ≡ compile r → Fits t → Outcome s x t
 
-pub outcome : (s t₀ : List ℕ) {x : Read} {t : List ℕ} → t₀ ≡ replicate 547 0 → out x t ≡ passOf s t₀ → Outcome s x t
-outcome s t₀ {x} {t} z e = go (decode s) refl (pass-same s (replicate 547 0))
+pub outcome : (s t₀ : List ℕ) {x : Read} {t : List ℕ} → t₀ ≡ replicate tableWords 0 → out x t ≡ passOf s t₀ → Outcome s x t
+outcome s t₀ {x} {t} z e = go (decode s) refl (pass-same s (replicate tableWords 0))
   where
-    e₀ : out x t ≡ passOf s (replicate 547 0)
+    e₀ : out x t ≡ passOf s (replicate tableWords 0)
     e₀ = e ∙ ap (passOf s) z
 
-    go : (d : Parsed Rules) → decode s ≡ d → Same (passOf s (replicate 547 0)) (passOut (replicate 547 0)) (λ r m. Limited r) d → Outcome s x t
+    go : (d : Parsed Rules) → decode s ≡ d → Same (passOf s (replicate tableWords 0)) (passOut (replicate tableWords 0)) (λ r m. Limited r) d → Outcome s x t
     go (got r m) q h =
         let o = e₀ ∙ h .0 in
-        let w : t ≡ laidOut (replicate 547 0) r = ap (λ (o : Out). o .tables) o in
+        let w : t ≡ laidOut (replicate tableWords 0) r = ap (λ (o : Out). o .tables) o in
         whole r m _ _ q (ap (λ (o : Out). o .answer) o) (h .1) (rw w (tables-say r (h .1))) (rw w (tables-fit r (h .1)))
     go (refused r) q h = none r q (ap (λ (o : Out). o .answer) e₀ ∙ h)

@@ -8,20 +8,21 @@ use lib.ListN.{length, getD, set, take, drop, replicate, length-append, length-r
 use lib.Seq.{sets, slice, set-at, take-at, drop-at, getD-append-add, drop-drop, take-nil}
 use Rattle.base.specs.Rounds.{upFrom}
 use Rattle.reader.specs.Types.{Symbol, Token, Nonterminal, End, Place}
+use Rattle.grammar.specs.Limits.{maxKinds, maxNonterminals, maxPlaces, endPlace, endMark, nobody}
 use Rattle.grammar.specs.Decode.{Rules, AllOf, Legal, Production, Alternatives}
 use Rattle.grammar.specs.Grammar.{at, nowhere, layOne, layEach, layAll, sizeEach, sizeAll, startsEach, startsAll, padded, compile, Limited}
-use Rattle.grammar.specs.Tables.{codeOf, wordOf, placeOf, ruleAt, startsIn, grammarIn, tableWords}
+use Rattle.grammar.specs.Tables.{placeWords, ruleWords, firstsAt, rulesAt, kindsAt, nonterminalsAt, sizeAt, tableWords, codeOf, wordOf, placeOf, ruleAt, startsIn, grammarIn}
 use Rattle.reader.specs.Pass.{finished}
 use Rattle.grammar.proofs.WordLaws.{place-of-word, place-of-none}
 use Rattle.reader.proofs.PassLaws.{countsOf, firstsOf, laidOut, length-starts, length-size, length-layEach}
 
 -- ---- words back to places
-legal-code : (t n : ℕ) (x : Symbol) → Legal t n x → t ≤ 100 → n ≤ 32 → codeOf x < 256
+legal-code : (t n : ℕ) (x : Symbol) → Legal t n x → t ≤ maxKinds → n ≤ maxNonterminals → codeOf x < 256
 legal-code t n (Token k) h kt kn = omega arith
 legal-code t n (Nonterminal a) h kt kn = omega arith
 legal-code t n End h kt kn = absurd h
 
-module _ (t n : ℕ) (kt : t ≤ 100) (kn : n ≤ 32) where
+module _ (t n : ℕ) (kt : t ≤ maxKinds) (kn : n ≤ maxNonterminals) where
   back-one : (a : ℕ) → a < 64 → (β : List Symbol) → AllOf (Legal t n) β → map placeOf (map wordOf (layOne a β)) ≡ layOne a β
   unfolding layOne
   back-one a l [] h = ap (λ (x : Place). x ∷ []) (place-of-word (at a End) (omega arith) l)
@@ -64,19 +65,19 @@ slice-part (suc f) n [] = let e : suc f + n ≡ suc (f + n) = omega arith in rw 
 slice-part (suc f) n (x ∷ l) = let e : suc f + n ≡ suc (f + n) = omega arith in rw e (slice-part f n l)
 
 starts-back : (X : List ℕ) (rest : List ℕ) (l : List (List (List Symbol))) (a k o : ℕ)
-    → ((j : ℕ) → j ≤ length l → getD X (511 + (a + j)) 0 ≡ getD (countsOf k l) j 0) → drop (256 + k) X ≡ firstsOf o l ++ rest
+    → ((j : ℕ) → j ≤ length l → getD X (rulesAt + (a + j)) 0 ≡ getD (countsOf k l) j 0) → drop (firstsAt + k) X ≡ firstsOf o l ++ rest
     → startsIn X (upFrom a (length l)) ≡ startsAll o l
 unfolding startsIn ruleAt upFrom startsAll countsOf firstsOf
 starts-back X rest [] a k o c d = refl
 starts-back X rest (n ∷ l) a k o c d =
     ap₂ (λ (x : List ℕ) (r : List (List ℕ)). x ∷ r) here
-    (starts-back X rest l (suc a) (k + length n) (o + sizeEach n) (λ j h. ap (λ (q : ℕ). getD X (511 + q) 0) (next j) ∙ c (suc j) (omega arith)) there)
+    (starts-back X rest l (suc a) (k + length n) (o + sizeEach n) (λ j h. ap (λ (q : ℕ). getD X (rulesAt + q) 0) (next j) ∙ c (suc j) (omega arith)) there)
   where
     next : (j : ℕ) → suc a + j ≡ a + suc j
     next j = omega arith
 
-    begin : 256 + getD X (511 + a) 0 ≡ 256 + k
-    begin = ap (λ (q : ℕ). 256 + q) (ap (λ (q : ℕ). getD X (511 + q) 0) (sym (add-zero a)) ∙ c 0 (omega arith))
+    begin : firstsAt + getD X (rulesAt + a) 0 ≡ firstsAt + k
+    begin = ap (λ (q : ℕ). firstsAt + q) (ap (λ (q : ℕ). getD X (rulesAt + q) 0) (sym (add-zero a)) ∙ c 0 (omega arith))
 
     second : getD (countsOf (k + length n) l) 0 0 ≡ k + length n
     second = go l
@@ -85,24 +86,24 @@ starts-back X rest (n ∷ l) a k o c d =
         go [] = refl
         go (x ∷ l) = refl
 
-    end : 256 + getD X (511 + suc a) 0 ≡ 256 + k + length n
+    end : firstsAt + getD X (rulesAt + suc a) 0 ≡ firstsAt + k + length n
     end =
         let e : suc a ≡ a + 1 = omega arith in
-        let f : getD X (511 + suc a) 0 ≡ k + length n = ap (λ (q : ℕ). getD X (511 + q) 0) e ∙ (c 1 (omega arith) ∙ second) in
+        let f : getD X (rulesAt + suc a) 0 ≡ k + length n = ap (λ (q : ℕ). getD X (rulesAt + q) 0) e ∙ (c 1 (omega arith) ∙ second) in
         omega (arith, f)
 
-    inside : drop (256 + k) X ≡ startsEach o n ++ (firstsOf (o + sizeEach n) l ++ rest)
+    inside : drop (firstsAt + k) X ≡ startsEach o n ++ (firstsOf (o + sizeEach n) l ++ rest)
     inside = d ∙ append-assoc (startsEach o n) (firstsOf (o + sizeEach n) l) rest
 
-    here : slice (256 + getD X (511 + a) 0) (256 + getD X (511 + suc a) 0) X ≡ startsEach o n
+    here : slice (firstsAt + getD X (rulesAt + a) 0) (firstsAt + getD X (rulesAt + suc a) 0) X ≡ startsEach o n
     here =
-        ap₂ (λ (f e : ℕ). slice f e X) begin end ∙ slice-part (256 + k) (length n) X ∙ ap (take (length n)) inside
+        ap₂ (λ (f e : ℕ). slice f e X) begin end ∙ slice-part (firstsAt + k) (length n) X ∙ ap (take (length n)) inside
         ∙ take-at (startsEach o n) (firstsOf (o + sizeEach n) l ++ rest) (length n) (length-starts o n)
 
-    there : drop (256 + (k + length n)) X ≡ firstsOf (o + sizeEach n) l ++ rest
+    there : drop (firstsAt + (k + length n)) X ≡ firstsOf (o + sizeEach n) l ++ rest
     there =
-        let e : 256 + (k + length n) ≡ 256 + k + length n = omega arith in
-        rw e (sym (drop-drop (length n) (256 + k) X) ∙ ap (drop (length n)) inside ∙ drop-at (startsEach o n) (firstsOf (o + sizeEach n) l ++ rest) (length n) (length-starts o n))
+        let e : firstsAt + (k + length n) ≡ firstsAt + k + length n = omega arith in
+        rw e (sym (drop-drop (length n) (firstsAt + k) X) ∙ ap (drop (length n)) inside ∙ drop-at (startsEach o n) (firstsOf (o + sizeEach n) l ++ rest) (length n) (length-starts o n))
 
 -- ---- the tables, region by region
 -- a run of stores fills the front of a region of zeros
@@ -156,116 +157,116 @@ module _ (r : Rules) (limits : Limited r) where
   unfoldable pub C : List ℕ
   C = countsOf 0 (r .productions)
 
-  few-W : length W ≤ 255
+  few-W : length W ≤ maxPlaces
   unfolding W
   few-W = omega (arith, length-layAll 0 (r .productions), limits .small)
 
-  few-S : length S ≤ 255
+  few-S : length S ≤ maxPlaces
   unfolding S
   few-S = omega (arith, length-firsts 0 (r .productions), limits .small)
 
-  few-C : length C ≤ 33
+  few-C : length C ≤ ruleWords
   unfolding C
   few-C = omega (arith, length-counts 0 (r .productions), limits .few)
 
   unfoldable pub A : List ℕ
-  A = W ++ replicate (255 - length W) 0
+  A = W ++ replicate (maxPlaces - length W) 0
 
   unfoldable pub B : List ℕ
-  B = S ++ replicate (255 - length S) 0
+  B = S ++ replicate (maxPlaces - length S) 0
 
   unfoldable pub D : List ℕ
-  D = C ++ replicate (33 - length C) 0
+  D = C ++ replicate (ruleWords - length C) 0
 
   abbrev pub held : List ℕ
   held = regions A 1 B D (r .kinds ∷ length (r .productions) ∷ sizeAll (r .productions) ∷ [])
 
-  pub length-A : length A ≡ 255
+  pub length-A : length A ≡ maxPlaces
   unfolding A
-  length-A = length-filled W 255 few-W
+  length-A = length-filled W maxPlaces few-W
 
-  pub length-B : length B ≡ 255
+  pub length-B : length B ≡ maxPlaces
   unfolding B
-  length-B = length-filled S 255 few-S
+  length-B = length-filled S maxPlaces few-S
 
-  pub length-D : length D ≡ 33
+  pub length-D : length D ≡ ruleWords
   unfolding D
-  length-D = length-filled C 33 few-C
+  length-D = length-filled C ruleWords few-C
 
   -- the three runs of stores
-  stored : sets (sets (sets (replicate 547 0) 511 C) 256 S) 0 W ≡ regions A 0 B D (0 ∷ 0 ∷ 0 ∷ [])
+  stored : sets (sets (sets (replicate tableWords 0) rulesAt C) firstsAt S) 0 W ≡ regions A 0 B D (0 ∷ 0 ∷ 0 ∷ [])
   unfolding A B D
   stored =
-      ap (λ (t : List ℕ). sets (sets t 256 S) 0 W) (fill (replicate 511 0) (0 ∷ 0 ∷ 0 ∷ []) 33 C 511 refl few-C)
-      ∙ ap (λ (t : List ℕ). sets t 0 W) (fill (replicate 256 0) (D ++ (0 ∷ 0 ∷ 0 ∷ [])) 255 S 256 refl few-S)
-      ∙ fill [] (0 ∷ (B ++ (D ++ (0 ∷ 0 ∷ 0 ∷ [])))) 255 W 0 refl few-W
+      ap (λ (t : List ℕ). sets (sets t firstsAt S) 0 W) (fill (replicate rulesAt 0) (0 ∷ 0 ∷ 0 ∷ []) ruleWords C rulesAt refl few-C)
+      ∙ ap (λ (t : List ℕ). sets t 0 W) (fill (replicate firstsAt 0) (D ++ (0 ∷ 0 ∷ 0 ∷ [])) maxPlaces S firstsAt refl few-S)
+      ∙ fill [] (0 ∷ (B ++ (D ++ (0 ∷ 0 ∷ 0 ∷ [])))) maxPlaces W 0 refl few-W
 
   -- the last four stores
-  set-end : (w x : ℕ) (E : List ℕ) → set (regions A w B D E) 255 x ≡ regions A x B D E
-  set-end w x E = set-behind A (w ∷ (B ++ (D ++ E))) 255 0 x length-A
+  set-end : (w x : ℕ) (E : List ℕ) → set (regions A w B D E) endPlace x ≡ regions A x B D E
+  set-end w x E = set-behind A (w ∷ (B ++ (D ++ E))) endPlace 0 x length-A
 
-  set-last : (w : ℕ) (E : List ℕ) (i x : ℕ) → set (regions A w B D E) (255 + suc (255 + (33 + i))) x ≡ regions A w B D (set E i x)
+  set-last : (w : ℕ) (E : List ℕ) (i x : ℕ) → set (regions A w B D E) (maxPlaces + suc (maxPlaces + (ruleWords + i))) x ≡ regions A w B D (set E i x)
   set-last w E i x =
-      set-behind A (w ∷ (B ++ (D ++ E))) 255 (suc (255 + (33 + i))) x length-A
-      ∙ ap (λ (l : List ℕ). A ++ (w ∷ l)) (set-behind B (D ++ E) 255 (33 + i) x length-B ∙ ap (λ (l : List ℕ). B ++ l) (set-behind D E 33 i x length-D))
+      set-behind A (w ∷ (B ++ (D ++ E))) maxPlaces (suc (maxPlaces + (ruleWords + i))) x length-A
+      ∙ ap (λ (l : List ℕ). A ++ (w ∷ l)) (set-behind B (D ++ E) maxPlaces (ruleWords + i) x length-B ∙ ap (λ (l : List ℕ). B ++ l) (set-behind D E ruleWords i x length-D))
 
-  pub laid : laidOut (replicate 547 0) r ≡ held
+  pub laid : laidOut (replicate tableWords 0) r ≡ held
   unfolding laidOut finished wordOf W S C
   laid =
-      ap (λ (t : List ℕ). set (set (set (set t 255 1) 544 (r .kinds)) 545 (length (r .productions))) 546 (sizeAll (r .productions))) stored
-      ∙ ap (λ (t : List ℕ). set (set (set t 544 (r .kinds)) 545 (length (r .productions))) 546 (sizeAll (r .productions))) (set-end 0 1 (0 ∷ 0 ∷ 0 ∷ []))
-      ∙ ap (λ (t : List ℕ). set (set t 545 (length (r .productions))) 546 (sizeAll (r .productions))) (set-last 1 (0 ∷ 0 ∷ 0 ∷ []) 0 (r .kinds))
-      ∙ ap (λ (t : List ℕ). set t 546 (sizeAll (r .productions))) (set-last 1 (r .kinds ∷ 0 ∷ 0 ∷ []) 1 (length (r .productions)))
+      ap (λ (t : List ℕ). set (set (set (set t endPlace 1) kindsAt (r .kinds)) nonterminalsAt (length (r .productions))) sizeAt (sizeAll (r .productions))) stored
+      ∙ ap (λ (t : List ℕ). set (set (set t kindsAt (r .kinds)) nonterminalsAt (length (r .productions))) sizeAt (sizeAll (r .productions))) (set-end 0 1 (0 ∷ 0 ∷ 0 ∷ []))
+      ∙ ap (λ (t : List ℕ). set (set t nonterminalsAt (length (r .productions))) sizeAt (sizeAll (r .productions))) (set-last 1 (0 ∷ 0 ∷ 0 ∷ []) 0 (r .kinds))
+      ∙ ap (λ (t : List ℕ). set t sizeAt (sizeAll (r .productions))) (set-last 1 (r .kinds ∷ 0 ∷ 0 ∷ []) 1 (length (r .productions)))
       ∙ set-last 1 (r .kinds ∷ length (r .productions) ∷ 0 ∷ []) 2 (sizeAll (r .productions))
 
   -- looks at them
-  pub get-last : (i : ℕ) (E : List ℕ) → getD (regions A 1 B D E) (255 + suc (255 + (33 + i))) 0 ≡ getD E i 0
+  pub get-last : (i : ℕ) (E : List ℕ) → getD (regions A 1 B D E) (maxPlaces + suc (maxPlaces + (ruleWords + i))) 0 ≡ getD E i 0
   get-last i E =
-      getD-behind A (1 ∷ (B ++ (D ++ E))) 255 (suc (255 + (33 + i))) length-A
-      ∙ getD-behind B (D ++ E) 255 (33 + i) length-B ∙ getD-behind D E 33 i length-D
+      getD-behind A (1 ∷ (B ++ (D ++ E))) maxPlaces (suc (maxPlaces + (ruleWords + i))) length-A
+      ∙ getD-behind B (D ++ E) maxPlaces (ruleWords + i) length-B ∙ getD-behind D E ruleWords i length-D
 
-  pub get-count : (j : ℕ) → j ≤ length (r .productions) → getD held (511 + (0 + j)) 0 ≡ getD C j 0
+  pub get-count : (j : ℕ) → j ≤ length (r .productions) → getD held (rulesAt + (0 + j)) 0 ≡ getD C j 0
   unfolding D C
   get-count j h =
-      let e : 511 + (0 + j) ≡ 255 + suc (255 + j) = omega arith in
+      let e : rulesAt + (0 + j) ≡ maxPlaces + suc (maxPlaces + j) = omega arith in
       let E : List ℕ = r .kinds ∷ length (r .productions) ∷ sizeAll (r .productions) ∷ [] in
       let l : j < length C = omega (arith, length-counts 0 (r .productions)) in
       rw e
-      (getD-behind A (1 ∷ (B ++ (D ++ E))) 255 (suc (255 + j)) length-A
-      ∙ getD-behind B (D ++ E) 255 j length-B
+      (getD-behind A (1 ∷ (B ++ (D ++ E))) maxPlaces (suc (maxPlaces + j)) length-A
+      ∙ getD-behind B (D ++ E) maxPlaces j length-B
       ∙ List·getD-append D E 0 j (omega (arith, length-D, limits .few))
-      ∙ List·getD-append C (replicate (33 - length C) 0) 0 j l)
+      ∙ List·getD-append C (replicate (ruleWords - length C) 0) 0 j l)
 
-  pub the-places : map placeOf (take 256 held) ≡ padded (layAll 0 (r .productions))
+  pub the-places : map placeOf (take placeWords held) ≡ padded (layAll 0 (r .productions))
   unfolding padded A W placeOf
   the-places =
       let E : List ℕ = r .kinds ∷ length (r .productions) ∷ sizeAll (r .productions) ∷ [] in
       let n : length (layAll 0 (r .productions)) ≡ length W = sym (length-map wordOf (layAll 0 (r .productions))) in
-      let cut : take 256 held ≡ A ++ (1 ∷ [])
-      = ap (take 256) (sym (append-assoc A (1 ∷ []) (B ++ (D ++ E))))
-      ∙ take-at (A ++ (1 ∷ [])) (B ++ (D ++ E)) 256 (length-append A (1 ∷ []) ∙ omega (arith, length-A)) in
+      let cut : take placeWords held ≡ A ++ (1 ∷ [])
+      = ap (take placeWords) (sym (append-assoc A (1 ∷ []) (B ++ (D ++ E))))
+      ∙ take-at (A ++ (1 ∷ [])) (B ++ (D ++ E)) placeWords (length-append A (1 ∷ []) ∙ omega (arith, length-A)) in
       ap (map placeOf) cut ∙ map-append placeOf A (1 ∷ [])
-      ∙ ap (λ (l : List Place). l ++ (at 32 (Token 0) ∷ []))
-      (map-append placeOf W (replicate (255 - length W) 0)
+      ∙ ap (λ (l : List Place). l ++ (at nobody (Token endMark) ∷ []))
+      (map-append placeOf W (replicate (maxPlaces - length W) 0)
       ∙ ap₂ (λ (x y : List Place). x ++ y) (back-all (r .kinds) (length (r .productions)) (limits .kinds-most) (limits .few) 0 (r .productions) (omega (arith, limits .few)) (limits .each))
-      (none-back (255 - length W) ∙ ap (λ (k : ℕ). replicate (255 - k) nowhere) (sym n)))
-      ∙ append-assoc (layAll 0 (r .productions)) (replicate (255 - length (layAll 0 (r .productions))) nowhere) (at 32 (Token 0) ∷ [])
+      (none-back (maxPlaces - length W) ∙ ap (λ (k : ℕ). replicate (maxPlaces - k) nowhere) (sym n)))
+      ∙ append-assoc (layAll 0 (r .productions)) (replicate (maxPlaces - length (layAll 0 (r .productions))) nowhere) (at nobody (Token endMark) ∷ [])
 
-  the-firsts : drop (256 + 0) held ≡ S ++ (replicate (255 - length S) 0 ++ (D ++ (r .kinds ∷ length (r .productions) ∷ sizeAll (r .productions) ∷ [])))
+  the-firsts : drop (firstsAt + 0) held ≡ S ++ (replicate (maxPlaces - length S) 0 ++ (D ++ (r .kinds ∷ length (r .productions) ∷ sizeAll (r .productions) ∷ [])))
   unfolding B
   the-firsts =
       let E : List ℕ = r .kinds ∷ length (r .productions) ∷ sizeAll (r .productions) ∷ [] in
-      ap (drop 256) (sym (append-assoc A (1 ∷ []) (B ++ (D ++ E))))
-      ∙ drop-at (A ++ (1 ∷ [])) (B ++ (D ++ E)) 256 (length-append A (1 ∷ []) ∙ omega (arith, length-A))
-      ∙ append-assoc S (replicate (255 - length S) 0) (D ++ E)
+      ap (drop firstsAt) (sym (append-assoc A (1 ∷ []) (B ++ (D ++ E))))
+      ∙ drop-at (A ++ (1 ∷ [])) (B ++ (D ++ E)) firstsAt (length-append A (1 ∷ []) ∙ omega (arith, length-A))
+      ∙ append-assoc S (replicate (maxPlaces - length S) 0) (D ++ E)
 
   pub tables-say : grammarIn (laidOut (replicate tableWords 0) r) ≡ compile r
   unfolding grammarIn compile S C
   tables-say =
       rw laid
-      (let N : getD held 545 0 ≡ length (r .productions) = get-last 1 (r .kinds ∷ length (r .productions) ∷ sizeAll (r .productions) ∷ []) in
-      let T : getD held 544 0 ≡ r .kinds = get-last 0 (r .kinds ∷ length (r .productions) ∷ sizeAll (r .productions) ∷ []) in
-      let P : getD held 546 0 ≡ sizeAll (r .productions) = get-last 2 (r .kinds ∷ length (r .productions) ∷ sizeAll (r .productions) ∷ []) in
-      let Q : startsIn held (upFrom 0 (getD held 545 0)) ≡ startsAll 0 (r .productions)
+      (let N : getD held nonterminalsAt 0 ≡ length (r .productions) = get-last 1 (r .kinds ∷ length (r .productions) ∷ sizeAll (r .productions) ∷ []) in
+      let T : getD held kindsAt 0 ≡ r .kinds = get-last 0 (r .kinds ∷ length (r .productions) ∷ sizeAll (r .productions) ∷ []) in
+      let P : getD held sizeAt 0 ≡ sizeAll (r .productions) = get-last 2 (r .kinds ∷ length (r .productions) ∷ sizeAll (r .productions) ∷ []) in
+      let Q : startsIn held (upFrom 0 (getD held nonterminalsAt 0)) ≡ startsAll 0 (r .productions)
       = ap (λ (n : ℕ). startsIn held (upFrom 0 n)) N ∙ starts-back held _ (r .productions) 0 0 0 get-count the-firsts in
       λ i. record { kinds = T i; size = P i; starts = Q i; places = the-places i })

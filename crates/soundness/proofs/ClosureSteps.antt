@@ -18,7 +18,7 @@ use Rattle.base.proofs.Bits.{test-set, test-none, set-ge, set-fits}
 use Rattle.grammar.specs.declared.Symbol.{Symbol}
 use Rattle.grammar.specs.declared.Symbol.the-variants.{Token, Nonterminal, End}
 use Rattle.grammar.specs.Grammar.{Grammar, suffix, facing}
-use Rattle.grammar.specs.Tables.{grammarIn, nonterminalsIn, ruleAt, Fits}
+use Rattle.grammar.specs.Tables.{placeWords, tableWords, grammarIn, nonterminalsIn, ruleAt, Fits}
 use Rattle.grammar.proofs.WordLaws.{facing-past, alternatives-in}
 use Rattle.soundness.specs.Closures.{passes, passesBy, derivingRound}
 use Rattle.soundness.specs.Steps.{stepOf, passOf, DerivingIs}
@@ -36,7 +36,7 @@ module _ (t : List ℕ) (tokens : Bool) (x first p : ℕ)
   pub pass-end : facing (grammarIn t) p ≡ End → true ≡ passes tokens (testBit x) (suffix (grammarIn t) first)
   pass-end e = here e
 
-  pub pass-past : 256 ≤ p → true ≡ passes tokens (testBit x) (suffix (grammarIn t) first)
+  pub pass-past : placeWords ≤ p → true ≡ passes tokens (testBit x) (suffix (grammarIn t) first)
   pass-past h = here (facing-past t p h)
 
   pub pass-token-stops : {k : ℕ} → facing (grammarIn t) p ≡ Token k → not tokens ≡ true → false ≡ passes tokens (testBit x) (suffix (grammarIn t) first)
@@ -79,7 +79,7 @@ pub round-in : (t : List ℕ) (tokens : Bool) (x a : ℕ) {f e : ℕ} → a < no
 unfolding derivingRound
 round-in t tokens x a h p q = rw (p, q, add-one, alternatives-in t a h)
 
-pub rule-within : (t : List ℕ) → Fits t → (a : ℕ) {e : ℕ} → a < nonterminalsIn t → e ≡ ruleAt t (a + 1) → e ≤ 547
+pub rule-within : (t : List ℕ) → Fits t → (a : ℕ) {e : ℕ} → a < nonterminalsIn t → e ≡ ruleAt t (a + 1) → e ≤ tableWords
 rule-within t h a l q = rw (q, add-one) (h .within a l)
 
 -- ---- a step

@@ -14,8 +14,9 @@ use Rattle.number.specs.declared.Refusal.the-variants.{Unproductive, LeftRecurs
 use Rattle.number.specs.declared.Cursor.{Cursor}
 use Rattle.number.specs.declared.Read.{Read}
 use Rattle.number.specs.declared.Read.the-variants.{Value, Refused as Unread}
+use Rattle.grammar.specs.Limits.{maxNonterminals}
 use Rattle.grammar.specs.Grammar.{Grammar}
-use Rattle.grammar.specs.Tables.{grammarIn, nonterminalsIn, Fits}
+use Rattle.grammar.specs.Tables.{tableWords, grammarIn, nonterminalsIn, Fits}
 use Rattle.reader.specs.Pass.{out, passOf}
 use Rattle.reader.proofs.ReadLaws.{Outcome, none, whole, outcome}
 use Rattle.grammar.proofs.WordLaws.{length-starts-in}
@@ -39,7 +40,7 @@ unproductive-is t x n d e =
     ∙ ap (lowestFrom (λ a. not (deriving? true (grammarIn t) a)) 0) (e ∙ sym (length-starts-in t)))
 
 -- ---- 7
-pub recursive-is : (t : List ℕ) → Fits t → (nullable n : ℕ) (rows : List ℕ) → DerivingIs false (grammarIn t) nullable → n ≡ nonterminalsIn t → length rows ≡ 32
+pub recursive-is : (t : List ℕ) → Fits t → (nullable n : ℕ) (rows : List ℕ) → DerivingIs false (grammarIn t) nullable → n ≡ nonterminalsIn t → length rows ≡ maxNonterminals
     → Rows nullable (grammarIn t) (nonterminalsIn t) rows → {after : List ℕ} → after ≡ reachOf n n rows
     → refuseAt LeftRecursive (lowestFrom (λ a. testBit (getD after a 0) a) 0 n) ≡ leftRecursiveOf (grammarIn t)
 unfolding leftRecursiveOf lowestLeftRecursive
@@ -64,7 +65,7 @@ module _ (g : Grammar) {v : Verdict} (e : v ≡ unproductiveOf g) where
   judge-second h q = rw (← e, h, q)
 
 -- ---- the bytes
-module _ (s t₀ : List ℕ) {x : Read} {t : List ℕ} (z : t₀ ≡ replicate 547 0) (e : out x t ≡ passOf s t₀) where
+module _ (s t₀ : List ℕ) {x : Read} {t : List ℕ} (z : t₀ ≡ replicate tableWords 0) (e : out x t ≡ passOf s t₀) where
   pub compile-refused : {r : Refusal} → x ≡ Unread r → Compiled s (Refused r) t
   unfolding checkOf
   compile-refused {r} h = go (outcome s t₀ z e)

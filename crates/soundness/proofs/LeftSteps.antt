@@ -18,7 +18,7 @@ use Rattle.base.proofs.Bits.{test-set, test-none, same?}
 use Rattle.grammar.specs.declared.Symbol.{Symbol}
 use Rattle.grammar.specs.declared.Symbol.the-variants.{Token, Nonterminal, End}
 use Rattle.grammar.specs.Grammar.{Grammar, suffix, facing, alternatives}
-use Rattle.grammar.specs.Tables.{grammarIn, nonterminalsIn, ruleAt}
+use Rattle.grammar.specs.Tables.{placeWords, grammarIn, nonterminalsIn, ruleAt}
 use Rattle.grammar.proofs.WordLaws.{facing-past, alternatives-in}
 use Rattle.soundness.specs.Closures.{leads, leadsBy}
 use Rattle.soundness.specs.Steps.{Leads, Moves, Rows, joinOf, throughOf, pivotOf, reachOf}
@@ -46,7 +46,7 @@ module _ (t : List ℕ) (nullable first from x p : ℕ) (i : Onward t nullable f
   unfolding Leads
   left-token e c = sym (or-none (testBit x c)) ∙ along e c
 
-  pub left-past : 256 ≤ p → Leads nullable from (suffix (grammarIn t) first) x
+  pub left-past : placeWords ≤ p → Leads nullable from (suffix (grammarIn t) first) x
   left-past h = left-end (facing-past t p h)
 
   module _ {b : ℕ} (e : facing (grammarIn t) p ≡ Nonterminal b) {y : ℕ} (q : y ≡ setBit x b) {d : Bool} (h : d ≡ testBit nullable b) where
