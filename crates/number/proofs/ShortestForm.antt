@@ -44,7 +44,8 @@ module _ (pre : List ℕ) where
       short : v < 128 → numberAt (pre ++ (shortest v ++ rest)) (length pre) ≡ Value v (cursor (length pre + length (shortest v)))
       short l =
           rw (shortest-one v l)
-            (sym (one (pre ++ (v ∷ rest)) (length pre) (omega (arith, length-append pre (v ∷ rest))) (sym (at-0 v rest)) l))
+          (sym (one (pre ++ (v ∷ rest)) (length pre) (omega (arith, length-append pre (v ∷ rest))) (sym (at-0 v rest)) l))
+
       middle : 128 ≤ v → v < 16384 → numberAt (pre ++ (shortest v ++ rest)) (length pre) ≡ Value v (cursor (length pre + length (shortest v)))
       middle m l =
           let x : ℕ = v % 128 + 128 in
@@ -53,8 +54,9 @@ module _ (pre : List ℕ) where
           let b = at-1 x y rest in
           let e : length pre + 2 ≡ length pre + 1 + 1 = omega arith in
           rw (shortest-two v m l, e)
-            (sym (two (pre ++ (x ∷ y ∷ rest)) (length pre) (omega (arith, length-append pre (x ∷ y ∷ rest))) (omega (arith, a))
-              (omega (arith, length-append pre (x ∷ y ∷ rest))) (omega (arith, b)) (omega (arith, b)) (omega (arith, a, b))))
+          (sym (two (pre ++ (x ∷ y ∷ rest)) (length pre) (omega (arith, length-append pre (x ∷ y ∷ rest))) (omega (arith, a))
+          (omega (arith, length-append pre (x ∷ y ∷ rest))) (omega (arith, b)) (omega (arith, b)) (omega (arith, a, b))))
+
       large : 16384 ≤ v → numberAt (pre ++ (shortest v ++ rest)) (length pre) ≡ Value v (cursor (length pre + length (shortest v)))
       large m =
           let x : ℕ = v % 128 + 128 in
@@ -65,9 +67,10 @@ module _ (pre : List ℕ) where
           let c = at-2 x y z rest in
           let e : length pre + 3 ≡ length pre + 1 + 1 + 1 = omega arith in
           rw (shortest-three v m, e)
-            (sym (three (pre ++ (x ∷ y ∷ z ∷ rest)) (length pre) (omega (arith, length-append pre (x ∷ y ∷ z ∷ rest))) (omega (arith, a))
-              (omega (arith, length-append pre (x ∷ y ∷ z ∷ rest))) (omega (arith, b)) (omega (arith, length-append pre (x ∷ y ∷ z ∷ rest)))
-              (omega (arith, c)) (omega (arith, c)) (omega (arith, a, b, c))))
+          (sym (three (pre ++ (x ∷ y ∷ z ∷ rest)) (length pre) (omega (arith, length-append pre (x ∷ y ∷ z ∷ rest))) (omega (arith, a))
+          (omega (arith, length-append pre (x ∷ y ∷ z ∷ rest))) (omega (arith, b)) (omega (arith, length-append pre (x ∷ y ∷ z ∷ rest)))
+          (omega (arith, c)) (omega (arith, c)) (omega (arith, a, b, c))))
+
       go : Dec (v < 128) → Dec (v < 16384) → numberAt (pre ++ (shortest v ++ rest)) (length pre) ≡ Value v (cursor (length pre + length (shortest v)))
       go (yes l) k = short l
       go (no l) (yes k) = middle (omega arith) k
@@ -100,19 +103,21 @@ module _ (s : List ℕ) (bytes : (i : ℕ) → getD s i 0 < 256) (at : ℕ) {v :
       let x : v % 128 + 128 ≡ low = omega (arith, u, bytes at) in
       let r : v / 128 ≡ middle % 128 + last * 128 = omega (arith, u) in
       let y : v / 128 % 128 + 128 ≡ middle = rw r (omega (arith, bytes (at + 1))) in
-      let w : v / 16384 ≡ last = omega (arith, u) in
-      (omega (arith, u),
+      let w : v / 16384 ≡ last = omega (arith, u) in (
+        omega (arith, u),
         rw (shortest-three v (omega (arith, u)), x, y, w, q .1)
-          (tail at h ∙ ap (λ (l : List ℕ). low ∷ l) (tail (at + 1) d ∙ ap (λ (l : List ℕ). middle ∷ l) (tail (at + 1 + 1) g))))
+            (tail at h ∙ ap (λ (l : List ℕ). low ∷ l) (tail (at + 1) d ∙ ap (λ (l : List ℕ). middle ∷ l) (tail (at + 1 + 1) g))),
+      )
 
   only-two : at < length s → 128 ≤ low → at + 1 < length s → 0 < middle → middle < 128 → Spelled
   only-two h b d z k =
       let q = spelled (two s at h b d z k refl) in
       let u : v ≡ low % 128 + middle * 128 = q .0 in
       let x : v % 128 + 128 ≡ low = omega (arith, u, bytes at) in
-      let y : v / 128 ≡ middle = omega (arith, u) in
-      (omega (arith, u),
-        rw (shortest-two v (omega (arith, u)) (omega (arith, u)), x, y, q .1) (tail at h ∙ ap (λ (l : List ℕ). low ∷ l) (tail (at + 1) d)))
+      let y : v / 128 ≡ middle = omega (arith, u) in (
+        omega (arith, u),
+        rw (shortest-two v (omega (arith, u)) (omega (arith, u)), x, y, q .1) (tail at h ∙ ap (λ (l : List ℕ). low ∷ l) (tail (at + 1) d)),
+      )
 
   only-one : at < length s → low < 128 → Spelled
   only-one h b =

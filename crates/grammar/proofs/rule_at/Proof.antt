@@ -1,5 +1,5 @@
 -- `grammar::rule_at` meets its contract.
-use Rattle.grammar.specs.Tables.{ruleAt}
+use Rattle.grammar.specs.Tables.{rulesAt, ruleAt}
 use Prim.Native.Nat.{_+_}
 use native.Mathlib.Omega.{arith}
 use borrow.Author.Needs.{needs}
@@ -19,7 +19,7 @@ index-requires : tie.Need-index-requires
 index-requires c κs = search needs
 
 add-result : tie.Need-add-result
-add-result c = omega (arith, c .before .shared-slice-known2 .given (511 + c .before .before .before .args .a))
+add-result c = omega (arith, c .before .shared-slice-known2 .given (rulesAt + c .before .before .before .args .a))
 
 returns : tie.Need-returns
 unfolding ruleAt

@@ -5,6 +5,7 @@ use mathlib.Core.Path.{_≡_}
 use Prim.Native.Nat.{_≤_}
 use lib.ListN.{length, length-set}
 use Rattle.reader.specs.Pass.{productionsOf}
+use Rattle.grammar.specs.Limits.{maxPlaces}
 use Rattle.number.proofs.NumberLaws.{limited-is}
 use Rattle.reader.proofs.PassSteps.{productions-done, productions-refused, productions-full, productions-piece, productions-more, symbols-end}
 use Rattle.reader.proofs.productions.Statement.{statement}
@@ -12,7 +13,7 @@ use Rattle.reader.proofs.productions.Tie as tie
 
 abbrev Inv-loop : tie.InvT-loop
 Inv-loop bytes count kinds nonterminals owner tables₀ first production c₀ p₀ k₀ left₀ tables c p k left =
-    (k ≤ p) × (p ≤ 255) × (length tables ≡ length tables₀)
+    (k ≤ p) × (p ≤ maxPlaces) × (length tables ≡ length tables₀)
     × (productionsOf bytes kinds nonterminals owner left c p k tables ≡ productionsOf bytes kinds nonterminals owner count c₀ first production tables₀)
 
 abbrev μ-loop : tie.MeasureT-loop

@@ -6,6 +6,7 @@ use Prim.Native.Nat.{_≤_, _-_}
 use native.Mathlib.Nat.{sub-zero}
 use lib.ListN.{length, length-set}
 use Rattle.reader.specs.Pass.{nonterminalsOf}
+use Rattle.grammar.specs.Limits.{maxPlaces}
 use Rattle.number.proofs.NumberLaws.{limited-is}
 use Rattle.reader.proofs.PassSteps.{rules-done, rules-refused, rules-piece, rules-more, productions-end}
 use Rattle.reader.proofs.rules.Statement.{statement}
@@ -13,7 +14,7 @@ use Rattle.reader.proofs.rules.Tie as tie
 
 abbrev Inv-loop : tie.InvT-loop
 Inv-loop bytes kinds nonterminals tables₀ c₀ p₀ k₀ a₀ tables c p k a =
-    (k ≤ p) × (p ≤ 255) × (a ≤ nonterminals) × (length tables ≡ length tables₀)
+    (k ≤ p) × (p ≤ maxPlaces) × (a ≤ nonterminals) × (length tables ≡ length tables₀)
     × (nonterminalsOf bytes kinds nonterminals a (nonterminals - a) c p k tables ≡ nonterminalsOf bytes kinds nonterminals 0 nonterminals c₀ 0 0 tables₀)
 
 abbrev μ-loop : tie.MeasureT-loop

@@ -5,7 +5,7 @@ use mathlib.Core.Path.{_≡_}
 use Prim.Native.Nat.{_-_}
 use Rattle.base.specs.Bits.{testBit}
 use Rattle.grammar.specs.Grammar.{suffix}
-use Rattle.grammar.specs.Tables.{grammarIn}
+use Rattle.grammar.specs.Tables.{placeWords, grammarIn}
 use Rattle.grammar.proofs.WordLaws.{facing-of}
 use Rattle.soundness.specs.Closures.{passes}
 use Rattle.soundness.proofs.ClosureSteps.{pass-end, pass-past, pass-token-stops, pass-token, pass-stops, pass-goes}
@@ -17,7 +17,7 @@ Inv-loop tables tokens set first p₀ p =
     passes tokens (testBit set) (suffix (grammarIn tables) p) ≡ passes tokens (testBit set) (suffix (grammarIn tables) first)
 
 abbrev μ-loop : tie.MeasureT-loop
-μ-loop tables tokens set first p₀ p = 256 - p
+μ-loop tables tokens set first p₀ p = placeWords - p
 
 loop-holds : tie.Need-loop-holds Inv-loop μ-loop
 loop-holds c = search needs

@@ -2,6 +2,7 @@
 use borrow.Author.Needs.{needs}
 use Prim.Native.Nat.{_-_}
 use native.Mathlib.Omega.{arith}
+use Rattle.grammar.specs.Tables.{placeWords}
 use Rattle.grammar.proofs.WordLaws.{facing-of}
 use Rattle.soundness.proofs.LeftSteps.{Onward, left-end, left-token, left-past, left-stops, left-goes}
 use Rattle.soundness.proofs.left.left_from.Statement.{statement}
@@ -11,7 +12,7 @@ abbrev Inv-loop : tie.InvT-loop
 Inv-loop tables nullable first from set₀ p₀ set p = Onward tables nullable first from set p
 
 abbrev μ-loop : tie.MeasureT-loop
-μ-loop tables nullable first from set₀ p₀ set p = 256 - p
+μ-loop tables nullable first from set₀ p₀ set p = placeWords - p
 
 loop-holds : tie.Need-loop-holds Inv-loop μ-loop
 loop-holds c = search needs
