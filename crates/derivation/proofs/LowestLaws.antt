@@ -1,0 +1,44 @@
+-- The plain chooser names the lowest alternative that serves, so it is right.
+use mathlib.Core.Path.{_≡_, refl}
+use mathlib.Core.Option.{Option, none, some}
+use mathlib.Core.List.{List, _∷_}
+use Prim.Native.Nat.{ℕ, zero, suc, _<_, suc-le-suc}
+use lib.Dec.{T}
+use lib.ListN.{length}
+use Rattle.base.specs.Search.{LowestIs, this, nothing}
+use Rattle.base.proofs.Booleans.{clash}
+use Rattle.base.proofs.Lowest.{lowest-is}
+use Rattle.grammar.specs.Grammar.{Grammar, alternatives, first}
+use Rattle.derivation.specs.Machine.{Serves, Right, serves?, lowest}
+use Rattle.derivation.proofs.Notes.{get-lt}
+use Rattle.derivation.proofs.CellLaws.{runs-iff}
+
+module _ (g : Grammar) (w : List ℕ) where
+  serves-sound : (S : List ℕ) (a i b : ℕ) → T (serves? g w S i (first g a b)) → Serves g w S a i b
+  unfolding serves?
+  serves-sound S a i b t = go (first g a b) refl t
+    where
+      go : (o : Option ℕ) → first g a b ≡ o → T (serves? g w S i o) → Serves g w S a i b
+      go none e t = absurd t
+      go (some f) e t = (f, e, runs-iff g w (f ∷ S) i .0 t)
+
+  first-lt : (a b f : ℕ) → first g a b ≡ some f → b < suc (length (alternatives g a))
+  first-lt a zero f e = clash (cc)
+  first-lt a (suc b) f e = suc-le-suc (get-lt (alternatives g a) b e)
+
+  serves-complete : (S : List ℕ) (a i b : ℕ) → Serves g w S a i b → T (serves? g w S i (first g a b)) × (b < suc (length (alternatives g a)))
+  unfolding serves?
+  serves-complete S a i b (f, e, x) = (rw e (runs-iff g w (f ∷ S) i .1 x), first-lt a b f e)
+
+  pub lowest-serves : (S : List ℕ) (a i : ℕ) → LowestIs (Serves g w S a i) (lowest g w S a i)
+  unfolding lowest
+  lowest-serves S a i =
+      lowest-is (Serves g w S a i) (λ b. serves? g w S i (first g a b)) (suc (length (alternatives g a))) (λ b _ t. serves-sound S a i b t)
+      (serves-complete S a i)
+
+  pub lowest-right : Right g w (lowest g w)
+  lowest-right S a i b x = go (lowest g w S a i) refl (lowest-serves S a i)
+    where
+      go : (o : Option ℕ) → lowest g w S a i ≡ o → LowestIs (Serves g w S a i) o → (c : ℕ) × (lowest g w S a i ≡ some c) × Serves g w S a i c
+      go o e (this c y l) = (c, e, y)
+      go o e (nothing n) = absurd (n b x)
