@@ -12,3 +12,8 @@ pub mod ReadingLaws
 pub mod Stretches
 pub mod ReachLaws
 pub mod ViableLaws
+pub mod ReachSteps
+pub mod ReachRoundsLaws
+pub mod WrongPlace
+pub mod ChosenLaws
+pub mod LowestReading

@@ -49,7 +49,7 @@ prefix-stuck b full e = cc
 
 -- ---- what the machine does next
 -- why the machine halts stuck
-data Halted (g : Grammar) (w : List ℕ) (choose : Chooser) : List ℕ → ℕ → Type 0 where
+pub data Halted (g : Grammar) (w : List ℕ) (choose : Chooser) : List ℕ → ℕ → Type 0 where
   over : {i : ℕ} → eqb i (length w) ≡ false → Halted g w choose [] i
   past : {p i k : ℕ} {S : List ℕ} → facing g p ≡ Token k → getElem? w i ≡ none → Halted g w choose (p ∷ S) i
   other : {p i k t : ℕ} {S : List ℕ} → facing g p ≡ Token k → getElem? w i ≡ some t → admits g k t ≡ false → Halted g w choose (p ∷ S) i
@@ -57,7 +57,7 @@ data Halted (g : Grammar) (w : List ℕ) (choose : Chooser) : List ℕ → ℕ �
   missing : {p i a b : ℕ} {S : List ℕ} → facing g p ≡ Nonterminal a → choose (suc p ∷ S) a i ≡ some b → first g a b ≡ none → Halted g w choose (p ∷ S) i
 
 -- what the machine does next, in facts
-data Seen (g : Grammar) (w : List ℕ) (choose : Chooser) : List ℕ → ℕ → ℕ → Step → Type 0 where
+pub data Seen (g : Grammar) (w : List ℕ) (choose : Chooser) : List ℕ → ℕ → ℕ → Step → Type 0 where
   ended : {i room : ℕ} → i ≡ length w → Seen g w choose [] i room (halt (accepted []))
   halted : {S : List ℕ} {i room : ℕ} → Halted g w choose S i → Seen g w choose S i room (halt stuck)
   crammed : {p a i : ℕ} {S : List ℕ} → facing g p ≡ Nonterminal a → Seen g w choose (p ∷ S) i 0 (halt full)
@@ -74,7 +74,7 @@ module _ (g : Grammar) (w : List ℕ) (choose : Chooser) where
   see-call e (absent d c) = halted (missing e d c)
   see-call e (taken d c) = picked e d c
 
-  see : (S : List ℕ) (i room : ℕ) → Seen g w choose S i room (step g w choose S i room)
+  pub see : (S : List ℕ) (i room : ℕ) → Seen g w choose S i room (step g w choose S i room)
   unfolding step
   see [] i room = go (eqb i (length w)) refl
     where

@@ -19,7 +19,7 @@ use Rattle.derivation.proofs.RunLaws.{run→leftmost, leftmost→run}
 
 -- ---- one token more at the end of what is derived
 -- what derives α and then kind k: a derivation of α, and one token behind it
-abbrev Before : Grammar → List Symbol → List ℕ → List ℕ → Type 0
+abbrev pub Before : Grammar → List Symbol → List ℕ → List ℕ → Type 0
 Before g α r v = (w : List ℕ) × (t : ℕ) × (v ≡ w ++ (t ∷ [])) × Leftmost g α r w
 
 module _ {g : Grammar} where
@@ -28,7 +28,7 @@ module _ {g : Grammar} where
   nil-only t (Leftmost.match c x) e = clash (cc)
   nil-only t (Leftmost.expand c x) e = clash (cc)
 
-  leftmost-before : {γ : List Symbol} {r v : List ℕ} → Leftmost g γ r v → (α : List Symbol) (k : ℕ) → γ ≡ α ++ (Token k ∷ []) → Before g α r v
+  pub leftmost-before : {γ : List Symbol} {r v : List ℕ} → Leftmost g γ r v → (α : List Symbol) (k : ℕ) → γ ≡ α ++ (Token k ∷ []) → Before g α r v
   leftmost-before Leftmost.done [] k e = clash (cc)
   leftmost-before Leftmost.done (y ∷ α) k e = clash (cc)
   leftmost-before (Leftmost.match {t = t} c x) [] k e = nil-only t x (cc)
@@ -48,7 +48,7 @@ module _ {g : Grammar} where
   unmark : {α : List Symbol} {r : List ℕ} (w : List ℕ) (t : ℕ) → Before g α r (w ++ (t ∷ [])) → Leftmost g α r w
   unmark w t (v, u, q, z) = rw (snoc-same w v t u q .0) z
 
-  leftmost-mark : (α : List Symbol) (k : ℕ) (r w : List ℕ) → Leftmost g (α ++ (Token k ∷ [])) r (w ++ (k ∷ [])) ↔ Leftmost g α r w
+  pub leftmost-mark : (α : List Symbol) (k : ℕ) (r w : List ℕ) → Leftmost g (α ++ (Token k ∷ [])) r (w ++ (k ∷ [])) ↔ Leftmost g α r w
   leftmost-mark α k r w =
       (λ x. unmark w k (leftmost-before x α k refl), λ x. rw append-nil at (leftmost-append x (Leftmost.match (admits-self g k) Leftmost.done)))
 

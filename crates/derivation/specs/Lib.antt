@@ -3,3 +3,5 @@ pub mod Runs
 pub mod Cells
 pub mod Machine
 pub mod Viable
+pub mod Chosen
+pub mod ReachRounds
