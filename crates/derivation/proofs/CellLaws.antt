@@ -1,23 +1,22 @@
 -- The table of derivations is right: rounds find exactly the cells that have a derivation, whatever the grammar value and the note; and whatever
 -- is sound and closed under a round is the table.
-use mathlib.Core.Path.{_≡_, refl, ap}
+use mathlib.Core.Path.{_≡_, refl}
 use mathlib.Core.Logic.{_↔_, _⊎_, inl, inr}
 use mathlib.Core.Bool.{Bool, _&&_}
 use mathlib.Core.Option.{Option, none, some}
 use mathlib.Core.List.{List, [], _∷_, _++_, List·Memᴰ}
-use Prim.Native.Nat.{ℕ, zero, suc, _-_, _≤_, _<_}
+use Prim.Native.Nat.{ℕ, zero, suc, _-_, _≤_}
 use native.Mathlib.Omega.{arith}
-use native.Mathlib.Decide.{decLe}
 use lib.Dec.{T, eqb→eq, eqb-refl, leb, leb→le, le→leb}
-use lib.ListN.{length, List·getD-eq-default, getElem?}
+use lib.ListN.{length, getElem?}
 use Rattle.base.specs.Rounds.{rounds, anyOf}
 use Rattle.base.proofs.Booleans.{clash, and-T, T-and, same}
 use Rattle.base.proofs.Lists.{Found, anyOf-T, T-anyOf, get-upFrom, upFrom-get}
 use Rattle.base.proofs.Fixpoint.{Within, settle}
 use Rattle.grammar.specs.declared.Symbol.{Symbol}
 use Rattle.grammar.specs.declared.Symbol.the-variants.{Token, Nonterminal, End}
-use Rattle.grammar.specs.declared.Place.{Place}
-use Rattle.grammar.specs.Grammar.{Grammar, nowhere, facing, admits, alternatives, first}
+use Rattle.grammar.specs.Grammar.{Grammar, facing, admits, alternatives, first}
+use Rattle.grammar.proofs.GrammarLaws.{faces-place}
 use Rattle.derivation.specs.Runs.{Run, Der, Ders, none, more, DerivesBy, Opens}
 use Rattle.derivation.specs.Cells.{Cell, cell, cuts, byToken, byCut, bySymbol, cellRound, cellCount, derives?, runs?}
 use Rattle.derivation.proofs.Notes.{get-lt}
@@ -72,15 +71,6 @@ module _ (g : Grammar) (w : List ℕ) (X : Cell → Bool) (p i j : ℕ) where
       go (Nonterminal a) e t = way-call a e (anyOf-T _ (alternatives g a) t)
       go End e t = end e (eqb→eq i j t)
 
--- what faces a token or a nonterminal is a place of the table
-a-place : (g : Grammar) (p : ℕ) → ¬ (facing g p ≡ End) → p < length (g .places)
-unfolding facing
-a-place g p h = go (decLe (length (g .places)) p)
-  where
-    go : Dec (length (g .places) ≤ p) → p < length (g .places)
-    go (yes l) = absurd (h (ap (λ (x : Place). x .symbol) (List·getD-eq-default (g .places) nowhere l)))
-    go (no l) = omega arith
-
 -- places that derivations from them never leave
 pub record Kept (g : Grammar) (D : ℕ → Type 0) : Type 0 where
   pub next : (p : ℕ) → D p → ¬ (facing g p ≡ End) → D (suc p)
@@ -107,11 +97,11 @@ module _ (g : Grammar) (w : List ℕ) where
       go : c .upto ≤ length w → Way g w X (c .place) (c .from) (c .upto) → Way g w Y (c .place) (c .from) (c .upto)
       go l (end e q) = end e q
       go l (token e d a x) =
-          let hp = a-place g (c .place) (λ q. clash (cc)) in
+          let hp = faces-place g (c .place) (λ q. clash (cc)) in
           let hi = get-lt w (c .from) d in
           absurd (out (record { place-in = hp; from-in = omega arith; upto-in = l }))
       go l (call b e d k k′ x y) =
-          let hp = a-place g (c .place) (λ q. clash (cc)) in
+          let hp = faces-place g (c .place) (λ q. clash (cc)) in
           absurd (out (record { place-in = hp; from-in = omega arith; upto-in = l }))
 
   settled : (c : Cell) → List·Memᴰ c (cells (length (g .places)) (length w)) ⊎ ((X Y : Cell → Bool) → T (cellRound g w X c) → T (cellRound g w Y c))

@@ -1,17 +1,14 @@
 -- The chosen derivation is a leftmost derivation, and there is at most one; an end mark behind it changes nothing.
 use mathlib.Core.Path.{_≡_, refl, sym, ap, _∙_}
-use mathlib.Core.Logic.{_↔_, _⊎_, inl, inr}
 use mathlib.Core.Option.{some}
 use mathlib.Core.List.{List, [], _∷_, _++_, append-assoc}
-use Prim.Native.Nat.{ℕ, suc, _≤_, _<_}
+use Prim.Native.Nat.{ℕ, _<_}
 use native.Mathlib.Omega.{arith}
 use native.Mathlib.Decide.{decLt}
-use lib.Dec.{T}
-use lib.ListN.{length}
 use Rattle.base.proofs.Booleans.{clash}
 use Rattle.grammar.specs.declared.Symbol.{Symbol}
 use Rattle.grammar.specs.declared.Symbol.the-variants.{Token, Nonterminal}
-use Rattle.grammar.specs.Grammar.{Grammar, admits, production}
+use Rattle.grammar.specs.Grammar.{Grammar, production}
 use Rattle.grammar.specs.Derivation.{Leftmost, Derives}
 use Rattle.grammar.proofs.GrammarLaws.{admits-self}
 use Rattle.derivation.specs.Chosen.{Chosen}
@@ -61,7 +58,13 @@ module _ {g : Grammar} where
       let p : α′ ≡ α = cc in
       let q : a′ ≡ a = cc in
       record {
-        alternative = b; symbols = β; rest = r; stands = rw q at c; lowest = rw (p, q) at l; onward = rw p at x; row = refl
+        alternative = b;
+        symbols = β;
+        rest = r;
+        stands = rw q at c;
+        lowest = rw (p, q) at l;
+        onward = rw p at x;
+        row = refl;
       }
 
   -- the lowest alternative that serves is one
@@ -126,6 +129,6 @@ module _ {g : Grammar} where
       let p : y ≡ Nonterminal a = cc in
       let q : γ ≡ α ++ (Token k ∷ []) = cc in
       rw p
-        (Chosen.expand c
-          (λ n δ h f s. l n δ h f (s .0, rw (q, d, ← append-assoc) (leftmost-mark (δ ++ α) k (s .0) w .1 (s .1))))
-          (chosen-unmark k x (β ++ α) w (ap (λ (z : List Symbol). β ++ z) q ∙ sym (append-assoc β α (Token k ∷ []))) d))
+      (Chosen.expand c
+      (λ n δ h f s. l n δ h f (s .0, rw (q, d, ← append-assoc) (leftmost-mark (δ ++ α) k (s .0) w .1 (s .1))))
+      (chosen-unmark k x (β ++ α) w (ap (λ (z : List Symbol). β ++ z) q ∙ sym (append-assoc β α (Token k ∷ []))) d))

@@ -1,27 +1,25 @@
 -- The machine under the plain chooser follows the chosen derivation: what it accepts is that derivation, and where it is full that derivation has no room.
-use mathlib.Core.Path.{_≡_, refl, sym, ap, _∙_}
-use mathlib.Core.Option.{Option, some, none}
-use mathlib.Core.List.{List, [], _∷_, _++_, append-nil}
-use Prim.Native.Nat.{ℕ, zero, suc, _+_, _*_, _≤_, _<_, suc-le-suc}
+use mathlib.Core.Path.{_≡_, refl, sym, _∙_}
+use mathlib.Core.Option.{Option, some}
+use mathlib.Core.List.{List, [], _∷_, _++_}
+use Prim.Native.Nat.{ℕ, zero, suc, _≤_, _<_, suc-le-suc}
 use native.Mathlib.Omega.{arith}
 use lib.ListN.{length, drop}
 use lib.Seq.{drop-length}
 use Rattle.base.specs.Search.{LowestIs, this, nothing}
 use Rattle.base.proofs.Booleans.{clash}
 use Rattle.grammar.specs.declared.Symbol.{Symbol}
-use Rattle.grammar.specs.declared.Symbol.the-variants.{Token, Nonterminal, End}
-use Rattle.grammar.specs.Limits.{endPlace, endMark}
-use Rattle.grammar.specs.Grammar.{Grammar, facing, first, suffix, production}
-use Rattle.grammar.specs.Derivation.{Leftmost, Derives}
+use Rattle.grammar.specs.Grammar.{Grammar, suffix, production}
+use Rattle.grammar.specs.Derivation.{Derives}
 use Rattle.grammar.proofs.GrammarLaws.{suffix-is, production-is, production-from}
-use Rattle.derivation.specs.Runs.{Run, Opens, spells, marked}
+use Rattle.derivation.specs.Runs.{spells}
 use Rattle.derivation.specs.Machine.{Serves, lowest, Outcome, accepted, stuck, full, prefix, Step, step, run}
 use Rattle.derivation.specs.Chosen.{Chosen}
 use Rattle.derivation.proofs.Notes.{drop-of-get, get-lt}
-use Rattle.derivation.proofs.RunLaws.{run→leftmost, leftmost→run, run-in}
-use Rattle.derivation.proofs.MachineLaws.{Seen, ended, halted, crammed, popped, matched, picked, see, prefix-accepted, run-sound}
+use Rattle.derivation.proofs.RunLaws.{run→leftmost, leftmost→run}
+use Rattle.derivation.proofs.MachineLaws.{Seen, ended, halted, crammed, popped, matched, picked, see, prefix-accepted}
 use Rattle.derivation.proofs.LowestLaws.{lowest-serves}
-use Rattle.derivation.proofs.ChosenLaws.{NoneLower, Expanded, chosen→leftmost, chosen-token, chosen-call, same-lowest}
+use Rattle.derivation.proofs.ChosenLaws.{NoneLower, chosen→leftmost, chosen-token, chosen-call, same-lowest}
 
 pub prefix-full : (b : ℕ) (o : Outcome) → prefix b o ≡ full → o ≡ full
 prefix-full b (accepted s) e = cc
@@ -75,7 +73,7 @@ module _ (g : Grammar) (w : List ℕ) where
       let (s, u, z) = prefix-accepted b (run g w (lowest g w) k (f ∷ suc p ∷ S′) i₀ room₀) {r = r} (cc) in
       let n = named (suc p ∷ S′) a i₀ c in
       rw (suffix-is g p, e, ← z)
-        (Chosen.expand (production-is g a b y) (none-lower (suc p ∷ S′) a i₀ b l n) (rec (f ∷ suc p ∷ S′) i₀ room₀ s l u))
+      (Chosen.expand (production-is g a b y) (none-lower (suc p ∷ S′) a i₀ b l n) (rec (f ∷ suc p ∷ S′) i₀ room₀ s l u))
 
   pub run-follows : (k : ℕ) → Follows k
   unfolding run
@@ -101,7 +99,7 @@ module _ (g : Grammar) (w : List ℕ) where
       let h = chosen-call {α = suffix g (suc p) ++ spells g S′} {a = a} y (rw (suffix-is g p, e)) in
       let n = named (suc p ∷ S′) a i₀ c in
       let m : b ≡ h .alternative = same-lowest a b (h .alternative) (production-is g a b u) (none-lower (suc p ∷ S′) a i₀ b l n)
-            (serves→derives (suc p ∷ S′) a i₀ b (production-is g a b u) (n .serves)) (h .stands) (h .lowest) (h .rest, chosen→leftmost (h .onward)) in
+      (serves→derives (suc p ∷ S′) a i₀ b (production-is g a b u) (n .serves)) (h .stands) (h .lowest) (h .rest, chosen→leftmost (h .onward)) in
       let v : some (suffix g f) ≡ some (h .symbols) = sym (production-is g a b u) ∙ (rw m (h .stands)) in
       let z : suffix g f ≡ h .symbols = cc in
       let j = rec (f ∷ suc p ∷ S′) i₀ room₀ (h .rest) l (prefix-full b (run g w (lowest g w) k (f ∷ suc p ∷ S′) i₀ room₀) (cc)) (rw z (h .onward)) in

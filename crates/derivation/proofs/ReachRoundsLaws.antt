@@ -15,11 +15,12 @@ use Rattle.base.proofs.Booleans.{clash, and-T, T-and, same}
 use Rattle.base.proofs.Fixpoint.{Within, settle}
 use Rattle.grammar.specs.declared.Symbol.the-variants.{End}
 use Rattle.grammar.specs.Grammar.{Grammar, facing}
+use Rattle.grammar.proofs.GrammarLaws.{faces-place}
 use Rattle.derivation.specs.Viable.{Reach}
 use Rattle.derivation.specs.ReachRounds.{Point, point, stepped, reachRound, pointCount, reach?}
 use Rattle.derivation.proofs.CellLaws.{derives-sound, derives-complete}
 use Rattle.derivation.proofs.ReachLaws.{reach-in}
-use Rattle.derivation.proofs.ReachSteps.{Step, start, match, call, return, faces-place, step-in, step-out, stepped-mono}
+use Rattle.derivation.proofs.ReachSteps.{Step, start, match, call, return, step-in, step-out, stepped-mono}
 
 -- ---- the points of P places over the positions up to n, as one list
 places-at : ℕ → ℕ → List Point

@@ -1,22 +1,21 @@
 -- One step to a point, in facts: the one type in which the Booleans of a round of reaching are taken apart and put together.
-use mathlib.Core.Path.{_≡_, refl, sym, ap}
+use mathlib.Core.Path.{_≡_, refl, sym}
 use mathlib.Core.Logic.{_⊎_, inl, inr}
 use mathlib.Core.Bool.{Bool, _||_}
 use mathlib.Core.Option.{Option, none, some}
 use mathlib.Core.List.{List}
-use Prim.Native.Nat.{ℕ, zero, suc, _-_, _≤_, _<_}
+use Prim.Native.Nat.{ℕ, zero, suc, _-_}
 use native.Mathlib.Omega.{arith}
-use native.Mathlib.Decide.{decLe}
 use lib.Dec.{T, eqb, eqb→eq, eqb-refl}
-use lib.ListN.{length, List·getD-eq-default, getElem?}
+use lib.ListN.{length, getElem?}
 use Rattle.base.specs.Rounds.{anyOf, upFrom}
 use Rattle.base.proofs.Booleans.{clash, and-T, T-and, or-T, T-or-l, T-or-r}
 use Rattle.base.proofs.Lists.{Found, anyOf-T, T-anyOf, upFrom-get}
 use Rattle.base.proofs.Fixpoint.{Within}
 use Rattle.grammar.specs.declared.Symbol.{Symbol}
 use Rattle.grammar.specs.declared.Symbol.the-variants.{Token, Nonterminal, End}
-use Rattle.grammar.specs.declared.Place.{Place}
-use Rattle.grammar.specs.Grammar.{Grammar, nowhere, facing, admits, alternatives, first}
+use Rattle.grammar.specs.Grammar.{Grammar, facing, admits, alternatives, first}
+use Rattle.grammar.proofs.GrammarLaws.{faces-place}
 use Rattle.derivation.specs.Cells.{derives?}
 use Rattle.derivation.specs.ReachRounds.{Point, point, opens?, byStart, overToken, byMatch, overStretch, over, byPlace, into, byCall, stepped}
 use Rattle.derivation.proofs.RunLaws.{der-le}
@@ -29,15 +28,6 @@ pub data Step (g : Grammar) (w : List ℕ) (X : Point → Bool) (q j : ℕ) : Ty
   call : {a : ℕ} (p b : ℕ) → facing g p ≡ Nonterminal a → first g a b ≡ some q → T (X (point p j)) → Step g w X q j
   return : {p a f : ℕ} (i b : ℕ) → q ≡ suc p → facing g p ≡ Nonterminal a → first g a b ≡ some f → T (derives? g w f i j) → T (X (point p i))
       → Step g w X q j
-
--- what faces a token or a nonterminal is a place of the grammar
-pub faces-place : (g : Grammar) (p : ℕ) → ¬ (facing g p ≡ End) → p < length (g .places)
-unfolding facing
-faces-place g p h = go (decLe (length (g .places)) p)
-  where
-    go : Dec (length (g .places) ≤ p) → p < length (g .places)
-    go (yes l) = absurd (h (ap (λ (x : Place). x .symbol) (List·getD-eq-default (g .places) nowhere l)))
-    go (no l) = omega arith
 
 -- ---- first places of productions
 opens-in : (g : Grammar) (a b f : ℕ) → first g a b ≡ some f → T (opens? g a f)

@@ -14,10 +14,10 @@ use Rattle.base.proofs.Booleans.{clash, or-T, T-or-l, T-or-r, true→T, false�
 use Rattle.base.proofs.Lists.{anyOf-T, T-anyOf, upFrom-get}
 use Rattle.grammar.specs.Grammar.{Grammar, alternatives, first}
 use Rattle.grammar.proofs.GrammarLaws.{first-pos, no-alternatives}
+use Rattle.grammar.proofs.GrammarLaws.{faces-place}
 use Rattle.derivation.specs.Viable.{Sentence, Rich, Reach, start, match, call, return, Arrives, WrongAt}
 use Rattle.derivation.specs.ReachRounds.{reach?, arrives?, highestTo, wrongPlace}
 use Rattle.derivation.proofs.ViableLaws.{viable-iff, wrong-unique}
-use Rattle.derivation.proofs.ReachSteps.{faces-place}
 use Rattle.derivation.proofs.ReachRoundsLaws.{reach-iff}
 
 -- ---- something is reached after k tokens

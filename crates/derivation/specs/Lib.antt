@@ -1,7 +1,9 @@
--- Derivations over a note by positions: runs of a stack of places, the table that decides them, and the machine that reads.
+-- Derivations over a note by positions: runs of a stack of places, the table that decides them, the machine that reads, and where a note goes wrong.
 pub mod Runs
 pub mod Cells
 pub mod Machine
 pub mod Viable
-pub mod Chosen
 pub mod ReachRounds
+pub mod Chosen
+pub mod Steps
+pub mod Space

@@ -9,8 +9,25 @@ use lib.Seq.{drop-at}
 use Rattle.grammar.specs.Types.{Symbol, Token, Nonterminal, End, Place}
 use Rattle.grammar.specs.Limits.{maxPlaces, endMark, nobody}
 use Rattle.grammar.specs.Decode.{Rules, AllOf, Legal, Production, Alternatives}
-use Rattle.grammar.specs.Grammar.{Grammar, at, nowhere, oneth, first, alternatives, spell, suffix, production, layOne, layEach, layAll, sizeEach, startsEach, startsAll, padded, compile, Limited}
+use Rattle.grammar.specs.Grammar.{Grammar, at, nowhere, oneth, first, alternatives, spell, suffix, production, layOne, layEach, layAll, sizeEach, sizeAll, startsEach, startsAll, padded, compile, Limited}
 
+-- ---- how many places rules have
+pub length-one : (a : ℕ) (β : List Symbol) → length (layOne a β) ≡ suc (length β)
+unfolding layOne
+length-one a [] = refl
+length-one a (x ∷ β) = ap suc (length-one a β)
+
+pub length-each : (a : ℕ) (l : List (List Symbol)) → length (layEach a l) ≡ sizeEach l
+unfolding layEach sizeEach
+length-each a [] = refl
+length-each a (β ∷ l) = length-append (layOne a β) (layEach a l) ∙ omega (arith, length-one a β, length-each a l)
+
+pub length-all : (a : ℕ) (l : List (List (List Symbol))) → length (layAll a l) ≡ sizeAll l
+unfolding layAll sizeAll
+length-all a [] = refl
+length-all a (n ∷ l) = length-append (layEach a n) (layAll (suc a) l) ∙ omega (arith, length-each a n, length-all (suc a) l)
+
+-- ---- what they spell
 -- the symbols from a place on, where there is one
 abbrev spelled : List Place → Option ℕ → Option (List Symbol)
 spelled x none = none
@@ -24,16 +41,6 @@ module _ (t n : ℕ) where
   spell-one a (Token k ∷ β) rest h = ap (λ (l : List Symbol). Token k ∷ l) (spell-one a β rest (h .1))
   spell-one a (Nonterminal b ∷ β) rest h = ap (λ (l : List Symbol). Nonterminal b ∷ l) (spell-one a β rest (h .1))
   spell-one a (End ∷ β) rest h = absurd (h .0)
-
-  length-one : (a : ℕ) (β : List Symbol) → length (layOne a β) ≡ suc (length β)
-  unfolding layOne
-  length-one a [] = refl
-  length-one a (x ∷ β) = ap suc (length-one a β)
-
-  length-each : (a : ℕ) (l : List (List Symbol)) → length (layEach a l) ≡ sizeEach l
-  unfolding layEach sizeEach
-  length-each a [] = refl
-  length-each a (β ∷ l) = length-append (layOne a β) (layEach a l) ∙ omega (arith, length-one a β, length-each a l)
 
   -- the productions of one nonterminal, laid out behind others
   each-spelled : (a : ℕ) (l : List (List Symbol)) (pre rest : List Place) (o : ℕ) → length pre ≡ o → AllOf (Production t n) l → (i : ℕ)

@@ -1,12 +1,14 @@
 -- Grammars and derivations: what a place begins, productions by their first places, one derivation behind another.
-use mathlib.Core.Path.{_≡_, refl}
+use mathlib.Core.Path.{_≡_, refl, ap}
 use mathlib.Core.Option.{Option, none, some}
 use mathlib.Core.List.{List, [], _∷_, _++_, append-assoc}
-use Prim.Native.Nat.{ℕ, zero, suc, _≤_}
+use Prim.Native.Nat.{ℕ, zero, suc, _≤_, _<_}
+use native.Mathlib.Omega.{arith}
+use native.Mathlib.Decide.{decLe}
 use lib.Dec.{T, eqb-refl}
 use lib.ListN.{length, getD, getElem?, drop, List·getD-eq-default}
 use Rattle.base.proofs.Booleans.{clash}
-use Rattle.grammar.specs.Types.{Symbol, Place}
+use Rattle.grammar.specs.Types.{Symbol, End, Place}
 use Rattle.grammar.specs.Grammar.{Grammar, facing, admits, alternatives, first, nowhere, before, spell, suffix, production}
 use Rattle.grammar.specs.Derivation.{Leftmost}
 
@@ -46,6 +48,15 @@ pub no-alternatives : (g : Grammar) (a : ℕ) → length (g .starts) ≤ a → a
 unfolding alternatives
 no-alternatives g a h = List·getD-eq-default (g .starts) [] {n = a} h
 
+-- so a number that has a production is a nonterminal
+pub first-below : (g : Grammar) (a b : ℕ) {f : ℕ} → first g a b ≡ some f → a < length (g .starts)
+first-below g a b {f} e = go (decLe (length (g .starts)) a) b e
+  where
+    go : Dec (length (g .starts) ≤ a) → (b : ℕ) → first g a b ≡ some f → a < length (g .starts)
+    go (yes l) zero e = clash (cc)
+    go (yes l) (suc b) e = let y : getElem? [] b ≡ some f = rw (no-alternatives g a l) at e in clash (cc)
+    go (no l) b e = omega arith
+
 -- ---- derivations
 -- a token may stand where its own kind is called for
 pub admits-self : (g : Grammar) (k : ℕ) → T (admits g k k)
@@ -57,3 +68,12 @@ pub leftmost-append : {g : Grammar} {α β : List Symbol} {r s w v : List ℕ} �
 leftmost-append Leftmost.done y = y
 leftmost-append (Leftmost.match c x) y = Leftmost.match c (leftmost-append x y)
 leftmost-append (Leftmost.expand e x) y = Leftmost.expand e (rw append-assoc at (leftmost-append x y))
+
+-- what faces a token or a nonterminal is a place of the grammar
+pub faces-place : (g : Grammar) (p : ℕ) → ¬ (facing g p ≡ End) → p < length (g .places)
+unfolding facing
+faces-place g p h = go (decLe (length (g .places)) p)
+  where
+    go : Dec (length (g .places) ≤ p) → p < length (g .places)
+    go (yes l) = absurd (h (ap (λ (x : Place). x .symbol) (List·getD-eq-default (g .places) nowhere l)))
+    go (no l) = omega arith

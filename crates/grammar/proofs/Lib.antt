@@ -2,3 +2,5 @@
 pub mod WordLaws
 pub mod GrammarLaws
 pub mod CompileLaws
+pub mod OrderedLaws
+pub mod PlaceLaws

@@ -4,4 +4,5 @@ pub mod Limits
 pub mod Decode
 pub mod Grammar
 pub mod Derivation
+pub mod Ordered
 pub mod Tables
