@@ -7,3 +7,4 @@ pub mod ReachRounds
 pub mod Chosen
 pub mod Steps
 pub mod Space
+pub mod Plain
