@@ -21,3 +21,7 @@ pub mod Entries
 pub mod Depth
 pub mod CompiledDepth
 pub mod FrameWords
+pub mod SoundGrammar
+pub mod SentenceTest
+pub mod WholeChosen
+pub mod ChosenExists

@@ -42,11 +42,11 @@ module _ (g : Grammar) (w : List ℕ) where
       (f, d, (r, leftmost→run x (f ∷ S) i (rw q) refl l))
 
   -- what the plain chooser names
-  record Named (S : List ℕ) (a i b : ℕ) : Type 0 where
-    serves : Serves g w S a i b
-    least : (c : ℕ) → Serves g w S a i c → b ≤ c
+  pub record Named (S : List ℕ) (a i b : ℕ) : Type 0 where
+    pub serves : Serves g w S a i b
+    pub least : (c : ℕ) → Serves g w S a i c → b ≤ c
 
-  named : (S : List ℕ) (a i : ℕ) {b : ℕ} → lowest g w S a i ≡ some b → Named S a i b
+  pub named : (S : List ℕ) (a i : ℕ) {b : ℕ} → lowest g w S a i ≡ some b → Named S a i b
   named S a i {b} e = go (lowest g w S a i) e (lowest-serves g w S a i)
     where
       go : (o : Option ℕ) → o ≡ some b → LowestIs (Serves g w S a i) o → Named S a i b

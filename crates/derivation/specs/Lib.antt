@@ -8,3 +8,4 @@ pub mod Chosen
 pub mod Steps
 pub mod Space
 pub mod Plain
+pub mod Demand2

@@ -80,7 +80,7 @@ module _ (t n : ℕ) where
 faces-cast : {t n size size′ last last′ p : ℕ} {s : Symbol} → size ≡ size′ → last ≡ last′ → Faces t n size last p s → Faces t n size′ last′ p s
 faces-cast e z h = rw (e, z) at h
 
-length-startsAll : (o : ℕ) (l : List (List (List Symbol))) → length (startsAll o l) ≡ length l
+pub length-startsAll : (o : ℕ) (l : List (List (List Symbol))) → length (startsAll o l) ≡ length l
 unfolding startsAll
 length-startsAll o [] = refl
 length-startsAll o (n ∷ l) = ap suc (length-startsAll (o + sizeEach n) l)

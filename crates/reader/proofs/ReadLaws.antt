@@ -1,8 +1,9 @@
 -- What reading a grammar comes to: the first refusal of 1 to 5, or tables that say what the bytes say. This is all that callers need of the reader.
 use mathlib.Core.Path.{_≡_, refl, ap, _∙_}
-use mathlib.Core.List.{List}
+use mathlib.Core.List.{List, []}
 use Prim.Native.Nat.{ℕ}
 use lib.ListN.{replicate}
+use Rattle.base.proofs.Booleans.{clash}
 use Rattle.reader.specs.Types.{Refusal, Read, Cursor, Value, Refused}
 use Rattle.grammar.specs.Decode.{Rules, Mark, Parsed, got, refused, decode}
 use Rattle.grammar.specs.Grammar.{compile, Limited}
@@ -28,3 +29,11 @@ outcome s t₀ {x} {t} z e = go (decode s) refl (pass-same s (replicate tableWor
         let w : t ≡ laidOut (replicate tableWords 0) r = ap (λ (o : Out). o .tables) o in
         whole r m _ _ q (ap (λ (o : Out). o .answer) o) (h .1) (rw w (tables-say r (h .1))) (rw w (tables-fit r (h .1)))
     go (refused r) q h = none r q (ap (λ (o : Out). o .answer) e₀ ∙ h)
+
+-- rules that bytes say keep every limit
+pub decode-limited : (s : List ℕ) (r : Rules) (m : Mark) → decode s ≡ got r m → Limited r
+decode-limited s r m e = go (decode s) e (pass-same s [])
+  where
+    go : (d : Parsed Rules) → d ≡ got r m → Same (passOf s []) (passOut []) (λ r m. Limited r) d → Limited r
+    go (got g n) q h = let z : g ≡ r = cc in rw z at (h .1)
+    go (refused f) q h = clash (cc)

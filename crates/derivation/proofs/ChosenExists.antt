@@ -1,0 +1,154 @@
+-- In a grammar without left recursion every sentence has a chosen derivation: with room enough the machine under the plain chooser accepts it. The
+-- room is a potential of the stack, which falls with every alternative taken and never rises: places count as digits, the lowest of the stack first.
+use mathlib.Core.Path.{_≡_, refl, _∙_}
+use mathlib.Core.Option.{Option, some}
+use mathlib.Core.List.{List, [], _∷_, _++_, append-nil}
+use Prim.Native.Nat.{ℕ, zero, suc, _+_, _-_, _*_, _/_, _^_, _≤_, _<_}
+use native.Mathlib.Nat.{mul-le-mul-right, suc-mul, one-le-mul, one-le-pow, pow-succ'}
+use native.Mathlib.Omega.{arith}
+use lib.ListN.{length}
+use Rattle.base.specs.Search.{LowestIs, this, nothing}
+use Rattle.base.proofs.Booleans.{clash}
+use Rattle.grammar.specs.declared.Symbol.the-variants.{Token, Nonterminal}
+use Rattle.grammar.specs.Limits.{endPlace, endMark}
+use Rattle.grammar.specs.Decode.{Rules}
+use Rattle.grammar.specs.Grammar.{Grammar, facing, first, suffix, sizeAll, compile, Limited}
+use Rattle.grammar.specs.Ordered.{Ordered}
+use Rattle.grammar.specs.Derivation.{Derives}
+use Rattle.grammar.proofs.GrammarLaws.{suffix-is, production-is}
+use Rattle.grammar.proofs.OrderedLaws.{compile-ordered}
+use Rattle.grammar.proofs.PlaceLaws.{compile-within}
+use Rattle.soundness.specs.Textbook.{LeftRecursive}
+use Rattle.derivation.specs.Runs.{Run, Whole, spells, marked}
+use Rattle.derivation.specs.Machine.{Chooser, Serves, lowest, Outcome, accepted, stuck, full, Step, step, run}
+use Rattle.derivation.specs.Chosen.{Chosen}
+use Rattle.derivation.specs.Steps.{popped, matched, picked, Quiet, Reads}
+use Rattle.derivation.proofs.WholeChosen.{start-chosen}
+use Rattle.derivation.proofs.WholeNotes.{leftmost-mark, whole-sentence}
+use Rattle.derivation.proofs.MachineLaws.{Seen, see, run-live}
+use Rattle.derivation.proofs.LowestLaws.{lowest-serves, lowest-right}
+use Rattle.derivation.proofs.LowestReading.{prefix-full, derives→serves, run-follows}
+use Rattle.derivation.proofs.ChosenLaws.{NoneLower, chosen-unmark}
+use Rattle.derivation.proofs.Entries.{Open, open-start, open-step}
+use Rattle.derivation.proofs.Depth.{frames}
+use Rattle.derivation.proofs.CompiledDepth.{end-quiet, compile-reads}
+
+-- ---- the potential of a stack over which h places more may come, in a grammar that calls at places below P only
+unfoldable pub potential : ℕ → ℕ → List ℕ → ℕ
+potential P h [] = 0
+potential P h (p ∷ S) = (P - p) * suc P ^ h + potential P (suc h) S
+
+module _ (P : ℕ) where
+  -- a place leaves the stack, or moves on
+  potential-pop : (h p : ℕ) (S : List ℕ) → potential P (suc h) S ≤ potential P h (p ∷ S)
+  unfolding potential
+  potential-pop h p S = omega arith
+
+  potential-on : (h p : ℕ) (S : List ℕ) → potential P h (suc p ∷ S) ≤ potential P h (p ∷ S)
+  unfolding potential
+  potential-on h p S =
+      let l : P - suc p ≤ P - p = omega arith in
+      let m = mul-le-mul-right (suc P ^ h) l in
+      omega arith
+
+  -- where a call stands there is room
+  potential-call : (h p : ℕ) (S : List ℕ) → p < P → 1 ≤ potential P h (p ∷ S)
+  unfolding potential
+  potential-call h p S l =
+      let k : 1 ≤ P - p = omega arith in
+      let m = one-le-mul k (one-le-pow h (suc P) (omega arith)) in
+      omega arith
+
+  -- an alternative is taken: the place of the call moves on, and a place comes over it
+  potential-pick : (h p f : ℕ) (S : List ℕ) → p < P → potential P h (f ∷ suc p ∷ S) < potential P (suc h) (p ∷ S)
+  unfolding potential
+  potential-pick h p f S l =
+      let d : P - p ≡ suc (P - suc p) = omega arith in
+      let u : (P - p) * suc P ^ suc h ≡ (P - suc p) * suc P ^ suc h + suc P ^ suc h = rw d (suc-mul (P - suc p) (suc P ^ suc h)) in
+      let v : suc P ^ suc h ≡ P * suc P ^ h + suc P ^ h = pow-succ' (suc P) h ∙ suc-mul P (suc P ^ h) in
+      let k : P - f ≤ P = omega arith in
+      let m = mul-le-mul-right (suc P ^ h) k in
+      let o = one-le-pow h (suc P) (omega arith) in
+      omega arith
+
+-- ---- with as much room as the potential the machine is never full
+module _ (g : Grammar) (ordered : Ordered g) (w : List ℕ) (n : ℕ) (reads : Reads g w n) (G : List ℕ) (silent : Quiet g G) (choose : Chooser)
+    (P : ℕ) (within : (p d : ℕ) → facing g p ≡ Nonterminal d → p < P) (D : ℕ) (deep : (p i : ℕ) (S : List ℕ) → Open g G n (p ∷ S) i → length S ≤ D) where
+  abbrev Roomy : ℕ → Type 0
+  Roomy k = (S : List ℕ) (i room h : ℕ) → Open g G n S i → length S + h ≡ suc D → potential P h S ≤ room → ¬ (run g w choose k S i room ≡ full)
+
+  room-step : (k : ℕ) → Roomy k → (S : List ℕ) (i room h : ℕ) → Open g G n S i → length S + h ≡ suc D → potential P h S ≤ room
+      → run g w choose (suc k) S i room ≡ full → (x : Step) → step g w choose S i room ≡ x → Seen g w choose S i room x → ⊥
+  unfolding run
+  room-step k rec S i room h o l m q x d (Seen.ended e) = clash (cc)
+  room-step k rec S i room h o l m q x d (Seen.halted e) = clash (cc)
+  room-step k rec S i room h o l m q x d (Seen.crammed {p = p} {a = a} {S = S′} e) =
+      let u = potential-call P h p S′ (within p a e) in
+      omega arith
+  room-step k rec S i room h o l m q x d (Seen.popped {p = p} {i = i₀} {room = room₀} {S = S′} e) =
+      let u = potential-pop P h p S′ in
+      rec S′ i₀ room₀ (suc h) (open-step g ordered w n reads G silent o (popped e)) (omega arith) (omega arith) (cc)
+  room-step k rec S i room h o l m q x d (Seen.matched {p = p} {i = i₀} {room = room₀} {S = S′} e f t) =
+      let u = potential-on P h p S′ in
+      rec (suc p ∷ S′) (suc i₀) room₀ h (open-step g ordered w n reads G silent o (matched e f t)) (omega arith) (omega arith) (cc)
+  room-step k rec S i room zero o l m q x d (Seen.picked {p = p} {a = a} {b = b} {f = f} {i = i₀} {room = room₀} {S = S′} e c y) =
+      let u = deep f i₀ (suc p ∷ S′) (open-step g ordered w n reads G silent o (picked b e y)) in
+      omega arith
+  room-step k rec S i room (suc h) o l m q x d (Seen.picked {p = p} {a = a} {b = b} {f = f} {i = i₀} {room = room₀} {S = S′} e c y) =
+      let u = potential-pick P h p f S′ (within p a e) in
+      rec (f ∷ suc p ∷ S′) i₀ room₀ h (open-step g ordered w n reads G silent o (picked b e y)) (omega arith) (omega arith)
+      (prefix-full b (run g w choose k (f ∷ suc p ∷ S′) i₀ room₀) (cc))
+
+  pub run-roomy : (k : ℕ) → Roomy k
+  unfolding run
+  run-roomy zero S i room h o l m q = clash (cc)
+  run-roomy (suc k) S i room h o l m q = room-step k (run-roomy k) S i room h o l m q (step g w choose S i room) refl (see g w choose S i room)
+
+-- ---- so a sentence has a chosen derivation
+module _ (g : Grammar) (ordered : Ordered g) (w : List ℕ) (n : ℕ) (reads : Reads g (marked w) n) (P : ℕ)
+    (within : (p d : ℕ) → facing g p ≡ Nonterminal d → p < P) (sound : (a : ℕ) → ¬ LeftRecursive g a) where
+  -- over the end place the machine is not full
+  roomy : (D h k a b f : ℕ) → D ≡ (suc P / 2) * suc n + 1 → first g a b ≡ some f → h + 1 ≡ D
+      → ¬ (run g (marked w) (lowest g (marked w)) k (f ∷ endPlace ∷ []) 0 (potential P h (f ∷ endPlace ∷ [])) ≡ full)
+  roomy D h k a b f q e l =
+      run-roomy g ordered (marked w) n reads (endPlace ∷ []) (end-quiet g ordered) (lowest g (marked w)) P within D
+      (λ p i S o. let u = frames sound ordered P within o in omega arith) k (f ∷ endPlace ∷ []) 0 (potential P h (f ∷ endPlace ∷ [])) h
+      (open-start g ordered (marked w) n reads (endPlace ∷ []) (end-quiet g ordered) a b f e) (omega arith) (omega arith)
+
+  abbrev Some : Type 0
+  Some = (s : List ℕ) × Chosen g (Nonterminal 0 ∷ []) s w
+
+  ending : (b f k room : ℕ) → first g 0 b ≡ some f → ((c : ℕ) → Serves g (marked w) (endPlace ∷ []) 0 0 c → b ≤ c)
+      → ¬ (run g (marked w) (lowest g (marked w)) k (f ∷ endPlace ∷ []) 0 room ≡ stuck)
+      → ¬ (run g (marked w) (lowest g (marked w)) k (f ∷ endPlace ∷ []) 0 room ≡ full) → Some
+  ending b f k room e least live roomy = go (run g (marked w) (lowest g (marked w)) k (f ∷ endPlace ∷ []) 0 room) refl
+    where
+      go : (o : Outcome) → run g (marked w) (lowest g (marked w)) k (f ∷ endPlace ∷ []) 0 room ≡ o → Some
+      go (accepted s) q = (b ∷ s, start-chosen g ordered w b f k room e least s q)
+      go stuck q = absurd (live q)
+      go full q = absurd (roomy q)
+
+  -- the room and the steps that are enough, as variables
+  enough : (b f h room k : ℕ) (r : List ℕ) → h ≡ (suc P / 2) * suc n → room ≡ potential P h (f ∷ endPlace ∷ []) → 2 * room + length (marked w) + 2 < k
+      → first g 0 b ≡ some f → Run g (marked w) (f ∷ endPlace ∷ []) 0 (length (marked w)) r
+      → ((c : ℕ) → Serves g (marked w) (endPlace ∷ []) 0 0 c → b ≤ c) → Some
+  enough b f h room k r q z l e x least =
+      ending b f k room e least
+      (run-live g (marked w) (lowest g (marked w)) (lowest-right g (marked w)) k (f ∷ endPlace ∷ []) 0 room (omega arith) (r, x))
+      (rw z (roomy (h + 1) h k 0 b f (omega arith) e refl))
+
+  pub sentence-chosen : Derives g (Nonterminal 0 ∷ []) w → Some
+  sentence-chosen d =
+      go (lowest g (marked w) (endPlace ∷ []) 0 0) (lowest-serves g (marked w) (endPlace ∷ []) 0 0)
+      (whole-sentence g (ordered .end-mark) (ordered .end-past) 0 w .1 d)
+    where
+      go : (o : Option ℕ) → LowestIs (Serves g (marked w) (endPlace ∷ []) 0 0) o → (b : ℕ) × (r : List ℕ) × Whole g 0 b r w → Some
+      go o (this b (f, e, (r, x)) least) _ =
+          enough b f ((suc P / 2) * suc n) (potential P ((suc P / 2) * suc n) (f ∷ endPlace ∷ []))
+          (suc (2 * potential P ((suc P / 2) * suc n) (f ∷ endPlace ∷ []) + length (marked w) + 2)) r refl refl (omega arith) e x least
+      go o (nothing n) (b, r, (f, e, x)) = absurd (n b (f, e, (r, x)))
+
+pub chosen-exists : (r : Rules) → Limited r → ((a : ℕ) → ¬ LeftRecursive (compile r) a) → (w : List ℕ) → Derives (compile r) (Nonterminal 0 ∷ []) w
+    → (s : List ℕ) × Chosen (compile r) (Nonterminal 0 ∷ []) s w
+chosen-exists r limits none w =
+    sentence-chosen (compile r) (compile-ordered r limits) w (length w) (compile-reads r limits w) (sizeAll (r .productions)) (compile-within r limits) none
