@@ -25,3 +25,5 @@ pub mod SoundGrammar
 pub mod SentenceTest
 pub mod WholeChosen
 pub mod ChosenExists
+pub mod Demand2Laws
+pub mod StarredReadings

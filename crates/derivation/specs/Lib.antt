@@ -9,3 +9,4 @@ pub mod Steps
 pub mod Space
 pub mod Plain
 pub mod Demand2
+pub mod Cases
