@@ -27,3 +27,5 @@ pub mod WholeChosen
 pub mod ChosenExists
 pub mod Demand2Laws
 pub mod StarredReadings
+pub mod Demand2Iff
+pub mod MachineDepth

@@ -1,0 +1,36 @@
+-- The machine makes single steps, whatever chooser it asks; so its open frames keep to the bound, sentences or not.
+use mathlib.Core.Path.{_≡_, refl}
+use mathlib.Core.List.{List, [], _∷_}
+use Prim.Native.Nat.{ℕ, suc}
+use Rattle.base.proofs.Booleans.{clash}
+use Rattle.grammar.specs.Grammar.{Grammar}
+use Rattle.derivation.specs.Steps.{popped, matched, picked}
+use Rattle.derivation.specs.Steps
+use Rattle.derivation.specs.Machine.{Chooser, Step, halt, move, pick, step}
+use Rattle.derivation.proofs.MachineLaws.{Seen, see}
+
+-- where a move of the machine leads, the single steps lead
+pub machine-moves : (g : Grammar) (w : List ℕ) (choose : Chooser) (S : List ℕ) (i room : ℕ) {S′ : List ℕ} {i′ : ℕ} → step g w choose S i room ≡ move S′ i′
+    → Steps.Step g w S i S′ i′
+machine-moves g w choose S i room {S′} {i′} e = go (see g w choose S i room) e
+  where
+    go : {x : Step} {S : List ℕ} {i room : ℕ} → Seen g w choose S i room x → x ≡ move S′ i′ → Steps.Step g w S i S′ i′
+    go (Seen.ended q) e = clash (cc)
+    go (Seen.halted q) e = clash (cc)
+    go (Seen.crammed q) e = clash (cc)
+    go (Seen.popped {i = i₀} {S = T} q) e = let a : T ≡ S′ = cc in let b : i₀ ≡ i′ = cc in rw (← a, ← b) (popped q)
+    go (Seen.matched {p = p} {i = i₀} {S = T} q d t) e = let a : suc p ∷ T ≡ S′ = cc in let b : suc i₀ ≡ i′ = cc in rw (← a, ← b) (matched q d t)
+    go (Seen.picked q d t) e = clash (cc)
+
+-- and where it takes an alternative too
+pub machine-picks : (g : Grammar) (w : List ℕ) (choose : Chooser) (S : List ℕ) (i room : ℕ) {b : ℕ} {S′ : List ℕ} → step g w choose S i room ≡ pick b S′
+    → Steps.Step g w S i S′ i
+machine-picks g w choose S i room {b} {S′} e = go (see g w choose S i room) e
+  where
+    go : {x : Step} {S : List ℕ} {i room : ℕ} → Seen g w choose S i room x → x ≡ pick b S′ → Steps.Step g w S i S′ i
+    go (Seen.ended q) e = clash (cc)
+    go (Seen.halted q) e = clash (cc)
+    go (Seen.crammed q) e = clash (cc)
+    go (Seen.popped q) e = clash (cc)
+    go (Seen.matched q d t) e = clash (cc)
+    go (Seen.picked {p = p} {b = c} {f = f} {S = T} q d t) e = let a : f ∷ suc p ∷ T ≡ S′ = cc in rw (← a) (picked c q t)
