@@ -2,33 +2,31 @@
 -- room is a potential of the stack, which falls with every alternative taken and never rises: places count as digits, the lowest of the stack first.
 use mathlib.Core.Path.{_≡_, refl, _∙_}
 use mathlib.Core.Option.{Option, some}
-use mathlib.Core.List.{List, [], _∷_, _++_, append-nil}
+use mathlib.Core.List.{List, [], _∷_}
 use Prim.Native.Nat.{ℕ, zero, suc, _+_, _-_, _*_, _/_, _^_, _≤_, _<_}
 use native.Mathlib.Nat.{mul-le-mul-right, suc-mul, one-le-mul, one-le-pow, pow-succ'}
 use native.Mathlib.Omega.{arith}
 use lib.ListN.{length}
 use Rattle.base.specs.Search.{LowestIs, this, nothing}
 use Rattle.base.proofs.Booleans.{clash}
-use Rattle.grammar.specs.declared.Symbol.the-variants.{Token, Nonterminal}
-use Rattle.grammar.specs.Limits.{endPlace, endMark}
+use Rattle.grammar.specs.declared.Symbol.the-variants.{Nonterminal}
+use Rattle.grammar.specs.Limits.{endPlace}
 use Rattle.grammar.specs.Decode.{Rules}
-use Rattle.grammar.specs.Grammar.{Grammar, facing, first, suffix, sizeAll, compile, Limited}
+use Rattle.grammar.specs.Grammar.{Grammar, facing, first, sizeAll, compile, Limited}
 use Rattle.grammar.specs.Ordered.{Ordered}
 use Rattle.grammar.specs.Derivation.{Derives}
-use Rattle.grammar.proofs.GrammarLaws.{suffix-is, production-is}
 use Rattle.grammar.proofs.OrderedLaws.{compile-ordered}
 use Rattle.grammar.proofs.PlaceLaws.{compile-within}
 use Rattle.soundness.specs.Textbook.{LeftRecursive}
-use Rattle.derivation.specs.Runs.{Run, Whole, spells, marked}
+use Rattle.derivation.specs.Runs.{Run, Whole, marked}
 use Rattle.derivation.specs.Machine.{Chooser, Serves, lowest, Outcome, accepted, stuck, full, Step, step, run}
 use Rattle.derivation.specs.Chosen.{Chosen}
 use Rattle.derivation.specs.Steps.{popped, matched, picked, Quiet, Reads}
 use Rattle.derivation.proofs.WholeChosen.{start-chosen}
-use Rattle.derivation.proofs.WholeNotes.{leftmost-mark, whole-sentence}
+use Rattle.derivation.proofs.WholeNotes.{whole-sentence}
 use Rattle.derivation.proofs.MachineLaws.{Seen, see, run-live}
 use Rattle.derivation.proofs.LowestLaws.{lowest-serves, lowest-right}
-use Rattle.derivation.proofs.LowestReading.{prefix-full, derives→serves, run-follows}
-use Rattle.derivation.proofs.ChosenLaws.{NoneLower, chosen-unmark}
+use Rattle.derivation.proofs.LowestReading.{prefix-full}
 use Rattle.derivation.proofs.Entries.{Open, open-start, open-step}
 use Rattle.derivation.proofs.Depth.{frames}
 use Rattle.derivation.proofs.CompiledDepth.{end-quiet, compile-reads}

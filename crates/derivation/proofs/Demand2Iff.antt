@@ -1,8 +1,7 @@
 -- What a right answer's number says, both ways: 0 exactly if the chosen derivation fits the row, 14 exactly if it does not, 10 exactly if the note is no
 -- sentence, at the one place where it goes wrong.
-use mathlib.Core.Path.{_≡_, refl, sym, ap, _∙_}
-use mathlib.Core.Logic.{_↔_}
-use mathlib.Core.List.{List, [], _∷_}
+use mathlib.Core.Path.{_≡_, refl, ap}
+use mathlib.Core.List.{List, []}
 use Prim.Native.Nat.{ℕ, _≤_, _<_}
 use native.Mathlib.Omega.{arith}
 use lib.ListN.{length}

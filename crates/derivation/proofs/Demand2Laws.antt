@@ -1,38 +1,35 @@
 -- DEMAND 2: by a sound grammar, for at most 128 known tokens and in enough working space, the plain reading answers what the textbook says.
-use mathlib.Core.Path.{_≡_, refl, sym, ap, _∙_}
-use mathlib.Core.Logic.{_↔_}
-use mathlib.Core.Bool.{Bool, true, false, cond, not, _&&_}
-use mathlib.Core.Option.{Option, none, some}
+use mathlib.Core.Path.{_≡_, refl}
+use mathlib.Core.Bool.{Bool, true, false, cond, not}
+use mathlib.Core.Option.{Option, none}
 use mathlib.Core.List.{List, [], _∷_}
 use Prim.Native.Nat.{ℕ, suc, _+_, _*_, _≤_, _<_}
 use native.Mathlib.Omega.{arith}
-use lib.Dec.{T, leb, ltb, leb→le}
+use lib.Dec.{T}
 use lib.ListN.{length, getD}
 use borrow.Author.Tests.{le-leb, le-ltb}
 use Rattle.base.specs.Search.{lowestFrom, LowestIs, this, nothing}
 use Rattle.base.proofs.Booleans.{clash, true→T, false→¬T}
 use Rattle.base.proofs.Lowest.{lowest-is}
-use Rattle.grammar.specs.declared.Symbol.the-variants.{Nonterminal}
 use Rattle.grammar.specs.Limits.{endPlace}
 use Rattle.grammar.specs.Decode.{Rules, Mark, got, decode}
-use Rattle.grammar.specs.Grammar.{Grammar, first, compile, Limited}
+use Rattle.grammar.specs.Grammar.{Grammar, compile, Limited}
 use Rattle.grammar.specs.Ordered.{Ordered}
 use Rattle.grammar.proofs.OrderedLaws.{compile-ordered}
 use Rattle.reader.proofs.ReadLaws.{decode-limited}
-use Rattle.soundness.specs.declared.judgement.Verdict.{Verdict}
 use Rattle.soundness.specs.declared.judgement.Verdict.the-variants.{Sound}
-use Rattle.soundness.specs.Check.{judgeOf, judged, checkOf}
+use Rattle.soundness.specs.Check.{judgeOf, checkOf}
 use Rattle.derivation.specs.Runs.{marked}
 use Rattle.derivation.specs.Machine.{lowest, Outcome, accepted, stuck, full, Step, onCall, run, reading}
 use Rattle.derivation.specs.Viable.{Sentence, WrongAt}
 use Rattle.derivation.specs.ReachRounds.{wrongPlace}
 use Rattle.derivation.specs.Space.{maxTokens, spaceWords}
-use Rattle.derivation.specs.Plain.{Answer, accept, clear, known?, firstUnknown, sentence?, onOutcome, readNote, from11, orUnknown, from9, from8, onVerdict, onRules, plainReading}
+use Rattle.derivation.specs.Plain.{clear, known?, firstUnknown, sentence?, onOutcome, readNote, from11, from9, from8, plainReading}
 use Rattle.derivation.specs.Demand2.{ChosenFor, Right, short, wrong}
 use Rattle.derivation.proofs.MachineLaws.{Called, no-room, unnamed, absent, taken, call-seen, prefix-accepted}
 use Rattle.derivation.proofs.LowestLaws.{lowest-right}
 use Rattle.derivation.proofs.ReadingLaws.{reading-sound, reading-live}
-use Rattle.derivation.proofs.ChosenLaws.{chosen→leftmost, chosen-call, chosen-unique}
+use Rattle.derivation.proofs.ChosenLaws.{chosen-call}
 use Rattle.derivation.proofs.LowestReading.{named, prefix-full}
 use Rattle.derivation.proofs.WholeChosen.{start-chosen, start-crams}
 use Rattle.derivation.proofs.CompiledDepth.{checked-sound}
@@ -86,8 +83,10 @@ known-none kinds w h = go (lowestFrom unknown 0 (length w)) (lowest-is Unknown u
   where
     unknown : ℕ → Bool
     unknown i = not (known? kinds (getD w i 0))
+
     Unknown : ℕ → Type 0
     Unknown i = (i < length w) × T (unknown i)
+
     go : (o : Option ℕ) → LowestIs Unknown o → o ≡ none
     go o (this i (l, t) k) = let b = h i l in absurd (rw (le-leb 1 (getD w i 0) (b .0), le-leb (getD w i 0) kinds (b .1)) at t)
     go o (nothing k) = refl
@@ -109,8 +108,10 @@ module _ (s : List ℕ) (r : Rules) (m : Mark) (e : decode s ≡ got r m) (v : c
     where
       g : Grammar
       g = compile r
+
       k : ℕ
       k = suc (2 * length row + length (marked w))
+
       by-test : reading g (marked w) (lowest g (marked w)) k (length row) ≡ full → (b : Bool) → sentence? g w ≡ b
           → Right g w row (cond b (clear 14 0 row) (clear 10 (wrongPlace g w) row))
       by-test q true t =
@@ -119,6 +120,7 @@ module _ (s : List ℕ) (r : Rules) (m : Mark) (e : decode s ≡ got r m) (v : c
           short d c (reading-crams g ordered w k (length row) d q c)
       by-test q false t =
           wrong (wrongPlace g w) (goes-wrong w (λ x. false→¬T (sentence? g w) t (sentence-iff g (ordered .end-mark) (ordered .end-past) w .1 x)))
+
       go : (o : Outcome) → reading g (marked w) (lowest g (marked w)) k (length row) ≡ o → Right g w row (onOutcome g w row o)
       go (accepted d) q =
           Right.accepted d (reading-chosen g ordered w k (length row) d q) (reading-sound g (ordered .end-mark) (ordered .end-past) w (lowest g (marked w)) k (length row) d q .1)
@@ -137,4 +139,4 @@ module _ (s : List ℕ) (r : Rules) (m : Mark) (e : decode s ≡ got r m) (v : c
   unfolding plainReading from8 from9 from11
   demand2 w row space few tokens room =
       rw (e, judged-sound, le-ltb maxTokens (length w) few, known-none (compile r .kinds) w tokens, le-ltb space (spaceWords (compile r .size) (length w)) room)
-        (read-right w row)
+      (read-right w row)

@@ -1,12 +1,12 @@
 -- The machine makes single steps, whatever chooser it asks; so its open frames keep to the bound, sentences or not.
-use mathlib.Core.Path.{_≡_, refl}
+use mathlib.Core.Path.{_≡_}
 use mathlib.Core.List.{List, [], _∷_}
 use Prim.Native.Nat.{ℕ, suc}
 use Rattle.base.proofs.Booleans.{clash}
 use Rattle.grammar.specs.Grammar.{Grammar}
 use Rattle.derivation.specs.Steps.{popped, matched, picked}
 use Rattle.derivation.specs.Steps
-use Rattle.derivation.specs.Machine.{Chooser, Step, halt, move, pick, step}
+use Rattle.derivation.specs.Machine.{Chooser, Step, move, pick, step}
 use Rattle.derivation.proofs.MachineLaws.{Seen, see}
 
 -- where a move of the machine leads, the single steps lead

@@ -1,11 +1,9 @@
 -- The test whether a note is a sentence.
-use mathlib.Core.Path.{_≡_, refl}
+use mathlib.Core.Path.{_≡_}
 use mathlib.Core.Logic.{_↔_}
-use mathlib.Core.Option.{some}
 use mathlib.Core.List.{List, [], _∷_}
 use Prim.Native.Nat.{ℕ, suc}
 use lib.Dec.{T}
-use lib.ListN.{getElem?}
 use Rattle.base.proofs.Lists.{anyOf-T, T-anyOf}
 use Rattle.grammar.specs.Limits.{endPlace, endMark}
 use Rattle.grammar.specs.declared.Symbol.the-variants.{Token, End}

@@ -1,18 +1,17 @@
 -- What the check gives the readings: in a sound grammar every nonterminal derives something, so what is left of every production does; and the start
 -- symbol has a production.
-use mathlib.Core.Path.{_≡_, refl, sym, _∙_}
+use mathlib.Core.Path.{_≡_, refl}
 use mathlib.Core.Bool.{Bool, true, false}
 use mathlib.Core.Option.{some}
 use mathlib.Core.List.{List, [], _∷_}
-use Prim.Native.Nat.{ℕ, _≤_, _<_}
+use Prim.Native.Nat.{ℕ, _<_}
 use native.Mathlib.Omega.{arith}
-use lib.Dec.{T}
 use lib.ListN.{length}
 use Rattle.base.proofs.Booleans.{clash, true→T, false→¬T}
 use Rattle.grammar.specs.declared.Symbol.{Symbol}
 use Rattle.grammar.specs.declared.Symbol.the-variants.{Nonterminal}
 use Rattle.grammar.specs.Decode.{Rules, Mark, got, decode}
-use Rattle.grammar.specs.Grammar.{Grammar, facing, first, compile, Limited}
+use Rattle.grammar.specs.Grammar.{Grammar, first, compile, Limited}
 use Rattle.grammar.specs.Derivation.{Leftmost}
 use Rattle.grammar.proofs.GrammarLaws.{production-from}
 use Rattle.grammar.proofs.PlaceLaws.{length-startsAll}

@@ -1,5 +1,5 @@
 -- The plain reading of a whole note follows the chosen derivation of the note, the end mark and the end place taken away.
-use mathlib.Core.Path.{_≡_, refl, sym, ap, _∙_}
+use mathlib.Core.Path.{_≡_, refl, sym, _∙_}
 use mathlib.Core.Option.{some}
 use mathlib.Core.List.{List, [], _∷_, _++_, append-nil}
 use Prim.Native.Nat.{ℕ, suc, _≤_, _<_, suc-le-suc}
@@ -59,7 +59,7 @@ module _ (g : Grammar) (ordered : Ordered g) (w : List ℕ) where
     start-crams served q d x =
         let h = chosen-call {α = []} {a = 0} x refl in
         let m : b ≡ h .alternative = same-lowest 0 b (h .alternative) (production-is g 0 b e) (start-lower b least)
-              (start-derives b (production-is g 0 b e) served) (h .stands) (h .lowest) (h .rest, chosen→leftmost (h .onward)) in
+        (start-derives b (production-is g 0 b e) served) (h .stands) (h .lowest) (h .rest, chosen→leftmost (h .onward)) in
         let v : some (suffix g f) ≡ some (h .symbols) = sym (production-is g 0 b e) ∙ (rw m (h .stands)) in
         let z : suffix g f ≡ h .symbols = cc in
         let y : Chosen g (suffix g f) (h .rest) w = rw z (rw append-nil at (h .onward)) in

@@ -1,7 +1,7 @@
 -- Document 01's starred cases of the plain reading by grammar G1, as one table.
 use mathlib.Core.Path.{_≡_}
 use mathlib.Core.List.{List, [], _∷_}
-use Prim.Native.Nat.{ℕ, suc}
+use Prim.Native.Nat.{ℕ}
 use lib.ListN.{length}
 use Rattle.derivation.specs.Space.{spaceWords}
 use Rattle.derivation.specs.Plain.{Answer, answer, plainReading}

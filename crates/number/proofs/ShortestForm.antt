@@ -1,8 +1,7 @@
 -- The number reader reads exactly the shortest forms of the numbers up to 65,535: each of them, and nothing else.
 use mathlib.Core.Path.{_≡_, refl, sym, ap, _∙_}
-use mathlib.Core.Logic.{_⊎_, inl, inr}
 use mathlib.Core.List.{List, [], _∷_, _++_}
-use Prim.Native.Nat.{ℕ, zero, suc, _+_, _*_, _/_, _%_, _≤_, _<_}
+use Prim.Native.Nat.{ℕ, _+_, _*_, _/_, _%_, _≤_, _<_}
 use native.Mathlib.Omega.{arith}
 use native.Mathlib.Numerals.{add-one}
 use native.Mathlib.Decide.{decLe, decLt}
@@ -10,7 +9,7 @@ use lib.ListN.{length, getD, drop, length-append}
 use lib.Seq.{getD-append-seam, getD-append-add, drop-cons}
 use borrow.Author.Tests.{lt-ltb, le-ltb}
 use Rattle.base.proofs.Booleans.{clash}
-use Rattle.number.specs.Types.{Cursor, Read, Value, Refused}
+use Rattle.number.specs.Types.{Cursor, Value}
 use Rattle.number.specs.Number.{numberAt, cursor, shortest, maxNumber}
 use Rattle.number.proofs.NumberLaws.{none, one, cut, long, two, cut2, long2, high, three}
 

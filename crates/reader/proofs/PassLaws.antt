@@ -5,7 +5,7 @@ use mathlib.Core.Bool.{Bool, true, false, cond, _&&_}
 use mathlib.Core.List.{List, [], _∷_, _++_, map, map-append}
 use Prim.Native.Nat.{ℕ, zero, suc, _+_, _/_, _%_, _≤_}
 use native.Mathlib.Omega.{arith}
-use lib.ListN.{length, set, length-append}
+use lib.ListN.{length, set, length-map}
 use lib.Seq.{sets}
 use lib.Dec.{ltb, leb, eqb, leb→le}
 use borrow.Author.Tests.{ltb-true, ltb-false}
@@ -17,6 +17,7 @@ use Rattle.number.specs.Number.{limitedAt, symbolAt, legal, cursor}
 use Rattle.grammar.specs.Decode.{Rules, AllOf, Legal, Production, Alternatives, Mark, mark, Parsed, got, refused, andThen, times, fromRead, limited, written, symbol, production, nonterminal, ending, decode}
 use Rattle.grammar.specs.Grammar.{at, layOne, layEach, layAll, sizeEach, sizeAll, startsEach, Limited}
 use Rattle.grammar.specs.Tables.{wordOf, firstsAt, rulesAt}
+use Rattle.grammar.proofs.CompileLaws.{length-one, length-each}
 use Rattle.reader.specs.Pass.{Out, out, onRead, onOut, symbolsOf, productionsOf, nonterminalsOf, closing, finished, passOf}
 use Rattle.number.proofs.NumberLaws.{symbol-legal, limited-is}
 
@@ -78,17 +79,10 @@ length-size [] = omega arith
 length-size (β ∷ l) = omega (arith, length-size l)
 
 pub length-layOne : (a : ℕ) (β : List Symbol) → length (map wordOf (layOne a β)) ≡ suc (length β)
-unfolding layOne
-length-layOne a [] = refl
-length-layOne a (x ∷ β) = ap suc (length-layOne a β)
+length-layOne a β = length-map (layOne a β) wordOf ∙ length-one a β
 
 pub length-layEach : (a : ℕ) (l : List (List Symbol)) → length (map wordOf (layEach a l)) ≡ sizeEach l
-unfolding layEach sizeEach
-length-layEach a [] = refl
-length-layEach a (β ∷ l) =
-    ap length (map-append wordOf (layOne a β) (layEach a l))
-    ∙ length-append (map wordOf (layOne a β)) (map wordOf (layEach a l))
-    ∙ omega (arith, length-layOne a β, length-layEach a l)
+length-layEach a l = length-map (layEach a l) wordOf ∙ length-each a l
 
 module _ (s : List ℕ) (kt nt : ℕ) where
   -- the tables after symbols

@@ -4,7 +4,7 @@ use mathlib.Core.List.{List, [], _∷_, _++_, append-assoc, map, map-append}
 use Prim.Native.Nat.{ℕ, zero, suc, _+_, _-_, _≤_, _<_}
 use native.Mathlib.Nat.{sub-zero, add-zero}
 use native.Mathlib.Omega.{arith}
-use lib.ListN.{length, getD, set, take, drop, replicate, length-append, length-replicate, List·getD-append}
+use lib.ListN.{length, getD, set, take, drop, replicate, length-append, length-replicate, List·getD-append, length-map}
 use lib.Seq.{sets, slice, set-at, take-at, drop-at, getD-append-add, drop-drop, take-nil}
 use Rattle.base.specs.Rounds.{upFrom}
 use Rattle.reader.specs.Types.{Symbol, Token, Nonterminal, End, Place}
@@ -12,9 +12,10 @@ use Rattle.grammar.specs.Limits.{maxKinds, maxNonterminals, maxPlaces, endPlace
 use Rattle.grammar.specs.Decode.{Rules, AllOf, Legal, Production, Alternatives}
 use Rattle.grammar.specs.Grammar.{at, nowhere, layOne, layEach, layAll, sizeEach, sizeAll, startsEach, startsAll, padded, compile, Limited}
 use Rattle.grammar.specs.Tables.{placeWords, ruleWords, firstsAt, rulesAt, kindsAt, nonterminalsAt, sizeAt, tableWords, codeOf, wordOf, placeOf, ruleAt, startsIn, grammarIn}
+use Rattle.grammar.proofs.CompileLaws.{length-all}
 use Rattle.reader.specs.Pass.{finished}
 use Rattle.grammar.proofs.WordLaws.{place-of-word, place-of-none}
-use Rattle.reader.proofs.PassLaws.{countsOf, firstsOf, laidOut, length-starts, length-size, length-layEach}
+use Rattle.reader.proofs.PassLaws.{countsOf, firstsOf, laidOut, length-starts, length-size}
 
 -- ---- words back to places
 legal-code : (t n : ℕ) (x : Symbol) → Legal t n x → t ≤ maxKinds → n ≤ maxNonterminals → codeOf x < 256
@@ -46,17 +47,8 @@ none-back : (n : ℕ) → map placeOf (replicate n 0) ≡ replicate n nowhere
 none-back zero = refl
 none-back (suc n) = ap₂ (λ (x : Place) (r : List Place). x ∷ r) place-of-none (none-back n)
 
-length-map : {A B : Type 0} (f : A → B) (l : List A) → length (map f l) ≡ length l
-length-map f [] = refl
-length-map f (x ∷ l) = ap suc (length-map f l)
-
 length-layAll : (a : ℕ) (l : List (List (List Symbol))) → length (map wordOf (layAll a l)) ≡ sizeAll l
-unfolding layAll sizeAll
-length-layAll a [] = refl
-length-layAll a (y ∷ l) =
-    ap length (map-append wordOf (layEach a y) (layAll (suc a) l))
-    ∙ length-append (map wordOf (layEach a y)) (map wordOf (layAll (suc a) l))
-    ∙ omega (arith, length-layEach a y, length-layAll (suc a) l)
+length-layAll a l = length-map (layAll a l) wordOf ∙ length-all a l
 
 -- ---- the first places, nonterminal by nonterminal
 slice-part : (f n : ℕ) (l : List ℕ) → slice f (f + n) l ≡ take n (drop f l)
@@ -241,7 +233,7 @@ module _ (r : Rules) (limits : Limited r) where
   unfolding padded A W placeOf
   the-places =
       let E : List ℕ = r .kinds ∷ length (r .productions) ∷ sizeAll (r .productions) ∷ [] in
-      let n : length (layAll 0 (r .productions)) ≡ length W = sym (length-map wordOf (layAll 0 (r .productions))) in
+      let n : length (layAll 0 (r .productions)) ≡ length W = sym (length-map (layAll 0 (r .productions)) wordOf) in
       let cut : take placeWords held ≡ A ++ (1 ∷ [])
       = ap (take placeWords) (sym (append-assoc A (1 ∷ []) (B ++ (D ++ E))))
       ∙ take-at (A ++ (1 ∷ [])) (B ++ (D ++ E)) placeWords (length-append A (1 ∷ []) ∙ omega (arith, length-A)) in
