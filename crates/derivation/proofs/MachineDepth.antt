@@ -1,12 +1,20 @@
 -- The machine makes single steps, whatever chooser it asks; so its open frames keep to the bound, sentences or not.
 use mathlib.Core.Path.{_≡_}
+use mathlib.Core.Option.{some}
 use mathlib.Core.List.{List, [], _∷_}
-use Prim.Native.Nat.{ℕ, suc}
+use Prim.Native.Nat.{ℕ, suc, _+_, _*_, _/_, _≤_}
+use lib.ListN.{length}
 use Rattle.base.proofs.Booleans.{clash}
-use Rattle.grammar.specs.Grammar.{Grammar}
+use Rattle.grammar.specs.Limits.{endPlace}
+use Rattle.grammar.specs.Decode.{Rules}
+use Rattle.grammar.specs.Grammar.{Grammar, first, sizeAll, compile, Limited}
+use Rattle.soundness.specs.Textbook.{LeftRecursive}
+use Rattle.derivation.specs.Runs.{marked}
+use Rattle.derivation.specs.Visits.{Visits, begins, moves, takes}
 use Rattle.derivation.specs.Steps.{popped, matched, picked}
 use Rattle.derivation.specs.Steps
 use Rattle.derivation.specs.Machine.{Chooser, Step, move, pick, step}
+use Rattle.derivation.proofs.CompiledDepth.{marked-depth}
 use Rattle.derivation.proofs.MachineLaws.{Seen, see}
 
 -- where a move of the machine leads, the single steps lead
@@ -34,3 +42,16 @@ machine-picks g w choose S i room {b} {S′} e = go (see g w choose S i room) e
     go (Seen.popped q) e = clash (cc)
     go (Seen.matched q d t) e = clash (cc)
     go (Seen.picked {p = p} {b = c} {f = f} {S = T} q d t) e = let a : f ∷ suc p ∷ T ≡ S′ = cc in rw (← a) (picked c q t)
+
+-- so all that the machine comes to is come to by single steps
+pub visits-steps : {g : Grammar} {w : List ℕ} {choose : Chooser} {S₀ S : List ℕ} {i₀ room₀ i room : ℕ} → Visits g w choose S₀ i₀ room₀ S i room
+    → Steps.Steps g w S₀ i₀ S i
+visits-steps begins = Steps.stay
+visits-steps {g} {w} {choose} (moves {S = S} {i = i} {room = room} v e) = Steps.then (visits-steps v) (machine-moves g w choose S i room e)
+visits-steps {g} {w} {choose} (takes {S = S} {i = i} {room = room} v e) = Steps.then (visits-steps v) (machine-picks g w choose S i room e)
+
+-- the bound on open frames, for every reading of a note by a sound grammar: any chooser, any room, sentence or not
+pub machine-depth : (r : Rules) → Limited r → ((a : ℕ) → ¬ LeftRecursive (compile r) a) → (w : List ℕ) (choose : Chooser) (a b f : ℕ) → first (compile r) a b ≡ some f
+    → (p i room₀ room : ℕ) (S : List ℕ) → Visits (compile r) (marked w) choose (f ∷ endPlace ∷ []) 0 room₀ (p ∷ S) i room
+    → length S ≤ (suc (sizeAll (r .productions)) / 2) * suc (length w) + 1
+machine-depth r limits none w choose a b f e p i room₀ room S v = marked-depth r limits none w a b f e p i S (visits-steps v)

@@ -62,7 +62,7 @@ module _ {g : Grammar} {w : List ℕ} where
   run-call (Run.match e d t h) q = clash (cc)
   run-call {a = a} (Run.expand {a = a′} {b = b} {f = f} {r = s} e d h) q = let z : a′ ≡ a = cc in (b, s, f, rw z at d, h, refl)
 
-  -- ---- from a run, a chain of big steps: one helper for each way on
+  -- ---- from a run, a chain of big steps: one step for each way on
   ders-match : {p k t i j : ℕ} {S r : List ℕ} → facing g p ≡ Token k → getElem? w i ≡ some t → T (admits g k t)
       → Ders g w (suc p ∷ S) (suc i) j r → Ders g w (p ∷ S) i j r
   ders-match e d t (more x xs) = more (Der.match e d t x) xs

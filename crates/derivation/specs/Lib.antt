@@ -10,3 +10,4 @@ pub mod Space
 pub mod Plain
 pub mod Demand2
 pub mod Cases
+pub mod Visits
