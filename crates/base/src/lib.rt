@@ -10,19 +10,19 @@ pub fn wide(b: u8) -> usize
     b as usize
 }
 
-// A word as a number.
-pub fn index(x: u32) -> usize
+// A word of 16 bits as a number.
+pub fn index(x: u16) -> usize
     ensures { λ r. ⌜ r ≡ x ⌝ }
 {
     x as usize
 }
 
-// A number that fits a word.
-pub fn narrow(x: usize) -> u32
-    requires { ⌜ x < 4294967296 ⌝ }
+// A number that fits a word of 16 bits.
+pub fn narrow(x: usize) -> u16
+    requires { ⌜ x < 65536 ⌝ }
     ensures { λ r. ⌜ r ≡ x ⌝ }
 {
-    x as u32
+    x as u16
 }
 
 // Whether bit k of x is set.

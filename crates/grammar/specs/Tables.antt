@@ -1,4 +1,4 @@
--- The compiled tables: a grammar in 547 words. Every reader is total: any words at all say a grammar.
+-- The compiled tables: a grammar in 547 words of 16 bits. Every reader is total: any words at all say a grammar.
 --   0 .. 255    the places, the end place last: 8 bits of symbol code, 6 bits of owner with the top one turned
 --   256 .. 510  the first place of each production, in the order of the bytes
 --   511 .. 543  for each nonterminal the number of its first production, counted over all; behind the last, the number of productions

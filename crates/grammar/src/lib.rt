@@ -1,4 +1,4 @@
-// A grammar in tables of words, and the places in it: what each faces, and whose production it is in.
+// A grammar in tables of 16-bit words, and the places in it: what each faces, and whose production it is in.
 ghost use mathlib.Core.Path.{_≡_};
 ghost use Prim.Native.Nat.{_+_, _≤_, _<_};
 ghost use lib.ListN.{length, getD};
@@ -52,7 +52,7 @@ fn symbol_of(code: usize) -> Symbol
 }
 
 // The place of a word: the symbol's code in the low eight bits, the owner above them with its top bit turned, so that a word 0 is nobody's.
-pub fn place_of(word: u32) -> Place
+pub fn place_of(word: u16) -> Place
     ensures { λ r. ⌜ r ≡ placeOf word ⌝ }
 {
     let w = base::index(word);
@@ -63,7 +63,7 @@ pub fn place_of(word: u32) -> Place
 }
 
 // The word of a place of `owner` that faces the symbol written as v.
-pub fn symbol_word(owner: usize, v: usize) -> u32
+pub fn symbol_word(owner: usize, v: usize) -> u16
     requires { ⌜ v < 255 ⌝ }
     ensures { λ r. ⌜ r ≡ wordOf (record { owner = owner; symbol = written v }) ⌝ }
 {
@@ -71,14 +71,14 @@ pub fn symbol_word(owner: usize, v: usize) -> u32
 }
 
 // The word of a place at the end of a production of `owner`.
-pub fn end_word(owner: usize) -> u32
+pub fn end_word(owner: usize) -> u16
     ensures { λ r. ⌜ r ≡ wordOf (record { owner = owner; symbol = Symbol.End }) ⌝ }
 {
     base::narrow((owner % 64 + 32) % 64 * 256)
 }
 
 // Place p. Behind the end place there is none: there a production's end is faced, and nobody owns it.
-pub fn place_at(tables: &[u32], p: usize) -> Place
+pub fn place_at(tables: &[u16], p: usize) -> Place
     requires { ⌜ length (now tables) ≡ tableWords ⌝ }
     ensures { λ r. ⌜ r ≡ placeAt (grammarIn (now (tables .entry))) p ⌝ }
 {
@@ -89,7 +89,7 @@ pub fn place_at(tables: &[u32], p: usize) -> Place
 }
 
 // How many nonterminals there are.
-pub fn nonterminals(tables: &[u32]) -> usize
+pub fn nonterminals(tables: &[u16]) -> usize
     requires { ⌜ length (now tables) ≡ tableWords ⌝ }
     ensures { λ r. ⌜ r ≡ nonterminalsIn (now (tables .entry)) ⌝ }
 {
@@ -97,7 +97,7 @@ pub fn nonterminals(tables: &[u32]) -> usize
 }
 
 // Where in the tables the first places of the productions of nonterminal a begin, and where those of the one before it end.
-pub fn rule_at(tables: &[u32], a: usize) -> usize
+pub fn rule_at(tables: &[u16], a: usize) -> usize
     requires { ⌜ (a ≤ maxNonterminals) × (length (now tables) ≡ tableWords) ⌝ }
     ensures { λ r. ⌜ r ≡ ruleAt (now (tables .entry)) a ⌝ }
 {
@@ -105,7 +105,7 @@ pub fn rule_at(tables: &[u32], a: usize) -> usize
 }
 
 // The first place of the production whose word stands at k in the tables.
-pub fn first_place(tables: &[u32], k: usize) -> usize
+pub fn first_place(tables: &[u16], k: usize) -> usize
     requires { ⌜ (k < tableWords) × (length (now tables) ≡ tableWords) ⌝ }
     ensures { λ r. ⌜ r ≡ getD (now (tables .entry)) k 0 ⌝ }
 {

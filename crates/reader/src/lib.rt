@@ -28,7 +28,7 @@ fn symbols(
     kinds: usize,
     nonterminals: usize,
     owner: usize,
-    tables: &mut [u32],
+    tables: &mut [u16],
     first: usize,
 ) -> Read
     requires { ⌜ (kinds ≤ maxKinds) × (nonterminals ≤ maxNonterminals) × (first + count ≤ maxPlaces) × (length (now tables) ≡ tableWords) ⌝ }
@@ -59,7 +59,7 @@ fn productions(
     kinds: usize,
     nonterminals: usize,
     owner: usize,
-    tables: &mut [u32],
+    tables: &mut [u16],
     first: usize,
     production: usize,
 ) -> Read
@@ -93,7 +93,7 @@ fn productions(
 }
 
 // All nonterminals. Answers the number of places.
-fn rules(bytes: &[u8], from: Cursor, kinds: usize, nonterminals: usize, tables: &mut [u32]) -> Read
+fn rules(bytes: &[u8], from: Cursor, kinds: usize, nonterminals: usize, tables: &mut [u16]) -> Read
     requires { ⌜ (kinds ≤ maxKinds) × (nonterminals ≤ maxNonterminals) × (length (now tables) ≡ tableWords) ⌝ }
     ensures { λ r. ⌜ Leaves r (now (tables .exit)) (nonterminalsOf (now (bytes .entry)) kinds nonterminals 0 nonterminals from 0 0 (now (tables .entry))) ⌝ }
 {
@@ -121,7 +121,7 @@ fn rules(bytes: &[u8], from: Cursor, kinds: usize, nonterminals: usize, tables: 
 }
 
 // The end place, and the words that say how much there is.
-fn finish(kinds: usize, nonterminals: usize, places: usize, tables: &mut [u32])
+fn finish(kinds: usize, nonterminals: usize, places: usize, tables: &mut [u16])
     requires { ⌜ (kinds ≤ maxKinds) × (nonterminals ≤ maxNonterminals) × (places ≤ maxPlaces) × (length (now tables) ≡ tableWords) ⌝ }
     ensures { λ r. ⌜ now (tables .exit) ≡ finished kinds nonterminals places (now (tables .entry)) ⌝ }
 {
@@ -132,7 +132,7 @@ fn finish(kinds: usize, nonterminals: usize, places: usize, tables: &mut [u32])
 }
 
 // Reads a grammar into tables. Answers the number of places and the end of the bytes, or the first refusal of 1 to 5.
-pub fn read_grammar(bytes: &[u8], tables: &mut [u32]) -> Read
+pub fn read_grammar(bytes: &[u8], tables: &mut [u16]) -> Read
     requires { ⌜ length (now tables) ≡ tableWords ⌝ }
     ensures { λ r. ⌜ Leaves r (now (tables .exit)) (passOf (now (bytes .entry)) (now (tables .entry))) ⌝ }
 {

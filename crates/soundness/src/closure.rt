@@ -10,7 +10,7 @@ ghost use Rattle.soundness.specs.Closures.{passes, derivingRound};
 ghost use Rattle.soundness.specs.Steps.{stepOf, passOf, DerivingIs};
 
 // Whether every symbol from place `first` to its production's end passes: a token if `tokens` says so, a nonterminal if it is in the set.
-fn all_pass(tables: &[u32], tokens: bool, set: u32, first: usize) -> bool
+fn all_pass(tables: &[u16], tokens: bool, set: u32, first: usize) -> bool
     requires { ⌜ Fits (now tables) ⌝ }
     ensures { λ r. ⌜ r ≡ passes tokens (testBit set) (suffix (grammarIn (now (tables .entry))) first) ⌝ }
 {
@@ -37,7 +37,7 @@ fn all_pass(tables: &[u32], tokens: bool, set: u32, first: usize) -> bool
 }
 
 // Whether some production of nonterminal a passes.
-fn some_passes(tables: &[u32], tokens: bool, set: u32, a: usize) -> bool
+fn some_passes(tables: &[u16], tokens: bool, set: u32, a: usize) -> bool
     requires { ⌜ Fits (now tables) × (a < nonterminalsIn (now tables)) ⌝ }
     ensures { λ r. ⌜ r ≡ derivingRound tokens (grammarIn (now (tables .entry))) (testBit set) a ⌝ }
 {
@@ -55,7 +55,7 @@ fn some_passes(tables: &[u32], tokens: bool, set: u32, a: usize) -> bool
 }
 
 // Nonterminal a judged by the set so far.
-fn step(tables: &[u32], tokens: bool, set: u32, a: usize) -> u32
+fn step(tables: &[u16], tokens: bool, set: u32, a: usize) -> u32
     requires { ⌜ Fits (now tables) × (a < nonterminalsIn (now tables)) ⌝ }
     ensures { λ r. ⌜ r ≡ stepOf tokens (grammarIn (now (tables .entry))) a set ⌝ }
 {
@@ -69,7 +69,7 @@ fn step(tables: &[u32], tokens: bool, set: u32, a: usize) -> u32
 }
 
 // Every nonterminal once, the last first.
-fn pass(tables: &[u32], tokens: bool, from: u32) -> u32
+fn pass(tables: &[u16], tokens: bool, from: u32) -> u32
     requires { ⌜ Fits (now tables) ⌝ }
     ensures { λ r. ⌜ r ≡ passOf tokens (grammarIn (now (tables .entry))) (nonterminalsIn (now (tables .entry))) from ⌝ }
 {
@@ -83,7 +83,7 @@ fn pass(tables: &[u32], tokens: bool, from: u32) -> u32
 }
 
 // The nonterminals that derive some row of tokens if `tokens`, the empty row if not.
-pub fn derivers(tables: &[u32], tokens: bool) -> u32
+pub fn derivers(tables: &[u16], tokens: bool) -> u32
     requires { ⌜ Fits (now tables) ⌝ }
     ensures { λ r. ⌜ DerivingIs tokens (grammarIn (now (tables .entry))) r ⌝ }
 {

@@ -71,7 +71,7 @@ fn lowest_own(rows: &[u32], n: usize) -> Verdict
 }
 
 // Refusal 6.
-fn unproductive(tables: &[u32]) -> Verdict
+fn unproductive(tables: &[u16]) -> Verdict
     requires { ⌜ Fits (now tables) ⌝ }
     ensures { λ r. ⌜ r ≡ unproductiveOf (grammarIn (now (tables .entry))) ⌝ }
 {
@@ -81,7 +81,7 @@ fn unproductive(tables: &[u32]) -> Verdict
 }
 
 // Refusal 7.
-fn left_recursive(tables: &[u32]) -> Verdict
+fn left_recursive(tables: &[u16]) -> Verdict
     requires { ⌜ Fits (now tables) ⌝ }
     ensures { λ r. ⌜ r ≡ leftRecursiveOf (grammarIn (now (tables .entry))) ⌝ }
 {
@@ -94,7 +94,7 @@ fn left_recursive(tables: &[u32]) -> Verdict
 }
 
 // 6, and then 7.
-fn judge(tables: &[u32]) -> Verdict
+fn judge(tables: &[u16]) -> Verdict
     requires { ⌜ Fits (now tables) ⌝ }
     ensures { λ r. ⌜ r ≡ judgeOf (grammarIn (now (tables .entry))) ⌝ }
 {
@@ -106,7 +106,7 @@ fn judge(tables: &[u32]) -> Verdict
 }
 
 // Checks a grammar, and leaves it compiled in tables, which come in as zeros.
-pub fn compile(bytes: &[u8], tables: &mut [u32]) -> Verdict
+pub fn compile(bytes: &[u8], tables: &mut [u16]) -> Verdict
     requires { ⌜ now tables ≡ replicate tableWords 0 ⌝ }
     ensures { λ r. ⌜ Compiled (now (bytes .entry)) r (now (tables .exit)) ⌝ }
 {
@@ -121,6 +121,6 @@ pub fn compile(bytes: &[u8], tables: &mut [u32]) -> Verdict
 pub fn check(grammar: &[u8]) -> Verdict
     ensures { λ r. ⌜ r ≡ checkOf (now (grammar .entry)) ⌝ }
 {
-    let mut tables = [0u32; grammar::TABLE_WORDS];
+    let mut tables = [0u16; grammar::TABLE_WORDS];
     compile(grammar, &mut tables)
 }

@@ -12,7 +12,7 @@ ghost use Rattle.soundness.specs.Closures.{leads};
 ghost use Rattle.soundness.specs.Steps.{Leads, Moves, Rows, throughOf, reachOf};
 
 // The set `from` with every nonterminal that stands from place `first` on behind only nullable ones.
-fn left_from(tables: &[u32], nullable: u32, first: usize, from: u32) -> u32
+fn left_from(tables: &[u16], nullable: u32, first: usize, from: u32) -> u32
     requires { ⌜ Fits (now tables) ⌝ }
     ensures { λ r. ⌜ Leads nullable from (suffix (grammarIn (now (tables .entry))) first) r ⌝ }
 {
@@ -37,7 +37,7 @@ fn left_from(tables: &[u32], nullable: u32, first: usize, from: u32) -> u32
 }
 
 // The nonterminals that one move leads to from a.
-fn moves(tables: &[u32], nullable: u32, a: usize) -> u32
+fn moves(tables: &[u16], nullable: u32, a: usize) -> u32
     requires { ⌜ Fits (now tables) × (a < nonterminalsIn (now tables)) ⌝ }
     ensures { λ r. ⌜ Moves nullable (grammarIn (now (tables .entry))) a r ⌝ }
 {
@@ -54,7 +54,7 @@ fn moves(tables: &[u32], nullable: u32, a: usize) -> u32
 }
 
 // A row for each nonterminal: where one move leads.
-pub fn begin(tables: &[u32], nullable: u32, rows: &mut [u32])
+pub fn begin(tables: &[u16], nullable: u32, rows: &mut [u32])
     requires { ⌜ Fits (now tables) × (length (now rows) ≡ maxNonterminals) ⌝ }
     ensures { λ r. ⌜ Rows nullable (grammarIn (now (tables .entry))) (nonterminalsIn (now (tables .entry))) (now (rows .exit)) ⌝ }
 {
