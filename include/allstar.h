@@ -1,7 +1,8 @@
 /* The delivery-note reader, for C. Link liballstar_c.a.
  *
- * Every call is safe for any bytes of any length. Memory stays the caller's: a call reads what is lent as const, writes what is lent otherwise, and keeps nothing.
- * A pointer is never null, also where the length is 0.
+ * Every call is safe for any bytes, tokens and words of any number. Memory stays the caller's: a call reads what is lent as const, writes what is lent otherwise, and keeps
+ * nothing. A pointer is never null, also where the length is 0, and is aligned for its type. Lengths count elements, not bytes. What is lent otherwise than as const
+ * overlaps nothing else that is lent. Calls that share only what is const may run at the same time.
  */
 #ifndef ALLSTAR_H
 #define ALLSTAR_H
@@ -18,6 +19,27 @@ extern "C" {
  *   6 a nonterminal derives no row of tokens             7 a nonterminal is left recursive
  * and stores the place: a byte for 1 to 5, a nonterminal for 6 and 7, else 0. */
 uint32_t allstar_check(const uint8_t *grammar, size_t length, uint64_t *place);
+
+/* Reads a note by a grammar, without a cache: the plain reading. Lent are
+ *   the grammar     bytes of any length; they are checked in every call
+ *   the note        its tokens, at most 128
+ *   the row         any length, 0 too; it takes the derivation: the alternative, counted from 1, of each expansion in leftmost order, always the lowest one by which the
+ *                   rest of the note can still be derived. There can be far more expansions than tokens
+ *   the workspace   at least 8192 + 8 * P * (note_length + 1) words, P the places of the grammar (a production of m symbols has m + 1; at most 255). 271,352 words are
+ *                   enough for every grammar and note. It may hold anything before the call and holds anything after it
+ * Answers 0 if the note is a sentence and its derivation fits the row, else the number of the refusal, the first that applies in this order:
+ *   1 to 7   the grammar, as in allstar_check
+ *   8        the note has more than 128 tokens
+ *   9        a token is 0 or above the grammar's highest kind
+ *   11       the workspace is too short
+ *   10       the note is no sentence
+ *   14       the note is a sentence, and its derivation has more entries than the row
+ * and stores the place: as in allstar_check for 1 to 7; for 9 the first such token, counted from 0; for 10 the first token that no sentence allows there, or note_length
+ * if the note breaks off; else 0. It stores the count of entries too, 0 where refused.
+ *
+ * The row afterwards: accepted, it holds the entries, and zeros behind them; after 10 and 14 it holds zeros alone; after any other refusal it is untouched. */
+uint32_t allstar_plain(const uint8_t *grammar, size_t grammar_length, const uint16_t *note, size_t note_length, uint16_t *row, size_t row_length,
+                       uint32_t *workspace, size_t workspace_length, uint64_t *place, uint64_t *count);
 
 #ifdef __cplusplus
 }
