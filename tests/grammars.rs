@@ -1,7 +1,7 @@
 //! Tests the grammar check against answers written down by hand and against the second checker.
 #![deny(unsafe_code)]
 
-#[allow(unsafe_code)]
+#[allow(dead_code, unsafe_code)]
 #[path = "support/allstar.rs"]
 mod allstar;
 #[path = "support/corners.rs"]
@@ -10,19 +10,30 @@ mod corners;
 mod edges;
 #[path = "support/generate.rs"]
 mod generate;
+#[allow(dead_code)]
+#[path = "support/lent.rs"]
+mod lent;
 #[path = "support/random.rs"]
 mod random;
 #[path = "support/second_checker.rs"]
 mod second_checker;
+#[path = "support/tally.rs"]
+mod tally;
+#[path = "support/tiny.rs"]
+mod tiny;
 #[path = "support/tree.rs"]
 mod tree;
 
 use allstar::Verdict;
 use corners::CORNERS;
+use lent::Lent;
 use random::Random;
-use std::hint::black_box;
 use std::process::exit;
-use tree::{from_hex, Grammar, Production, Symbol};
+use tally::Tally;
+use tree::{from_hex, to_hex};
+
+/// Sound, and refusals 1 to 7.
+const NUMBERS: usize = 8;
 
 /// Drawn cases of each family, and how often each answer and each corner must come up in them.
 const DRAWN_PER_FAMILY: usize = 3_000;
@@ -34,7 +45,9 @@ fn main() {
         run.expect(case);
     }
     short_strings(&mut run);
-    tiny_grammars(&mut run);
+    tiny::each_grammar(|grammar| {
+        run.agree("all tiny grammars", &grammar.encode());
+    });
     systematic_faults(&mut run);
     drawn_grammars(&mut run);
     run.finish();
@@ -42,22 +55,19 @@ fn main() {
 
 /// The cases so far.
 struct Run {
-    all: Tally,
-    drawn: Tally,
+    all: Tally<NUMBERS>,
+    drawn: Tally<NUMBERS>,
     corners: [usize; CORNERS.len()],
-    /// The input as it is lent, with bytes before and behind it, and a copy from before the call.
-    lent: Vec<u8>,
-    copy: Vec<u8>,
+    input: Lent<u8>,
 }
 
 impl Run {
     fn new() -> Run {
         Run {
-            all: Tally::default(),
-            drawn: Tally::default(),
+            all: Tally::new("sound"),
+            drawn: Tally::new("sound"),
             corners: [0; CORNERS.len()],
-            lent: Vec::new(),
-            copy: Vec::new(),
+            input: Lent::new(),
         }
     }
 
@@ -88,15 +98,9 @@ impl Run {
 
     /// The same, with the bytes given that stand around the input.
     fn agree_amid(&mut self, origin: &str, before: &[u8], input: &[u8], behind: &[u8]) -> Verdict {
-        self.lent.clear();
-        self.lent.extend(before);
-        self.lent.extend(input);
-        self.lent.extend(behind);
-        self.copy.clone_from(&self.lent);
-        let (start, end) = (before.len(), before.len() + input.len());
-        let library = allstar::check(&self.lent[start..end]);
-        // The compiler must not take it for granted that the lent bytes are as they were.
-        if *black_box(&mut self.lent) != self.copy {
+        self.input.lay(before, input, behind);
+        let library = allstar::check(self.input.part());
+        if !self.input.is_unchanged() {
             report(origin, input);
             fail("the call changed the lent bytes or those around them");
         }
@@ -105,7 +109,7 @@ impl Run {
             report(origin, input);
             fail(&format!("library: {library}\nsecond checker: {second}"));
         }
-        self.all.count(library);
+        self.all.count(library.number);
         library
     }
 
@@ -114,38 +118,11 @@ impl Run {
         for (corner, times) in CORNERS.iter().zip(self.corners) {
             println!("drawn: {times} {corner}");
         }
-        let answers = self.drawn.by_number.iter();
-        if answers.chain(&self.corners).any(|&n| n < LEAST_OFTEN) {
+        let answers = (0..NUMBERS).map(|number| self.drawn.times(number));
+        if answers.chain(self.corners).any(|n| n < LEAST_OFTEN) {
             fail("some answer or corner came up too rarely in the drawn cases");
         }
         println!("grammars: {} cases agree ({})", self.all.cases(), self.all);
-    }
-}
-
-/// How often each number was answered.
-#[derive(Default)]
-struct Tally {
-    by_number: [usize; 8],
-}
-
-impl Tally {
-    fn count(&mut self, answer: Verdict) {
-        self.by_number[answer.number as usize] += 1;
-    }
-
-    fn cases(&self) -> usize {
-        self.by_number.iter().sum()
-    }
-}
-
-impl std::fmt::Display for Tally {
-    fn fmt(&self, out: &mut std::fmt::Formatter) -> std::fmt::Result {
-        write!(out, "sound {}, refused", self.by_number[0])?;
-        for (number, times) in self.by_number.iter().enumerate().skip(1) {
-            let comma = if number == 1 { "" } else { "," };
-            write!(out, "{comma} {number}: {times}")?;
-        }
-        Ok(())
     }
 }
 
@@ -153,13 +130,8 @@ impl std::fmt::Display for Tally {
 fn report(origin: &str, input: &[u8]) {
     const SHOWN: usize = 2_000;
     println!("{origin}, {} bytes:", input.len());
-    let shown: Vec<String> = input
-        .iter()
-        .take(SHOWN)
-        .map(|b| format!("{b:02x}"))
-        .collect();
     let dots = if input.len() > SHOWN { " ..." } else { "" };
-    println!("{}{dots}", shown.join(" "));
+    println!("{}{dots}", to_hex(&input[..input.len().min(SHOWN)]));
 }
 
 fn fail(message: &str) -> ! {
@@ -168,23 +140,10 @@ fn fail(message: &str) -> ! {
     exit(1);
 }
 
-/// Every row of `length` numbers below `choices`.
-fn each_choice(choices: usize, length: usize, mut visit: impl FnMut(&[usize])) {
-    let mut chosen = vec![0; length];
-    loop {
-        visit(&chosen);
-        let Some(at) = chosen.iter().rposition(|&number| number + 1 < choices) else {
-            return;
-        };
-        chosen[at] += 1;
-        chosen[at + 1..].fill(0);
-    }
-}
-
 /// Every string of `length` bytes over an alphabet.
 fn each_string(alphabet: &[u8], length: usize, mut visit: impl FnMut(&[u8])) {
     let mut string = Vec::new();
-    each_choice(alphabet.len(), length, |chosen| {
+    tiny::each_choice(alphabet.len(), length, |chosen| {
         string.clear();
         string.extend(chosen.iter().map(|&at| alphabet[at]));
         visit(&string);
@@ -216,49 +175,6 @@ fn short_strings(run: &mut Run) {
             run.agree("two nonterminals", &[&[1, 2], rest].concat());
         });
     }
-}
-
-/// All productions of at most two symbols over one token and some nonterminals.
-fn short_productions(nonterminals: usize) -> Vec<Production> {
-    let mut symbols = vec![Symbol::Token(1)];
-    symbols.extend((0..nonterminals).map(Symbol::Nonterminal));
-    let mut productions = vec![Vec::new()];
-    for &first in &symbols {
-        productions.push(vec![first]);
-        productions.extend(symbols.iter().map(|&second| vec![first, second]));
-    }
-    productions
-}
-
-/// Every choice of a rule for each nonterminal.
-fn each_grammar(run: &mut Run, nonterminals: usize, rules: &[Vec<Production>]) {
-    each_choice(rules.len(), nonterminals, |chosen| {
-        let grammar = Grammar {
-            kinds: 1,
-            rules: chosen.iter().map(|&at| rules[at].clone()).collect(),
-        };
-        run.agree("all tiny grammars", &grammar.encode());
-    });
-}
-
-fn tiny_grammars(run: &mut Run) {
-    // Two nonterminals with one or two productions.
-    let mut rules = Vec::new();
-    for first in short_productions(2) {
-        rules.push(vec![first.clone()]);
-        for second in short_productions(2) {
-            rules.push(vec![first.clone(), second]);
-        }
-    }
-    each_grammar(run, 2, &rules);
-    // Three nonterminals with one production, and with the empty one or a token beside it.
-    let mut rules = Vec::new();
-    for production in short_productions(3) {
-        rules.push(vec![production.clone()]);
-        rules.push(vec![production.clone(), Vec::new()]);
-        rules.push(vec![production, vec![Symbol::Token(1)]]);
-    }
-    each_grammar(run, 3, &rules);
 }
 
 /// Every cut, every overlong number and every fault of one byte in a few grammars, and inputs
@@ -298,7 +214,7 @@ fn drawn_grammars(run: &mut Run) {
         for _ in 0..DRAWN_PER_FAMILY {
             let input = draw(&mut random);
             let answer = run.agree(name, &input);
-            run.drawn.count(answer);
+            run.drawn.count(answer.number);
             if let Ok(grammar) = second_checker::read(&input) {
                 if grammar.encode() != input {
                     report(name, &input);

@@ -4,6 +4,19 @@ use std::fmt;
 
 extern "C" {
     fn allstar_check(grammar: *const u8, length: usize, place: *mut u64) -> u32;
+
+    fn allstar_plain(
+        grammar: *const u8,
+        grammar_length: usize,
+        note: *const u16,
+        note_length: usize,
+        row: *mut u16,
+        row_length: usize,
+        workspace: *mut u32,
+        workspace_length: usize,
+        place: *mut u64,
+        count: *mut u64,
+    ) -> u32;
 }
 
 /// What a check answers: document 01's number, 0 if accepted, and the place.
@@ -27,12 +40,35 @@ impl fmt::Display for Verdict {
     }
 }
 
-/// A place that no check answers: a call that stores none, or only half of one, is seen.
-const NO_PLACE: u64 = u64::MAX;
+/// What a reading answers: document 01's number, 0 if accepted, the place, and the count of entries.
+#[derive(Clone, Copy, Debug, PartialEq, Eq)]
+pub struct Answer {
+    pub number: u32,
+    pub place: u64,
+    pub count: u64,
+}
+
+impl fmt::Display for Answer {
+    fn fmt(&self, out: &mut fmt::Formatter) -> fmt::Result {
+        let Answer {
+            number,
+            place,
+            count,
+        } = *self;
+        out.pad(&match (number, place, count) {
+            (0, 0, count) => format!("ok, {count}"),
+            (number, place, 0) => format!("{number} at {place}"),
+            _ => format!("{number} at {place}, {count} entries"),
+        })
+    }
+}
+
+/// A place and a count that no call answers: one that stores none, or only half of one, is seen.
+const NONE: u64 = u64::MAX;
 
 /// Checks a grammar.
 pub fn check(grammar: &[u8]) -> Verdict {
-    check_over(grammar, NO_PLACE)
+    check_over(grammar, NONE)
 }
 
 /// Checks a grammar and has the place stored over `garbage`.
@@ -42,4 +78,32 @@ pub fn check_over(grammar: &[u8], garbage: u64) -> Verdict {
     // dangling one), `place` is valid for a write, and the library keeps neither.
     let number = unsafe { allstar_check(grammar.as_ptr(), grammar.len(), &mut place) };
     Verdict { number, place }
+}
+
+/// Reads a note without a cache and writes its derivation to the row.
+pub fn plain(grammar: &[u8], note: &[u16], row: &mut [u16], workspace: &mut [u32]) -> Answer {
+    let mut place = NONE;
+    let mut count = NONE;
+    // SAFETY: grammar and note are valid for reads and row and working space for reads and writes of
+    // that many elements (an empty slice has a non-null, dangling pointer), `place` and `count` are
+    // valid for a write, no two of them overlap, and the library keeps none.
+    let number = unsafe {
+        allstar_plain(
+            grammar.as_ptr(),
+            grammar.len(),
+            note.as_ptr(),
+            note.len(),
+            row.as_mut_ptr(),
+            row.len(),
+            workspace.as_mut_ptr(),
+            workspace.len(),
+            &mut place,
+            &mut count,
+        )
+    };
+    Answer {
+        number,
+        place,
+        count,
+    }
 }

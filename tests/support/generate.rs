@@ -269,23 +269,29 @@ fn large(random: &mut Random) -> Grammar {
     anything(random, &size)
 }
 
-fn small_sound(random: &mut Random) -> Grammar {
+pub fn small_sound(random: &mut Random) -> Grammar {
     let size = Size::small(random);
     sound(random, &size).grammar
 }
 
-fn large_sound(random: &mut Random) -> Grammar {
+pub fn large_sound(random: &mut Random) -> Grammar {
     let size = Size::large(random);
     sound(random, &size).grammar
 }
 
 /// 253 to 257 places.
-fn full(random: &mut Random) -> Grammar {
+pub fn full(random: &mut Random) -> Grammar {
     let size = Size::any(random);
     let mut grammar = sound(random, &size).grammar;
     let goal = random.between(MOST_PLACES - 2, MOST_PLACES + 2);
-    while grammar.places() < goal {
-        let lacking = goal - grammar.places();
+    fill_up(random, &mut grammar, goal);
+    grammar
+}
+
+/// Adds rows of tokens until there are as many places.
+pub fn fill_up(random: &mut Random, grammar: &mut Grammar, places: usize) {
+    while grammar.places() < places {
+        let lacking = places - grammar.places();
         let token = Symbol::Token(random.between(1, grammar.kinds as usize) as u32);
         let nonterminal = random.below(grammar.rules.len());
         let productions = &mut grammar.rules[nonterminal];
@@ -299,12 +305,11 @@ fn full(random: &mut Random) -> Grammar {
             }
         }
     }
-    grammar
 }
 
 /// As many bytes as a grammar may have, or nearly: one production each, symbols of two bytes, and
 /// 254 to 256 places.
-fn longest(random: &mut Random) -> Grammar {
+pub fn longest(random: &mut Random) -> Grammar {
     let count = random.between(9, 32);
     let mut lengths = vec![0; count];
     let mut lacking = random.between(MOST_PLACES - 1, MOST_PLACES + 1) - count;
@@ -439,7 +444,7 @@ fn cycle_out_of_reach(random: &mut Random) -> Grammar {
 
 /// What can be known of a nonterminal hangs on the one before it in a long chain: whether it derives
 /// a row or the empty row, and so whether the last and first of all is left recursive.
-fn deep_chain(random: &mut Random) -> Grammar {
+pub fn deep_chain(random: &mut Random) -> Grammar {
     let count = random.between(2, 32);
     let mut chain: Vec<usize> = (0..count).collect();
     match random.below(4) {

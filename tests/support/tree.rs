@@ -70,3 +70,9 @@ pub fn from_hex(text: &str) -> Vec<u8> {
         .map(|pair| u8::from_str_radix(pair, 16).unwrap())
         .collect()
 }
+
+/// The other way.
+pub fn to_hex(bytes: &[u8]) -> String {
+    let pairs: Vec<String> = bytes.iter().map(|byte| format!("{byte:02x}")).collect();
+    pairs.join(" ")
+}
