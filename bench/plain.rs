@@ -1,0 +1,192 @@
+//! The time of one plain reading, the grammar check alone beside it.  Compiled with
+//! `rustc -O --edition 2021 -L target/staticlib -l static=allstar_c bench/plain.rs -o target/bench/plain`.
+#![deny(unsafe_code)]
+
+#[allow(dead_code, unsafe_code)]
+#[path = "../tests/support/allstar.rs"]
+mod allstar;
+#[path = "support/grammars.rs"]
+mod grammars;
+#[allow(dead_code)]
+#[path = "../tests/support/notes.rs"]
+mod notes;
+#[allow(dead_code)]
+#[path = "../tests/support/random.rs"]
+mod random;
+#[allow(dead_code)]
+#[path = "../tests/support/second_checker.rs"]
+mod second_checker;
+#[allow(dead_code)]
+#[path = "../tests/support/second_parser.rs"]
+mod second_parser;
+#[path = "support/timing.rs"]
+mod timing;
+#[allow(dead_code)]
+#[path = "../tests/support/tree.rs"]
+mod tree;
+
+use grammars::{chain, nonterminal, ordinary, token};
+use notes::Source;
+use random::Random;
+use second_parser::Judgement;
+use std::collections::BTreeSet;
+use std::hint::black_box;
+use tree::{from_hex, Grammar, Production};
+
+/// Entries of the row: as many as the derivation has, but no more than so many, and so many where
+/// there is none.
+const LONGEST_ROW: usize = 512;
+const ROW_OF_NO_SENTENCE: usize = 16;
+
+fn main() {
+    println!(
+        "{:30} {:>6} {:>6} {:>5}  {:10} {:>12} {:>9}",
+        "reading", "places", "tokens", "row", "answer", "plain ns", "check ns"
+    );
+    for Case {
+        name,
+        grammar,
+        note,
+    } in cases()
+    {
+        let judgement = Judgement::of(&grammar, &note, LONGEST_ROW);
+        let entries = &judgement.derivation.entries;
+        let mut row = match entries.len() {
+            0 => vec![0; ROW_OF_NO_SENTENCE],
+            count => vec![0; count.min(LONGEST_ROW)],
+        };
+        let mut workspace = vec![0; judgement.space];
+        let answer = allstar::plain(&grammar, &note, &mut row, &mut workspace);
+        if answer != judgement.answer(row.len(), workspace.len())
+            || answer.number == 0 && row != *entries
+        {
+            println!("{name}: the parsers disagree");
+            std::process::exit(1);
+        }
+        let [plain, check] = timing::nanoseconds([
+            &mut || {
+                let (grammar, note) = (black_box(&grammar), black_box(&note));
+                black_box(allstar::plain(grammar, note, &mut row, &mut workspace));
+            },
+            &mut || {
+                black_box(allstar::check(black_box(&grammar)));
+            },
+        ]);
+        let places = second_checker::read(&grammar).map_or(0, |grammar| grammar.places());
+        println!(
+            "{name:30} {places:>6} {:>6} {:>5}  {answer:10} {plain:>12.1} {check:>9.1}",
+            note.len(),
+            row.len()
+        );
+    }
+}
+
+struct Case {
+    name: String,
+    grammar: Vec<u8>,
+    note: Vec<u16>,
+}
+
+/// Chosen notes of a file, as their numbers from 1 on.
+fn of_file(name: &str, hex: &str, notes: &str, chosen: &[usize]) -> Vec<Case> {
+    let lines: Vec<&str> = notes.lines().collect();
+    let case = |&number: &usize| Case {
+        name: format!("{name}, note {number}"),
+        grammar: from_hex(hex),
+        note: lines[number - 1]
+            .split(' ')
+            .map(|token| token.parse().unwrap())
+            .collect(),
+    };
+    chosen.iter().map(case).collect()
+}
+
+fn cases() -> Vec<Case> {
+    let mut cases = of_file(
+        "G1",
+        include_str!("cases/g1.hex"),
+        include_str!("cases/g1.notes"),
+        &[1, 2, 4],
+    );
+    cases.extend(of_file(
+        "delivery",
+        include_str!("cases/delivery.hex"),
+        include_str!("cases/delivery.notes"),
+        &[3, 9, 15, 20],
+    ));
+    cases.extend(of_file(
+        "worst",
+        include_str!("cases/worst.hex"),
+        include_str!("cases/worst.notes"),
+        &[2, 4, 5],
+    ));
+    let grammar = ordinary();
+    let mut random = Random::new(1);
+    for tokens in [16, 64, 128] {
+        cases.push(Case {
+            name: "ordinary, full".into(),
+            grammar: grammar.encode(),
+            note: sentence(&grammar, &mut random, tokens),
+        });
+    }
+    for tokens in [16, 64, 128] {
+        cases.push(Case {
+            name: "dense".into(),
+            grammar: dense().encode(),
+            note: vec![1; tokens],
+        });
+    }
+    let mut wrong_at_last = vec![1; 128];
+    wrong_at_last[127] = 2;
+    cases.push(Case {
+        name: "dense, last token wrong".into(),
+        grammar: dense().encode(),
+        note: wrong_at_last,
+    });
+    for tokens in [16, 64, 128] {
+        cases.push(Case {
+            name: "chain up, one a pass".into(),
+            grammar: chain_up().encode(),
+            note: vec![1; tokens],
+        });
+    }
+    cases
+}
+
+/// A sentence of so many tokens, and not of nested brackets alone: of many different tokens.
+fn sentence(grammar: &Grammar, random: &mut Random, tokens: usize) -> Vec<u16> {
+    let source = Source::new(grammar);
+    loop {
+        if let Some(note) = source.sentence(random, tokens) {
+            let different: BTreeSet<u16> = note.iter().copied().collect();
+            if note.len() == tokens && different.len() >= 4 + tokens / 8 {
+                return note;
+            }
+        }
+    }
+}
+
+/// 31 nonterminals and 255 places; every nonterminal derives every row of token 1 in very many ways.
+fn dense() -> Grammar {
+    let mut rules: Vec<Vec<Production>> = Vec::new();
+    for own in 0..31 {
+        let other = |further: usize| nonterminal((own + further) % 31);
+        rules.push(vec![
+            vec![token(1), other(1), other(7)],
+            vec![token(1), other(12)],
+            vec![],
+        ]);
+    }
+    let more = [nonterminal(3), nonterminal(4)];
+    rules[0].push(vec![token(1), more[0], more[1]]);
+    rules[0].push(vec![token(1), more[0]]);
+    Grammar { kinds: 2, rules }
+}
+
+/// The same for rows of up to 128 tokens, and beyond; but each nonterminal consists of the seven
+/// before it.  Whoever goes through them again and again from the last to the first learns all about
+/// one of them in each round.
+fn chain_up() -> Grammar {
+    let order: Vec<usize> = (1..32).chain([0]).collect();
+    chain(&order, vec![vec![], vec![token(1)]])
+}
