@@ -1,14 +1,15 @@
--- Laws of single bits: of `|`, of a power of two; a number that has no bit below 32 and is below 2 ^ 32 is 0.
-use mathlib.Core.Path.{_≡_, refl, sym, _∙_}
+-- Laws of single bits: of `|`, of `&`, of a power of two, of a shift; a number that is not 0 has a bit, the lowest by its trailing zeros.
+use mathlib.Core.Path.{_≡_, refl, sym, _∙_, ap}
 use mathlib.Core.Logic.{_⊎_, inl, inr, ⊎-elim}
-use mathlib.Core.Bool.{Bool, true, false, _||_}
-use Prim.Native.Nat.{ℕ, zero, suc, _+_, _-_, _*_, _/_, _%_, _^_, _≤_, _<_, max}
-use native.Mathlib.Nat.{one-mul, div-self, div-eq-of-lt, pow-suc, lt-of-lt-of-le, mul-mod-left}
+use mathlib.Core.Bool.{Bool, true, false, _||_, _&&_}
+use Prim.Native.Nat.{ℕ, zero, suc, _+_, _-_, _*_, _/_, _%_, _^_, _≤_, _<_, min, max}
+use native.Mathlib.Nat.{one-mul, div-one, div-self, div-eq-of-lt, pow-suc, lt-of-lt-of-le, mul-mod-left}
 use native.Mathlib.Omega.{arith}
 use native.Mathlib.Decide.{decLt}
 use lib.Dec.{eqb}
-use lib.Bits.{bitOr, or-shr, or-step, or-add-and, and-le-r, or-lt}
-use lib.Pow.{pow-pos, pow-lt, pow-mono, pow-add, shl-exact, shl-shr}
+use lib.Bits.{bitOr, bitAnd, or-shr, or-step, and-shr, and-step, or-add-and, and-le-l, and-le-r, or-lt}
+use lib.Count.{trailingZeros, under}
+use lib.Pow.{pow-pos, pow-lt, pow-mono, pow-add, shl-exact, shr-shr, shl-shr}
 use lib.Arith.{digits-mod}
 use borrow.Author.Tests.{eqb-true, eqb-false, eq-eqb, ne-eqb}
 use Rattle.base.specs.Bits.{bit, testBit, setBit}
@@ -107,3 +108,62 @@ set-ge x j = or-ge x (2 ^ j)
 pub set-fits : (x j : ℕ) → x < 2 ^ 32 → j < 32 → setBit x j < 2 ^ 32
 unfolding setBit
 set-fits x j h l = or-lt 32 x (2 ^ j) h (pow-lt l)
+
+pub or-ge-r : (x y : ℕ) → y ≤ bitOr x y
+or-ge-r x y = omega (arith, or-add-and x y, and-le-l x y)
+
+-- what a union holds came from one of its parts
+pub or-pos : (x y : ℕ) → 0 < bitOr x y → (0 < x) ⊎ (0 < y)
+or-pos x y h = ⊎-elim (λ e. inr (omega (arith, or-add-and x y))) (λ n. inl (omega arith)) (same? x 0)
+
+-- ---- members in common
+bit-and : (x y k : ℕ) → bit (bitAnd x y) k ≡ min (bit x k) (bit y k)
+unfolding bit
+bit-and x y k = rw (and-shr, and-step) (digits-mod _ (omega arith))
+
+and-test : (x y : ℕ) → x < 2 → y < 2 → eqb (min x y) 1 ≡ (eqb x 1 && eqb y 1)
+and-test zero zero p q = refl
+and-test zero (suc zero) p q = refl
+and-test (suc zero) zero p q = refl
+and-test (suc zero) (suc zero) p q = refl
+and-test (suc (suc x)) y p q = absurd (omega arith)
+and-test zero (suc (suc y)) p q = absurd (omega arith)
+and-test (suc zero) (suc (suc y)) p q = absurd (omega arith)
+
+pub test-and : (x y k : ℕ) → testBit (bitAnd x y) k ≡ (testBit x k && testBit y k)
+unfolding testBit
+test-and x y k = rw bit-and (and-test (bit x k) (bit y k) (bit-lt x k) (bit-lt y k))
+
+-- ---- shifts
+pub test-shr : (x a k : ℕ) → testBit (x / 2 ^ a) k ≡ testBit x (a + k)
+unfolding testBit bit
+test-shr x a k = ap (λ (y : ℕ). eqb (y % 2) 1) (shr-shr x a k)
+
+test-half : (x k : ℕ) → testBit x (suc k) ≡ testBit (x / 2) k
+test-half x k = let e : 1 + k ≡ suc k = omega arith in rw (← e) (sym (test-shr x 1 k))
+
+test-zero : (x : ℕ) → testBit x 0 ≡ eqb (x % 2) 1
+unfolding testBit bit
+test-zero x = ap (λ (y : ℕ). eqb (y % 2) 1) (div-one x)
+
+-- ---- a number that is not 0 has a member, and the number of its trailing zeros is the lowest
+pub trailing-none : (d x k : ℕ) → k < trailingZeros d x → testBit x k ≡ false
+unfolding trailingZeros
+trailing-none zero x k h = absurd (omega arith)
+trailing-none (suc d) x k h = go (x % 2) refl k h (λ k. trailing-none d (x / 2) k)
+  where
+    go : (r : ℕ) → x % 2 ≡ r → (k : ℕ) → k < under r (trailingZeros d (x / 2))
+        → ((k : ℕ) → k < trailingZeros d (x / 2) → testBit (x / 2) k ≡ false) → testBit x k ≡ false
+    go zero e zero h ih = test-zero x ∙ ap (λ (y : ℕ). eqb y 1) e
+    go zero e (suc k) h ih = test-half x k ∙ ih k (omega arith)
+    go (suc r) e k h ih = absurd (omega arith)
+
+pub trailing-found : (d x : ℕ) → 0 < x → x < 2 ^ d → testBit x (trailingZeros d x) ≡ true
+unfolding trailingZeros
+trailing-found zero x h k = absurd (omega arith)
+trailing-found (suc d) x h k = go (x % 2) refl (λ a b. trailing-found d (x / 2) a b)
+  where
+    go : (r : ℕ) → x % 2 ≡ r → (0 < x / 2 → x / 2 < 2 ^ d → testBit (x / 2) (trailingZeros d (x / 2)) ≡ true)
+        → testBit x (under r (trailingZeros d (x / 2))) ≡ true
+    go zero e ih = test-half x _ ∙ ih (omega arith) (omega arith)
+    go (suc r) e ih = test-zero x ∙ eq-eqb (x % 2) 1 (omega arith)

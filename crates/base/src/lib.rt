@@ -40,3 +40,18 @@ pub fn with(x: u32, k: usize) -> u32
 {
     x | (1u32 << k)
 }
+
+// A number as a word.
+pub fn word(x: usize) -> u32
+    requires { ⌜ x < 4294967296 ⌝ }
+    ensures { λ r. ⌜ r ≡ x ⌝ }
+{
+    x as u32
+}
+
+// A word as a number.
+pub fn number(x: u32) -> usize
+    ensures { λ r. ⌜ r ≡ x ⌝ }
+{
+    x as usize
+}

@@ -157,7 +157,8 @@ depth g ordered w n reads G silent sound P within a b f d p i S x =
 pub reads-note : (g : Grammar) (w : List ℕ) → Reads g w (length w)
 reads-note g w a b f p k i t d o e h c = get-lt w i h
 
-marked-get : (v : List ℕ) (i t : ℕ) → getElem? (v ++ (endMark ∷ [])) i ≡ some t → (i < length v) ⊎ (t ≡ endMark)
+-- what stands in a marked note is a token of the note, or the mark
+pub marked-get : (v : List ℕ) (i t : ℕ) → getElem? (v ++ (endMark ∷ [])) i ≡ some t → (i < length v) ⊎ (t ≡ endMark)
 marked-get [] zero t e = inr (cc)
 marked-get [] (suc i) t e = clash (cc)
 marked-get (x ∷ v) zero t e = inl (omega arith)

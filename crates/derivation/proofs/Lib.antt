@@ -29,3 +29,5 @@ pub mod Demand2Laws
 pub mod StarredReadings
 pub mod Demand2Iff
 pub mod MachineDepth
+pub mod ReadyLaws
+pub mod MarkedCells

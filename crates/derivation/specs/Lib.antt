@@ -11,3 +11,4 @@ pub mod Plain
 pub mod Demand2
 pub mod Cases
 pub mod Visits
+pub mod Ready

@@ -4,3 +4,4 @@ pub mod GrammarLaws
 pub mod CompileLaws
 pub mod OrderedLaws
 pub mod PlaceLaws
+pub mod OwnerLaws

@@ -1,0 +1,94 @@
+-- The loop over the members of a set: from each of them on by one place.
+use mathlib.Core.Path.{_≡_, sym}
+use mathlib.Core.Bool.{Bool, true, false, _||_, _&&_}
+use mathlib.Core.List.{List}
+use Prim.Native.Nat.{ℕ, suc, _+_, _-_, _≤_, _<_}
+use native.Mathlib.Numerals.{add-one}
+use native.Mathlib.Omega.{arith}
+use native.Mathlib.Decide.{decLt}
+use lib.Dec.{T}
+use Rattle.base.specs.Rounds.{anyOf, upFrom}
+use Rattle.base.proofs.Booleans.{false→¬T, same, or-assoc, or-none}
+use Rattle.positions.specs.Positions.{positionCount, emptySet, member, unionOf, NextOf}
+use Rattle.positions.specs.Words.{setAt}
+use Rattle.positions.proofs.SetLaws.{member-empty, member-union}
+use Rattle.chart.specs.Chart.{spot, cellHas}
+use Rattle.chart.specs.Ends.{throughOf}
+use Rattle.chart.specs.Row.{Through}
+use Rattle.chart.proofs.LeadLaws.{through-in, through-out}
+use Rattle.chart.proofs.Spots.{cell-member}
+
+-- the first position, and the others
+pub through-first : (S : ℕ → Bool) (C : ℕ → ℕ → ℕ → Bool) (q j m n : ℕ) → m ≤ n
+    → throughOf S C q j m n ≡ ((S m && C q m j) || throughOf S C q j (suc m) n)
+unfolding throughOf upFrom anyOf
+through-first S C q j m n h = let e : suc n - m ≡ suc (suc n - suc m) = omega arith in rw e
+
+-- nothing is left behind the last position
+pub through-none : (S : ℕ → Bool) (C : ℕ → ℕ → ℕ → Bool) (q j m n : ℕ) → n < m → throughOf S C q j m n ≡ false
+unfolding throughOf upFrom anyOf
+through-none S C q j m n h = let e : suc n - m ≡ 0 = omega arith in rw e
+
+-- two sets that agree from `from` up to n
+pub through-same : (S S′ : ℕ → Bool) (C : ℕ → ℕ → ℕ → Bool) (q j from n : ℕ) → ((m : ℕ) → m ≤ n → S m ≡ S′ m)
+    → throughOf S C q j from n ≡ throughOf S′ C q j from n
+through-same S S′ C q j from n h = same (throughOf S C q j from n) (throughOf S′ C q j from n) to back
+  where
+    to : T (throughOf S C q j from n) → T (throughOf S′ C q j from n)
+    to t = let (m, a, b, x, y) = through-out S C q j from n t in through-in S′ C q j from n m a b (rw (h m b) at x) y
+
+    back : T (throughOf S′ C q j from n) → T (throughOf S C q j from n)
+    back t = let (m, a, b, x, y) = through-out S′ C q j from n t in through-in S C q j from n m a b (rw (h m b) x) y
+
+-- the next member lies behind
+pub next-behind : (s : List ℕ) (m m′ : ℕ) → NextOf s (m + 1) m′ → m < positionCount → m < m′
+next-behind s m m′ x h = go (decLt m′ positionCount)
+  where
+    go : Dec (m′ < positionCount) → m < m′
+    go (yes l) = let a = x .above l in omega arith
+    go (no l) = omega arith
+
+module _ (P : ℕ) (ws : List ℕ) (n : ℕ) (s : List ℕ) (q : ℕ) where
+  abbrev on : ℕ → ℕ → Bool
+  on j m = throughOf (member s) (cellHas P ws) q j m n
+
+  -- r is what the members before m lead to
+  pub Going : ℕ → ℕ → List ℕ → Type 0
+  Going from m r = (j : ℕ) → j < positionCount → (member r j || on j m) ≡ on j from
+
+  pub going-ends : (from m : ℕ) (r : List ℕ) → Going from m r → n < m → Through P ws n s from q r
+  unfolding Going Through
+  going-ends from m r inv h j l = rw (through-none (member s) (cellHas P ws) q j m n h, or-none) at (inv j l)
+
+  module _ (short : n < positionCount) where
+    -- what stands before the next member is none
+    skip : (from m j : ℕ) → NextOf s from m → on j from ≡ on j m
+    skip from m j x = same (on j from) (on j m) to back
+      where
+        to : T (on j from) → T (on j m)
+        to t =
+            let (k, a, b, y, z) = through-out (member s) (cellHas P ws) q j from n t in
+            through-in (member s) (cellHas P ws) q j m n k (least k a y (decLt k m)) b y z
+          where
+            least : (k : ℕ) → from ≤ k → T (member s k) → Dec (k < m) → m ≤ k
+            least k a y (yes l) = absurd (false→¬T (member s k) (x .none k a l) y)
+            least k a y (no l) = omega arith
+
+        back : T (on j m) → T (on j from)
+        back t =
+            let (k, a, b, y, z) = through-out (member s) (cellHas P ws) q j m n t in
+            let l = x .above (omega arith) in
+            through-in (member s) (cellHas P ws) q j from n k (omega arith) b y z
+
+    pub going-begins : (from m : ℕ) {r : List ℕ} → r ≡ emptySet → NextOf s from m → Going from m r
+    unfolding Going
+    going-begins from m e x j l = rw (e, member-empty j) (sym (skip from m j x))
+
+    pub going-on : (from m m′ : ℕ) (r u : List ℕ) {r′ : List ℕ} → Going from m r → m ≤ n → member s m ≡ true → u ≡ setAt ws (spot P q m) → r′ ≡ unionOf r u
+        → NextOf s (m + 1) m′ → Going from m′ r′
+    unfolding Going
+    going-on from m m′ r u {r′} inv h f e d x j l =
+        let a : on j m ≡ (cellHas P ws q m j || on j (suc m)) = rw f at (through-first (member s) (cellHas P ws) q j m n h) in
+        let b : on j (suc m) ≡ on j m′ = skip (suc m) m′ j (rw add-one at x) in
+        let c : member r′ j ≡ (member r j || cellHas P ws q m j) = rw (d, member-union r u j l, cell-member P ws q m j e l) in
+        rw (c, or-assoc, ← b, ← a) (inv j l)

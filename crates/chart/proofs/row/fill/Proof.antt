@@ -1,0 +1,55 @@
+-- `chart::row::fill` meets its contract.
+use mathlib.Core.Path.{_≡_, refl}
+use Prim.Native.Nat.{_+_, _≤_}
+use native.Mathlib.Omega.{arith}
+use lib.ListN.{length}
+use borrow.Author.Needs.{needs}
+use Rattle.chart.specs.Chart.{ChartedFrom}
+use Rattle.chart.proofs.RowLaws.{charted-none, row-next, filled}
+use Rattle.chart.proofs.row.fill.Statement.{statement}
+use Rattle.chart.proofs.row.fill.Tie as tie
+
+abbrev Inv-loop : tie.InvT-loop
+Inv-loop tables note ws₀ places i₀ ws i = (i ≤ length note + 1) × (length ws ≡ length ws₀) × ChartedFrom tables note ws i
+
+abbrev μ-loop : tie.MeasureT-loop
+μ-loop tables note ws₀ places i₀ ws i = i
+
+add-i : tie.Need-add-i Inv-loop μ-loop
+add-i c = search needs
+
+loop-holds : tie.Need-loop-holds Inv-loop μ-loop
+loop-holds c = (omega arith, refl, charted-none _ _ _ _ (omega arith))
+
+sub-i : tie.Need-sub-i Inv-loop μ-loop
+sub-i c = search needs
+
+settle-requires : tie.Need-settle-requires Inv-loop μ-loop
+settle-requires c κs = row-next _ _ _ _ _ _ (c .before .before .before .before .before .before .pre .0) (c .before .before .before .before .before .before .pre .1) (c .before .before .before .before .before .before .pre .2) (c .before .before .loop .inv .1) (omega arith) (c .before .before .loop .inv .0) (c .before .before .loop .inv .2)
+
+loop-less : tie.Need-loop-less Inv-loop μ-loop
+loop-less c = search needs
+
+loop-again : tie.Need-loop-again Inv-loop μ-loop
+loop-again c = search needs
+
+same-length : tie.Need-same-length Inv-loop μ-loop
+same-length c = search needs
+
+returns : tie.Need-returns Inv-loop μ-loop
+returns c = filled _ _ _ _ _ (omega arith) (c .before .loop .inv .2) (c .before .loop .inv .1)
+
+pub fill-spec : {M : Type 1} → statement M
+fill-spec =
+    tie.close
+    (tie.spec
+    Inv-loop
+    μ-loop
+    add-i
+    loop-holds
+    sub-i
+    settle-requires
+    loop-less
+    loop-again
+    same-length
+    returns)

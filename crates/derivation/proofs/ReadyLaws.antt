@@ -1,0 +1,71 @@
+-- What tables that are ready give a reading: every index that it meets is in range, and productions never leave their places.
+use mathlib.Core.Path.{_≡_, sym, ap, _∙_}
+use mathlib.Core.Option.{some}
+use mathlib.Core.List.{List}
+use Prim.Native.Nat.{ℕ, suc, _≤_, _<_}
+use native.Mathlib.Omega.{arith}
+use lib.ListN.{length}
+use Rattle.grammar.specs.declared.Symbol.the-variants.{Token, Nonterminal, End}
+use Rattle.grammar.specs.Limits.{maxPlaces, maxNonterminals}
+use Rattle.grammar.specs.Decode.{Rules, Mark, got, decode}
+use Rattle.grammar.specs.Grammar.{Grammar, facing, first, sizeAll, compile}
+use Rattle.grammar.specs.Tables.{grammarIn, nonterminalsIn}
+use Rattle.grammar.specs.Ordered.{Ordered}
+use Rattle.grammar.proofs.OrderedLaws.{compile-ordered}
+use Rattle.grammar.proofs.OwnerLaws.{compile-first, compile-next, compile-kind}
+use Rattle.grammar.proofs.PlaceLaws.{compile-within}
+use Rattle.reader.proofs.ReadLaws.{decode-limited}
+use Rattle.soundness.specs.declared.judgement.Verdict.{Verdict}
+use Rattle.soundness.specs.declared.judgement.Verdict.the-variants.{Sound}
+use Rattle.soundness.specs.Compiled.{Compiled}
+use Rattle.derivation.specs.Ready.{Ready}
+use Rattle.derivation.proofs.CellLaws.{Kept}
+use Rattle.derivation.proofs.CompiledDepth.{checked-sound}
+
+-- a sound grammar's check leaves tables that are ready
+pub ready : (s : List ℕ) (v : Verdict) (t : List ℕ) (r : Rules) (m : Mark) → Compiled s v t → decode s ≡ got r m → v ≡ Sound → Ready t
+ready s v t r m c e q =
+    record {
+      rules = r;
+      limited = decode-limited s r m e;
+      says = c .says r m e;
+      fits = c .fits r m e;
+      straight = checked-sound s r m e (sym (c .verdict) ∙ q);
+    }
+
+module _ (t : List ℕ) (h : Ready t) where
+  abbrev g : Grammar
+  g = grammarIn t
+
+  -- a fact of compiled rules is one of the tables
+  from-rules : (F : Grammar → Type 0) → F (compile (h .rules)) → F (grammarIn t)
+  from-rules F x = rw (h .says) x
+
+  size-is : grammarIn t .size ≡ sizeAll (h .rules .productions)
+  unfolding compile
+  size-is = ap (λ (g : Grammar). g .size) (h .says)
+
+  pub ready-ordered : Ordered (grammarIn t)
+  ready-ordered = from-rules Ordered (compile-ordered (h .rules) (h .limited))
+
+  pub ready-size : grammarIn t .size ≤ maxPlaces
+  ready-size = omega (arith, size-is, h .limited .small)
+
+  pub ready-first : (a b f : ℕ) → first (grammarIn t) a b ≡ some f → f < grammarIn t .size
+  ready-first a b f e = rw size-is (compile-first (h .rules) (h .limited) a b f (rw (h .says) at e))
+
+  pub ready-next : (p : ℕ) → p < grammarIn t .size → ¬ (facing (grammarIn t) p ≡ End) → suc p < grammarIn t .size
+  ready-next p l n = rw size-is (compile-next (h .rules) (h .limited) p (omega (arith, size-is)) (λ e. n (rw (h .says) e)))
+
+  pub ready-call : (p a : ℕ) → facing (grammarIn t) p ≡ Nonterminal a → p < grammarIn t .size
+  ready-call p a e = rw size-is (compile-within (h .rules) (h .limited) p a (rw (h .says) at e))
+
+  pub ready-kind : (p k : ℕ) → p < grammarIn t .size → facing (grammarIn t) p ≡ Token k → 1 ≤ k
+  ready-kind p k l e = compile-kind (h .rules) (h .limited) p k (omega (arith, size-is)) (rw (h .says) at e)
+
+  pub ready-named : (p a : ℕ) → facing (grammarIn t) p ≡ Nonterminal a → a < maxNonterminals
+  ready-named p a e = omega (arith, h .fits .named p a e, h .fits .few)
+
+  -- derivations from the places of productions never leave them
+  pub ready-kept : Kept (grammarIn t) (λ p. p < grammarIn t .size)
+  ready-kept = record { next = λ p l n. ready-next p l n; starts = ready-first }

@@ -1,0 +1,16 @@
+-- What every reading may rely on in the tables that the check of a sound grammar left.
+use mathlib.Core.Path.{_≡_}
+use mathlib.Core.List.{List}
+use Prim.Native.Nat.{ℕ}
+use Rattle.grammar.specs.Decode.{Rules}
+use Rattle.grammar.specs.Grammar.{compile, Limited}
+use Rattle.grammar.specs.Tables.{grammarIn, Fits}
+use Rattle.soundness.specs.Textbook.{LeftRecursive}
+
+-- tables that say rules within the limits, none of whose nonterminals is left recursive
+pub record Ready (t : List ℕ) : Type 0 where
+  pub rules : Rules
+  pub limited : Limited rules
+  pub says : grammarIn t ≡ compile rules
+  pub fits : Fits t
+  pub straight : (a : ℕ) → ¬ LeftRecursive (compile rules) a

@@ -1,0 +1,187 @@
+-- Laws of sets of positions by value: what the empty set, a set with one member more and a union hold; when two sets meet.
+use mathlib.Core.Path.{_≡_, refl, sym, ap}
+use mathlib.Core.Logic.{_⊎_, inl, inr, ⊎-elim}
+use mathlib.Core.Bool.{false, _||_}
+use mathlib.Core.List.{List, [], _∷_}
+use Prim.Native.Nat.{ℕ, zero, suc, _+_, _*_, _/_, _%_, _^_, _≤_, _<_}
+use native.Mathlib.Omega.{arith}
+use native.Mathlib.Decide.{decLt}
+use lib.ListN.{length, getD, set, length-set}
+use lib.Seq.{getD-set-same, getD-set-other}
+use lib.Bits.{bitOr, and-le-l, or-lt}
+use lib.Count.{trailingZeros}
+use lib.Dec.{T, eqb}
+use borrow.Author.Tests.{ne-eqb, eqb-false, not-true}
+use Rattle.base.specs.Bits.{testBit}
+use Rattle.base.proofs.Bits.{same?, eqb-iff, test-or, test-and, test-set, test-none, test-high, or-ge, or-ge-r, or-pos, set-fits, trailing-found}
+use Rattle.base.proofs.Booleans.{T→true, true→T, and-T, T-and, or-none}
+use Rattle.positions.specs.Positions.{positionCount, setWords, emptySet, member, withOf, unionOf, meetsOf, allWords, common}
+
+-- every word of s has 32 bits
+abbrev pub Fit : List ℕ → Type 0
+Fit s = (k : ℕ) → getD s k 0 < 2 ^ 32
+
+-- ---- the empty set
+empty-word : (i : ℕ) → getD emptySet i 0 ≡ 0
+empty-word zero = refl
+empty-word (suc zero) = refl
+empty-word (suc (suc zero)) = refl
+empty-word (suc (suc (suc zero))) = refl
+empty-word (suc (suc (suc (suc zero)))) = refl
+empty-word (suc (suc (suc (suc (suc i))))) = refl
+
+pub member-empty : (j : ℕ) → member emptySet j ≡ false
+unfolding member
+member-empty j = rw (empty-word (j / 32)) (test-none _)
+
+-- ---- one member more
+pub length-with : (s : List ℕ) (k : ℕ) → length (withOf s k) ≡ length s
+unfolding withOf
+length-with s k = length-set s _ _
+
+pub member-with : (s : List ℕ) (k j : ℕ) → k < length s * 32 → member (withOf s k) j ≡ (member s j || eqb j k)
+unfolding member withOf
+member-with s k j h = ⊎-elim here there (same? (j / 32) (k / 32))
+  where
+    there : (j / 32 ≡ k / 32 → ⊥) → member (withOf s k) j ≡ (member s j || eqb j k)
+    there ne = rw (getD-set-other s (k / 32) (j / 32) _ 0 ne, ne-eqb j k (λ e. ne (ap (λ (x : ℕ). x / 32) e))) (sym (or-none _))
+
+    here : j / 32 ≡ k / 32 → member (withOf s k) j ≡ (member s j || eqb j k)
+    here e = rw (e, getD-set-same s (k / 32) _ 0 (omega arith), test-set, eqb-iff (j % 32) (k % 32) j k (λ f. omega arith) (λ f. omega arith))
+
+-- ---- unions
+pub length-union : (a b : List ℕ) → length (unionOf a b) ≡ 5
+unfolding unionOf
+length-union a b = refl
+
+union-word : (a b : List ℕ) (i : ℕ) → i < setWords → getD (unionOf a b) i 0 ≡ bitOr (getD a i 0) (getD b i 0)
+unfolding unionOf
+union-word a b zero h = refl
+union-word a b (suc zero) h = refl
+union-word a b (suc (suc zero)) h = refl
+union-word a b (suc (suc (suc zero))) h = refl
+union-word a b (suc (suc (suc (suc zero)))) h = refl
+union-word a b (suc (suc (suc (suc (suc i))))) h = absurd (omega arith)
+
+pub member-union : (a b : List ℕ) (j : ℕ) → j < positionCount → member (unionOf a b) j ≡ (member a j || member b j)
+unfolding member
+member-union a b j h = rw (union-word a b (j / 32) (omega arith)) (test-or _ _ _)
+
+-- ---- meeting
+-- bit k of word i is position i * 32 + k
+at-word : (s : List ℕ) (i k : ℕ) → k < 32 → T (testBit (getD s i 0) k) → T (member s (i * 32 + k))
+unfolding member
+at-word s i k h t =
+    let d : (i * 32 + k) / 32 ≡ i = omega arith in
+    let m : (i * 32 + k) % 32 ≡ k = omega arith in
+    rw (d, m) t
+
+-- the bits of all five words, and the words
+module _ (word : ℕ → ℕ) where
+  abbrev two : ℕ
+  two = bitOr (word 0) (word 1)
+
+  abbrev three : ℕ
+  three = bitOr two (word 2)
+
+  abbrev four : ℕ
+  four = bitOr three (word 3)
+
+  pub word-le : (i : ℕ) → i < setWords → word i ≤ allWords word
+  word-le i l = go i l
+    where
+      last : four ≤ allWords word
+      last = or-ge four (word 4)
+
+      third : three ≤ allWords word
+      third = omega (arith, or-ge three (word 3), last)
+
+      second : two ≤ allWords word
+      second = omega (arith, or-ge two (word 2), third)
+
+      go : (i : ℕ) → i < setWords → word i ≤ allWords word
+      go zero l = omega (arith, or-ge (word 0) (word 1), second)
+      go (suc zero) l = omega (arith, or-ge-r (word 0) (word 1), second)
+      go (suc (suc zero)) l = omega (arith, or-ge-r two (word 2), third)
+      go (suc (suc (suc zero))) l = omega (arith, or-ge-r three (word 3), last)
+      go (suc (suc (suc (suc zero)))) l = or-ge-r four (word 4)
+      go (suc (suc (suc (suc (suc i))))) l = absurd (omega arith)
+
+  -- some word is not 0
+  abbrev Held : Type 0
+  Held = (i : ℕ) × (i < setWords) × (0 < word i)
+
+  word-held : 0 < allWords word → Held
+  word-held h = go (or-pos four (word 4) h)
+    where
+      first : (0 < word 0) ⊎ (0 < word 1) → Held
+      first (inl h) = (0, omega arith, h)
+      first (inr h) = (1, omega arith, h)
+
+      second : (0 < two) ⊎ (0 < word 2) → Held
+      second (inl h) = first (or-pos (word 0) (word 1) h)
+      second (inr h) = (2, omega arith, h)
+
+      third : (0 < three) ⊎ (0 < word 3) → Held
+      third (inl h) = second (or-pos two (word 2) h)
+      third (inr h) = (3, omega arith, h)
+
+      go : (0 < four) ⊎ (0 < word 4) → Held
+      go (inl h) = third (or-pos three (word 3) h)
+      go (inr h) = (4, omega arith, h)
+
+module _ (a b : List ℕ) where
+  abbrev Met : Type 0
+  Met = (j : ℕ) × (j < positionCount) × T (member a j) × T (member b j)
+
+  -- a word that is not 0 has its lowest bit
+  met : Fit a → Held (common a b) → Met
+  met w (i, l, h) =
+      let x = common a b i in
+      let k = trailingZeros 32 x in
+      let f : x < 2 ^ 32 = omega (arith, w i, and-le-l (getD a i 0) (getD b i 0)) in
+      let t : T (testBit x k) = true→T _ (trailing-found 32 x h f) in
+      let u : T (testBit (getD a i 0) k) × T (testBit (getD b i 0) k) = and-T (testBit (getD a i 0) k) (testBit (getD b i 0) k) (rw test-and at t) in
+      low (decLt k 32) u
+    where
+      low : {k : ℕ} → Dec (k < 32) → T (testBit (getD a i 0) k) × T (testBit (getD b i 0) k) → Met
+      low {k} (yes m) u = (i * 32 + k, omega arith, at-word a i k m (u .0), at-word b i k m (u .1))
+      low {k} (no m) u = absurd (rw (test-high (getD a i 0) k (w i) (omega arith)) at (u .0))
+
+  -- sets that meet share a member; the words must have 32 bits, for a higher bit is no position
+  pub meets-out : Fit a → T (meetsOf a b) → (j : ℕ) × (j < positionCount) × T (member a j) × T (member b j)
+  unfolding meetsOf
+  meets-out w t = met w (word-held (common a b) (⊎-elim (λ z. absurd (eqb-false _ 0 (not-true _ (T→true _ t)) z)) (λ n. omega arith) (same? (allWords (common a b)) 0)))
+
+  pub meets-in : (j : ℕ) → j < positionCount → T (member a j) → T (member b j) → T (meetsOf a b)
+  unfolding member meetsOf
+  meets-in j l s t =
+      let i = j / 32 in
+      let k = j % 32 in
+      let u : T (testBit (common a b i) k) = rw test-and (T-and (member a j) (member b j) s t) in
+      let n : common a b i ≡ 0 → ⊥ = λ z. absurd (rw (z, test-none k) at u) in
+      rw (ne-eqb (allWords (common a b)) 0 (λ z. n (omega (arith, word-le (common a b) i (omega arith))))) tt
+
+-- ---- the words of sets have 32 bits
+pub fit-empty : Fit emptySet
+fit-empty k = omega (arith, empty-word k)
+
+pub fit-store : (s : List ℕ) (i v : ℕ) → v < 2 ^ 32 → Fit s → Fit (set s i v)
+fit-store [] i v l h k = h k
+fit-store (x ∷ s) zero v l h zero = l
+fit-store (x ∷ s) zero v l h (suc k) = h (suc k)
+fit-store (x ∷ s) (suc i) v l h zero = h 0
+fit-store (x ∷ s) (suc i) v l h (suc k) = fit-store s i v l (λ k. h (suc k)) k
+
+pub fit-with : (s : List ℕ) (j : ℕ) → Fit s → Fit (withOf s j)
+unfolding withOf
+fit-with s j h = fit-store s (j / 32) _ (set-fits _ _ (h (j / 32)) (omega arith)) h
+
+pub fit-union : (a b : List ℕ) → Fit a → Fit b → Fit (unionOf a b)
+unfolding unionOf
+fit-union a b f g zero = or-lt 32 _ _ (f 0) (g 0)
+fit-union a b f g (suc zero) = or-lt 32 _ _ (f 1) (g 1)
+fit-union a b f g (suc (suc zero)) = or-lt 32 _ _ (f 2) (g 2)
+fit-union a b f g (suc (suc (suc zero))) = or-lt 32 _ _ (f 3) (g 3)
+fit-union a b f g (suc (suc (suc (suc zero)))) = or-lt 32 _ _ (f 4) (g 4)
+fit-union a b f g (suc (suc (suc (suc (suc k))))) = omega arith

@@ -1,0 +1,43 @@
+-- `positions::join` meets its contract.
+use native.Mathlib.Omega.{arith}
+use Rattle.positions.proofs.JoinLaws.{join-same, join-grown}
+use borrow.Author.Needs.{needs}
+use Rattle.positions.proofs.join.Statement.{statement}
+use Rattle.positions.proofs.join.Tie as tie
+
+read-requires : tie.Need-read-requires
+read-requires c κs = search needs
+
+union-requires : tie.Need-union-requires
+union-requires c κs = search needs
+
+same-requires : tie.Need-same-requires
+same-requires c κs = search needs
+
+same-length : tie.Need-same-length
+same-length c = search needs
+
+returns : tie.Need-returns
+returns c = join-same _ _ _ (c .before .before .before .read .ensures) (c .before .before .union .ensures) (c .before .same .ensures) (c .if1 .taken)
+
+put-requires : tie.Need-put-requires
+put-requires c κs = search needs
+
+same-length-2 : tie.Need-same-length-2
+same-length-2 c = search needs
+
+returns-2 : tie.Need-returns-2
+returns-2 c = let b = c .before .before .before .before .before in join-grown _ _ _ (b .before .before .read .ensures) (b .before .union .ensures) (b .same .ensures) (c .before .before .before .before .if1 .left) (omega arith) (c .before .before .put .ensures)
+
+pub join-spec : {M : Type 1} → statement M
+join-spec =
+    tie.close
+    (tie.spec
+    read-requires
+    union-requires
+    same-requires
+    same-length
+    returns
+    put-requires
+    same-length-2
+    returns-2)

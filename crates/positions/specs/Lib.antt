@@ -1,0 +1,3 @@
+-- Sets of positions of a note.
+pub mod Positions
+pub mod Words

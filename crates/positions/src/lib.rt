@@ -1,0 +1,151 @@
+// Sets of positions of a note, 0 to 159, as the bits of five words: by value, and in lent words. No proof above this crate sees a bit of them.
+ghost use mathlib.Core.Path.{_≡_};
+ghost use Prim.Native.Nat.{_+_, _≤_, _<_};
+ghost use lib.ListN.{length};
+ghost use Rattle.positions.specs.Positions.{positionCount, setWords, emptySet, member, withOf, unionOf, meetsOf, sameOf, FromBit, NextOf};
+ghost use Rattle.positions.specs.Words.{setAt, putAt, Joined};
+
+// Positions that a set can hold: no note has more.
+pub const COUNT: usize = 160;
+
+// Words of a set.
+pub const WORDS: usize = 5;
+
+pub struct Positions {
+    pub words: [u32; 5],
+}
+
+impl Positions {
+    pub fn empty() -> Self
+        ensures { λ r. ⌜ r .words ≡ emptySet ⌝ }
+    {
+        Positions { words: [0; 5] }
+    }
+
+    // Whether j is a member.
+    pub fn has(self, j: usize) -> bool
+        requires { ⌜ j < positionCount ⌝ }
+        ensures { λ r. ⌜ r ≡ member (self .words) j ⌝ }
+    {
+        let i = j / 32;
+        base::has(self.words[i], j % 32)
+    }
+
+    // The set with the member j.
+    pub fn with(self, j: usize) -> Self
+        requires { ⌜ j < positionCount ⌝ }
+        ensures { λ r. ⌜ r .words ≡ withOf (self .words) j ⌝ }
+    {
+        let mut s = self;
+        let i = j / 32;
+        s.words[i] = base::with(s.words[i], j % 32);
+        s
+    }
+
+    // What is in one of the two sets or in both.
+    pub fn union(self, o: Positions) -> Self
+        ensures { λ r. ⌜ r .words ≡ unionOf (self .words) (o .words) ⌝ }
+    {
+        Positions {
+            words: [
+                self.words[0] | o.words[0],
+                self.words[1] | o.words[1],
+                self.words[2] | o.words[2],
+                self.words[3] | o.words[3],
+                self.words[4] | o.words[4],
+            ],
+        }
+    }
+
+    // Whether the two sets share a member.
+    pub fn meets(self, o: Positions) -> bool
+        ensures { λ r. ⌜ r ≡ meetsOf (self .words) (o .words) ⌝ }
+    {
+        (self.words[0] & o.words[0])
+            | (self.words[1] & o.words[1])
+            | (self.words[2] & o.words[2])
+            | (self.words[3] & o.words[3])
+            | (self.words[4] & o.words[4])
+            != 0
+    }
+}
+
+// Whether the two sets have the same words.
+fn same(a: Positions, b: Positions) -> bool
+    ensures { λ r. ⌜ r ≡ sameOf (a .words) (b .words) ⌝ }
+{
+    (a.words[0] ^ b.words[0])
+        | (a.words[1] ^ b.words[1])
+        | (a.words[2] ^ b.words[2])
+        | (a.words[3] ^ b.words[3])
+        | (a.words[4] ^ b.words[4])
+        == 0
+}
+
+// The lowest bit of x from k on; 32 if there is none.
+fn from_bit(x: u32, k: usize) -> usize
+    requires { ⌜ k < 32 ⌝ }
+    ensures { λ r. ⌜ FromBit x k r ⌝ }
+{
+    let y = x >> k;
+    if y == 0 {
+        return 32;
+    }
+    k + base::number(u32::trailing_zeros(y))
+}
+
+// The least member of s from `from` on; COUNT if there is none.
+pub fn next(s: Positions, from: usize) -> usize
+    ensures { λ r. ⌜ NextOf (s .words) from r ⌝ }
+{
+    if COUNT <= from {
+        return COUNT;
+    }
+    let mut w = from / 32;
+    let mut k = from % 32;
+    while w < WORDS {
+        let r = from_bit(s.words[w], k);
+        if r < 32 {
+            return w * 32 + r;
+        }
+        k = 0;
+        w += 1;
+    }
+    COUNT
+}
+
+// The set that stands at `at`.
+pub fn read(ws: &[u32], at: usize) -> Positions
+    requires { ⌜ at + setWords ≤ length (now ws) ⌝ }
+    ensures { λ r. ⌜ r .words ≡ setAt (now (ws .entry)) at ⌝ }
+{
+    Positions {
+        words: [ws[at], ws[at + 1], ws[at + 2], ws[at + 3], ws[at + 4]],
+    }
+}
+
+// The set s, put at `at`.
+pub fn put(ws: &mut [u32], at: usize, s: Positions)
+    requires { ⌜ at + setWords ≤ length (now ws) ⌝ }
+    ensures { λ _. ⌜ now (ws .exit) ≡ putAt (now (ws .entry)) at (s .words) ⌝ }
+{
+    ws[at] = s.words[0];
+    ws[at + 1] = s.words[1];
+    ws[at + 2] = s.words[2];
+    ws[at + 3] = s.words[3];
+    ws[at + 4] = s.words[4];
+}
+
+// The members of s join the set that stands at `at`. Whether anything changed.
+pub fn join(ws: &mut [u32], at: usize, s: Positions) -> bool
+    requires { ⌜ at + setWords ≤ length (now ws) ⌝ }
+    ensures { λ r. ⌜ Joined r (now (ws .entry)) (now (ws .exit)) at (s .words) ⌝ }
+{
+    let old = read(ws, at);
+    let new = old.union(s);
+    if same(new, old) {
+        return false;
+    }
+    put(ws, at, new);
+    true
+}

@@ -1,0 +1,125 @@
+-- Passes at one position, as their loops meet them.
+use mathlib.Core.Path.{_≡_, refl, sym, ap, subst, _∙_}
+use mathlib.Core.Logic.{⊎-elim}
+use mathlib.Core.Bool.{Bool, true, false, true≢false, false≢true}
+use mathlib.Core.List.{List}
+use Prim.Native.Nat.{ℕ, _+_, _*_, _≤_, _<_}
+use native.Mathlib.Omega.{arith}
+use native.Mathlib.Decide.{decLt}
+use lib.Dec.{T}
+use lib.ListN.{length}
+use Rattle.base.proofs.Booleans.{true→T, false→¬T}
+use Rattle.grammar.specs.Grammar.{Grammar}
+use Rattle.grammar.specs.Tables.{grammarIn}
+use Rattle.positions.specs.Positions.{positionCount, setWords, member}
+use Rattle.positions.specs.Words.{setAt, total}
+use Rattle.positions.proofs.WordLaws.{member-set}
+use Rattle.derivation.specs.Ready.{Ready}
+use Rattle.derivation.proofs.ReadyLaws.{ready-size}
+use Rattle.reach.specs.Sets.{Inside, stands, Added}
+use Rattle.reach.specs.Passes.{Leads, Closed, Grown, Passed, Settled}
+use Rattle.reach.proofs.StepLaws.{leads-le, leads-in, leads-reach, leads-place}
+
+-- ---- a set that is read
+pub read-stands : (ws : List ℕ) (p j : ℕ) {s : List ℕ} {b : Bool} → j < positionCount → s ≡ setAt ws (setWords * p) → b ≡ member s j → b ≡ stands ws p j
+unfolding stands
+read-stands ws p j l e d = d ∙ ap (λ (s : List ℕ). member s j) e ∙ member-set ws (setWords * p) j l
+
+-- ---- sets that have grown
+module _ (g : Grammar) (w : List ℕ) (i : ℕ) where
+  pub grown-none : (ws : List ℕ) → Grown g w i ws ws
+  grown-none ws = record { kept = λ p j o u. u; early = λ p j o l u. u; sound = λ h. h }
+
+  pub grown-both : {a b c : List ℕ} → Grown g w i a b → Grown g w i b c → Grown g w i a c
+  grown-both h k =
+      record {
+        kept = λ p j o u. k .kept p j o (h .kept p j o u);
+        early = λ p j o l u. h .early p j o l (k .early p j o l u);
+        sound = λ x. k .sound (h .sound x);
+      }
+
+  -- by one step from a point that the sets hold
+  pub step-grown : (p : ℕ) {r : Bool} {ws after : List ℕ} → Inside p i → T (stands ws p i) → Added (Leads g w p i) r ws after → Grown g w i ws after
+  step-grown p o s h =
+      record {
+        kept = h .kept;
+        early = λ q j x l u. ⊎-elim (λ v. v) (λ v. let k = leads-le v in absurd (omega arith)) (h .only q j x u);
+        sound = λ good q j x u. ⊎-elim (λ v. good q j x v) (λ v. leads-reach (good p i o s) v) (h .only q j x u);
+      }
+
+-- ---- the points of a step are points that the sets can hold
+pub leads-inside : (t w : List ℕ) → Ready t → length w < positionCount → {p i q j : ℕ} → p < grammarIn t .size → i ≤ length w
+    → Leads (grammarIn t) w p i q j → Inside q j
+leads-inside t w ready short l m x = let a = leads-place t w ready l x in let b = leads-in m x in (omega (arith, ready-size t ready), omega arith)
+
+-- ---- the loop of a pass
+pub pass-begin : (g : Grammar) (w : List ℕ) (i : ℕ) (ws : List ℕ) → Passed g w 0 i false ws ws
+pass-begin g w i ws =
+    record {
+      sets = grown-none g w i ws;
+      same = λ _. refl;
+      grown = λ e. absurd (false≢true e);
+      closed = λ _ p q j l s x. absurd (omega arith);
+    }
+
+passed-rises : {g : Grammar} {w : List ℕ} {m i : ℕ} {r : Bool} {ws after : List ℕ} → Passed g w m i r ws after → total ws ≤ total after
+passed-rises {r = r} {ws = ws} {after = after} h = go r refl
+  where
+    go : (t : Bool) → r ≡ t → total ws ≤ total after
+    go true e = omega (arith, h .grown e)
+    go false e = omega (arith, ap total (h .same e))
+
+-- closed also at place p
+closed-more : (g : Grammar) (w : List ℕ) (p i : ℕ) (ws : List ℕ) → Closed g w p i ws → ((q j : ℕ) → T (stands ws p i) → Leads g w p i q j → T (stands ws q j))
+    → Closed g w (p + 1) i ws
+closed-more g w p i ws h k p′ q j l s x = go (decLt p′ p)
+  where
+    go : Dec (p′ < p) → T (stands ws q j)
+    go (yes m) = h p′ q j m s x
+    go (no m) = let z : p′ ≡ p = omega arith in k q j (rw z at s) (rw z at x)
+
+module _ (t w : List ℕ) (p i : ℕ) {r : Bool} {ws₀ ws : List ℕ} (ready : Ready t) (short : length w < positionCount) (l : p < grammarIn t .size) (m : i ≤ length w)
+    (h : Passed (grammarIn t) w p i r ws₀ ws) {b : Bool} (q : b ≡ stands ws p i) where
+  -- nobody stands at place p
+  pub pass-out : b ≡ false → Passed (grammarIn t) w (p + 1) i r ws₀ ws
+  pass-out e =
+      record {
+        sets = h .sets;
+        same = h .same;
+        grown = h .grown;
+        closed = λ z. closed-more (grammarIn t) w p i ws (h .closed z) (λ q′ j s x. absurd (false→¬T (stands ws p i) (sym q ∙ e) s));
+      }
+
+  module _ (e : b ≡ true) {u : Bool} {after : List ℕ} (x : Added (Leads (grammarIn t) w p i) u ws after) where
+    further : Grown (grammarIn t) w i ws₀ after
+    further =
+        grown-both (grammarIn t) w i (h .sets)
+        (step-grown (grammarIn t) w i p (omega (arith, ready-size t ready), omega arith) (true→T (stands ws p i) (sym q ∙ e)) x)
+
+    pub pass-new : u ≡ true → Passed (grammarIn t) w (p + 1) i true ws₀ after
+    pass-new d =
+        record {
+          sets = further;
+          same = λ z. absurd (true≢false z);
+          grown = λ _. omega (arith, x .grown d, passed-rises h);
+          closed = λ z. absurd (true≢false z);
+        }
+
+    pub pass-old : u ≡ false → Passed (grammarIn t) w (p + 1) i r ws₀ after
+    pass-old d =
+        record {
+          sets = further;
+          same = λ z. x .same d ∙ h .same z;
+          grown = λ z. omega (arith, h .grown z, ap total (x .same d));
+          closed =
+              λ z. closed-more (grammarIn t) w p i after (subst (λ (v : List ℕ). Closed (grammarIn t) w p i v) (sym (x .same d)) (h .closed z))
+              (λ q′ j s y. x .held q′ j (leads-inside t w ready short l m y) y);
+        }
+
+pub pass-end : (g : Grammar) (w : List ℕ) (p m i : ℕ) {r : Bool} {ws after : List ℕ} → p ≡ m → Passed g w p i r ws after → Passed g w m i r ws after
+pass-end g w p m i e h = rw e at h
+
+-- ---- passes
+pub settle-end : {g : Grammar} {w : List ℕ} {m i : ℕ} {r : Bool} {ws₀ ws after : List ℕ} → Grown g w i ws₀ ws → Passed g w m i r ws after → r ≡ false
+    → Settled g w m i ws₀ after
+settle-end {g} {w} {m} {i} h k e = record { sets = grown-both g w i h (k .sets); closed = k .closed e }

@@ -1,0 +1,80 @@
+-- `reach::pass` meets its contract.
+use native.Mathlib.Omega.{arith}
+use Rattle.derivation.proofs.ReadyLaws.{ready-size}
+use mathlib.Core.Path.{_≡_, refl}
+use Prim.Native.Nat.{_≤_, _-_}
+use lib.ListN.{length}
+use Rattle.grammar.specs.Tables.{grammarIn}
+use Rattle.reach.specs.Passes.{Passed}
+use Rattle.reach.proofs.PassLaws.{read-stands, pass-begin, pass-out, pass-new, pass-old, pass-end}
+use Rattle.reach.proofs.pass.Statement.{statement}
+use Rattle.reach.proofs.pass.Tie as tie
+
+abbrev Inv-loop : tie.InvT-loop
+Inv-loop tables note ws sets₀ places i grown₀ p₀ sets grown p = (p ≤ places) × (length sets ≡ length sets₀) × Passed (grammarIn tables) note p i grown sets₀ sets
+
+abbrev μ-loop : tie.MeasureT-loop
+μ-loop tables note ws sets₀ places i grown₀ p₀ sets grown p = places - p
+
+loop-holds : tie.Need-loop-holds Inv-loop μ-loop
+loop-holds c = (omega arith, refl, pass-begin _ _ _ _)
+
+mul-read : tie.Need-mul-read Inv-loop μ-loop
+mul-read c = omega (arith, ready-size _ (c .before .before .before .before .before .before .before .pre .0 .0), c .before .before .before .before .before .before .before .pre .0 .1)
+
+read-requires : tie.Need-read-requires Inv-loop μ-loop
+read-requires c κs = omega (arith, ready-size _ (c .before .before .before .before .before .before .before .pre .0 .0), c .before .before .before .before .before .before .before .pre .0 .1)
+
+add-p : tie.Need-add-p Inv-loop μ-loop
+add-p c = omega arith
+
+has-requires : tie.Need-has-requires Inv-loop μ-loop
+has-requires c κs = omega (arith, c .before .before .before .before .before .before .before .before .pre .0 .2 .short)
+
+step-requires : tie.Need-step-requires Inv-loop μ-loop
+step-requires c κs = (c .before .before .before .before .before .before .before .before .before .before .before .pre .0, omega arith, c .before .before .before .before .before .before .before .before .before .before .before .pre .1, omega arith)
+
+loop-less : tie.Need-loop-less Inv-loop μ-loop
+loop-less c = omega arith
+
+loop-again : tie.Need-loop-again Inv-loop μ-loop
+loop-again c = (omega arith, omega (arith, c .before .before .before .step .kept .1 .1 .1 .0), pass-new _ _ _ _ (c .before .before .before .before .before .before .before .before .before .before .before .before .before .before .before .pre .0 .0) (omega (arith, c .before .before .before .before .before .before .before .before .before .before .before .before .before .before .before .pre .0 .2 .short)) (omega (arith, c .before .before .before .before .before .before .before .before .before .before .before .before .before .before .before .pre .0 .1)) (c .before .before .before .before .before .before .before .before .before .before .before .before .before .before .before .pre .1) (c .before .before .before .before .before .before .before .before .before .before .loop .inv .2) (read-stands _ _ _ (omega (arith, c .before .before .before .before .before .before .before .before .before .before .before .before .before .before .before .pre .0 .2 .short)) (c .before .before .before .before .before .before .before .read .ensures) (c .before .before .before .before .before .before .has .ensures)) (c .before .before .before .before .before .if1 .taken) (c .before .before .before .step .ensures) (c .if2 .taken))
+
+loop-less-2 : tie.Need-loop-less-2 Inv-loop μ-loop
+loop-less-2 c = omega arith
+
+loop-again-2 : tie.Need-loop-again-2 Inv-loop μ-loop
+loop-again-2 c = (omega arith, omega (arith, c .before .before .before .step .kept .1 .1 .1 .0), pass-old _ _ _ _ (c .before .before .before .before .before .before .before .before .before .before .before .before .before .before .before .pre .0 .0) (omega (arith, c .before .before .before .before .before .before .before .before .before .before .before .before .before .before .before .pre .0 .2 .short)) (omega (arith, c .before .before .before .before .before .before .before .before .before .before .before .before .before .before .before .pre .0 .1)) (c .before .before .before .before .before .before .before .before .before .before .before .before .before .before .before .pre .1) (c .before .before .before .before .before .before .before .before .before .before .loop .inv .2) (read-stands _ _ _ (omega (arith, c .before .before .before .before .before .before .before .before .before .before .before .before .before .before .before .pre .0 .2 .short)) (c .before .before .before .before .before .before .before .read .ensures) (c .before .before .before .before .before .before .has .ensures)) (c .before .before .before .before .before .if1 .taken) (c .before .before .before .step .ensures) (c .if2 .left))
+
+loop-less-3 : tie.Need-loop-less-3 Inv-loop μ-loop
+loop-less-3 c = omega arith
+
+loop-again-3 : tie.Need-loop-again-3 Inv-loop μ-loop
+loop-again-3 c = (omega arith, omega arith, pass-out _ _ _ _ (c .before .before .before .before .before .before .before .before .before .before .pre .0 .0) (omega (arith, c .before .before .before .before .before .before .before .before .before .before .pre .0 .2 .short)) (omega (arith, c .before .before .before .before .before .before .before .before .before .before .pre .0 .1)) (c .before .before .before .before .before .before .before .before .before .before .pre .1) (c .before .before .before .before .before .loop .inv .2) (read-stands _ _ _ (omega (arith, c .before .before .before .before .before .before .before .before .before .before .pre .0 .2 .short)) (c .before .before .read .ensures) (c .before .has .ensures)) (c .if1 .left))
+
+same-length : tie.Need-same-length Inv-loop μ-loop
+same-length c = omega arith
+
+returns : tie.Need-returns Inv-loop μ-loop
+returns c = pass-end _ _ _ _ _ (omega arith) (c .before .loop .inv .2)
+
+pub pass-spec : {M : Type 1} → statement M
+pass-spec =
+    tie.close
+    (tie.spec
+    Inv-loop
+    μ-loop
+    loop-holds
+    mul-read
+    read-requires
+    add-p
+    has-requires
+    step-requires
+    loop-less
+    loop-again
+    loop-less-2
+    loop-again-2
+    loop-less-3
+    loop-again-3
+    same-length
+    returns)

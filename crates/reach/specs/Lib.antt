@@ -1,0 +1,3 @@
+-- The sets of positions of the place of refusal 10.
+pub mod Sets
+pub mod Passes

@@ -1,0 +1,160 @@
+// The place of refusal 10: how far into the note some sentence allows the tokens read. For each place of the grammar the set of positions at which a
+// reader of the note can stand there, five words each, from the note's beginning on; the last position at which anything stands is the place.
+use grammar::Symbol;
+use positions::Positions;
+ghost use mathlib.Core.Path.{_≡_};
+ghost use Prim.Native.Nat.{_≤_, _<_};
+ghost use lib.ListN.{length};
+ghost use Rattle.grammar.specs.Limits.{maxPlaces};
+ghost use Rattle.grammar.specs.Tables.{grammarIn, nonterminalsIn};
+ghost use Rattle.positions.specs.Positions.{positionCount, member};
+ghost use Rattle.derivation.specs.Ready.{Ready};
+ghost use Rattle.derivation.specs.ReachRounds.{highestTo, wrongPlace};
+ghost use Rattle.reach.specs.Sets.{setsWords, Added, PointOf, Anywhere};
+ghost use Rattle.reach.specs.Passes.{Given, Opening, Leads, Passed, Settled};
+
+// Words of the sets of 255 places.
+pub const SETS: usize = 1275;
+
+// A reader can stand at place q at position j. Whether that is new.
+fn mark(sets: &mut [u32], q: usize, j: usize) -> bool
+    requires { ⌜ (q < maxPlaces) × (j < positionCount) × (length (now sets) ≡ setsWords) ⌝ }
+    ensures { λ r. ⌜ Added (PointOf q j) r (now (sets .entry)) (now (sets .exit)) ⌝ }
+{
+    let s = Positions::empty().with(j);
+    positions::join(sets, positions::WORDS * q, s)
+}
+
+// It can stand at the first place of every production of a at position i. Whether any of that is new.
+fn enter(tables: &[u16], sets: &mut [u32], a: usize, i: usize) -> bool
+    requires { ⌜ Ready (now tables) × (a < nonterminalsIn (now tables)) × (i < positionCount) × (length (now sets) ≡ setsWords) ⌝ }
+    ensures { λ r. ⌜ Added (Opening (grammarIn (now (tables .entry))) a i) r (now (sets .entry)) (now (sets .exit)) ⌝ }
+{
+    let start = grammar::rule_at(tables, a);
+    let end = grammar::rule_at(tables, a + 1);
+    let mut grown = false;
+    let mut k = start;
+    while k < end {
+        let f = grammar::first_place(tables, k);
+        k += 1;
+        if mark(sets, f, i) {
+            grown = true;
+        }
+    }
+    grown
+}
+
+// Where a reader can stand next, if it stands at place p at position i: behind a token that matches; in the productions of a nonterminal, and behind it
+// wherever they end. Whether any of that is new.
+fn step(
+    tables: &[u16],
+    note: &[u16],
+    ws: &[u32],
+    sets: &mut [u32],
+    places: usize,
+    p: usize,
+    i: usize,
+) -> bool
+    requires { ⌜ Given (now tables) (now note) (now ws) places × (p < places) × (i ≤ length (now note)) × (length (now sets) ≡ setsWords) ⌝ }
+    ensures { λ r. ⌜ Added (Leads (grammarIn (now (tables .entry))) (now (note .entry)) p i) r (now (sets .entry)) (now (sets .exit)) ⌝ }
+{
+    let place = grammar::place_at(tables, p);
+    let symbol = place.symbol;
+    match symbol {
+        Symbol::End => false,
+        Symbol::Token(k) => {
+            if i == note.len() {
+                return false;
+            }
+            if base::index(note[i]) != k {
+                return false;
+            }
+            mark(sets, p + 1, i + 1)
+        }
+        Symbol::Nonterminal(a) => {
+            let ends = chart::ends_of(tables, ws, places, a, i);
+            let entered = enter(tables, sets, a, i);
+            let returned = positions::join(sets, positions::WORDS * (p + 1), ends);
+            entered || returned
+        }
+    }
+}
+
+// Every place at which a reader can stand at position i, once. Whether anything is new.
+fn pass(tables: &[u16], note: &[u16], ws: &[u32], sets: &mut [u32], places: usize, i: usize) -> bool
+    requires { ⌜ Given (now tables) (now note) (now ws) places × (i ≤ length (now note)) × (length (now sets) ≡ setsWords) ⌝ }
+    ensures { λ r. ⌜ Passed (grammarIn (now (tables .entry))) (now (note .entry)) places i r (now (sets .entry)) (now (sets .exit)) ⌝ }
+{
+    let mut grown = false;
+    let mut p = 0;
+    while p < places {
+        let here = positions::read(sets, positions::WORDS * p);
+        let q = p;
+        p += 1;
+        if here.has(i) {
+            if step(tables, note, ws, sets, places, q, i) {
+                grown = true;
+            }
+        }
+    }
+    grown
+}
+
+// All that can be reached from position i, by passes until nothing changes.
+fn settle(tables: &[u16], note: &[u16], ws: &[u32], sets: &mut [u32], places: usize, i: usize)
+    requires { ⌜ Given (now tables) (now note) (now ws) places × (i ≤ length (now note)) × (length (now sets) ≡ setsWords) ⌝ }
+    ensures { λ _. ⌜ Settled (grammarIn (now (tables .entry))) (now (note .entry)) places i (now (sets .entry)) (now (sets .exit)) ⌝ }
+{
+    loop {
+        if !pass(tables, note, ws, sets, places, i) {
+            return;
+        }
+    }
+}
+
+// Every position at which a reader can stand somewhere.
+fn anywhere(sets: &[u32], places: usize) -> Positions
+    requires { ⌜ (places ≤ maxPlaces) × (length (now sets) ≡ setsWords) ⌝ }
+    ensures { λ r. ⌜ Anywhere (now (sets .entry)) places (r .words) ⌝ }
+{
+    let mut all = Positions::empty();
+    let mut p = 0;
+    while p < places {
+        let here = positions::read(sets, positions::WORDS * p);
+        all = all.union(here);
+        p += 1;
+    }
+    all
+}
+
+// The highest member up to n; 0 if there is none.
+fn highest(s: Positions, n: usize) -> usize
+    requires { ⌜ n < positionCount ⌝ }
+    ensures { λ r. ⌜ r ≡ highestTo (member (s .words)) n ⌝ }
+{
+    let mut k = n;
+    while 0 < k {
+        if s.has(k) {
+            return k;
+        }
+        k -= 1;
+    }
+    0
+}
+
+// Where a note that is no sentence goes wrong.
+pub fn wrong_place(tables: &[u16], note: &[u16], ws: &[u32], places: usize) -> usize
+    requires { ⌜ Given (now tables) (now note) (now ws) places ⌝ }
+    ensures { λ r. ⌜ r ≡ wrongPlace (grammarIn (now (tables .entry))) (now (note .entry)) ⌝ }
+{
+    let mut sets = [0u32; SETS];
+    let entered = enter(tables, &mut sets, 0, 0);
+    let n = note.len();
+    let mut i = 0;
+    while i <= n {
+        settle(tables, note, ws, &mut sets, places, i);
+        i += 1;
+    }
+    let all = anywhere(&sets, places);
+    highest(all, n)
+}
