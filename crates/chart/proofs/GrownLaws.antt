@@ -26,6 +26,7 @@ use Rattle.chart.specs.Chart.{cellHas, ChartedFrom}
 use Rattle.chart.specs.Ends.{endWords, endHas, lead, endsAt, SoundEnds, RightEnds}
 use Rattle.chart.specs.Row.{Row, ClosedAt, Grown}
 use Rattle.chart.proofs.LeadLaws.{Known, lead-sound, ends-in, ends-exact}
+use Rattle.chart.proofs.InRange.{row-short}
 
 -- ---- empty sets are sound
 none-has : (a j : ℕ) → a < maxNonterminals → j < positionCount → endHas (replicate endWords 0) a j ≡ false
@@ -45,7 +46,7 @@ module _ (t w : List ℕ) (P i : ℕ) (ws : List ℕ) (row : Row t w P i ws) whe
         kept = ready-kept t (row .ready);
         named = row .ready .fits .named;
         called = λ a b f e. rw (length-starts-in t) at (first-below (grammarIn t) a b e);
-        short = omega (arith, row .lent .short);
+        short = row-short row;
         right = λ q m j h l k n. rw (row .size) (row .later q m j h l k n);
       }
 

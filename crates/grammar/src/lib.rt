@@ -96,6 +96,22 @@ pub fn nonterminals(tables: &[u16]) -> usize
     base::index(tables[NONTERMINALS])
 }
 
+// The highest token kind.
+pub fn kinds(tables: &[u16]) -> usize
+    requires { ⌜ length (now tables) ≡ tableWords ⌝ }
+    ensures { λ r. ⌜ r ≡ grammarIn (now (tables .entry)) .kinds ⌝ }
+{
+    base::index(tables[KINDS])
+}
+
+// How many places the productions have.
+pub fn size(tables: &[u16]) -> usize
+    requires { ⌜ length (now tables) ≡ tableWords ⌝ }
+    ensures { λ r. ⌜ r ≡ grammarIn (now (tables .entry)) .size ⌝ }
+{
+    base::index(tables[SIZE])
+}
+
 // Where in the tables the first places of the productions of nonterminal a begin, and where those of the one before it end.
 pub fn rule_at(tables: &[u16], a: usize) -> usize
     requires { ⌜ (a ≤ maxNonterminals) × (length (now tables) ≡ tableWords) ⌝ }

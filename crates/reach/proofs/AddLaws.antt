@@ -26,13 +26,17 @@ apart q p n = go (decLt p q)
     go (no l) = inr (omega arith)
 
 -- ---- a set joins that of place q
+-- what then stands at place p at position j: what stood there, and at place q the members of s too
+abbrev Then : List ℕ → List ℕ → ℕ → List ℕ → ℕ → ℕ → Type 0
+Then ws after q s p j = (stands after p j ≡ stands ws p j) ⊎ ((p ≡ q) × (stands after p j ≡ (stands ws p j || member s j)))
+
 module _ {r : Bool} {ws after : List ℕ} {q : ℕ} {s : List ℕ} (long : length ws ≡ setsWords) (l : q < maxPlaces) (h : Joined r ws after (setWords * q) s) where
-  joins : (p j : ℕ) → Inside p j → (p ≡ q) ⊎ (p ≡ q → ⊥) → (stands after p j ≡ stands ws p j) ⊎ ((p ≡ q) × (stands after p j ≡ (stands ws p j || member s j)))
+  joins : (p j : ℕ) → Inside p j → (p ≡ q) ⊎ (p ≡ q → ⊥) → Then ws after q s p j
   unfolding stands
   joins p j (_, m) (inl e) = inr (e, rw e (joined-same h j m (omega arith)))
   joins p j (_, m) (inr n) = inl (joined-other h (setWords * p) j m (apart q p n))
 
-  joins-kept : (p j : ℕ) → (stands after p j ≡ stands ws p j) ⊎ ((p ≡ q) × (stands after p j ≡ (stands ws p j || member s j))) → T (stands ws p j) → T (stands after p j)
+  joins-kept : (p j : ℕ) → Then ws after q s p j → T (stands ws p j) → T (stands after p j)
   joins-kept p j (inl e) t = rw e t
   joins-kept p j (inr (_, e)) t = rw e (T-or-l (stands ws p j) (member s j) t)
 
@@ -40,8 +44,7 @@ module _ {r : Bool} {ws after : List ℕ} {q : ℕ} {s : List ℕ} (long : lengt
   unfolding stands
   joins-held p j (_, m) e t = rw (e, joined-same h j m (omega arith)) (T-or-r (memberAt ws (setWords * q) j) (member s j) t)
 
-  joins-only : (p j : ℕ) → (stands after p j ≡ stands ws p j) ⊎ ((p ≡ q) × (stands after p j ≡ (stands ws p j || member s j)))
-      → T (stands after p j) → T (stands ws p j) ⊎ ((p ≡ q) × T (member s j))
+  joins-only : (p j : ℕ) → Then ws after q s p j → T (stands after p j) → T (stands ws p j) ⊎ ((p ≡ q) × T (member s j))
   joins-only p j (inl e) t = inl (rw e at t)
   joins-only p j (inr (z, e)) t = ⊎-elim (λ u. inl u) (λ u. inr (z, u)) (or-T (stands ws p j) (member s j) (rw e at t))
 

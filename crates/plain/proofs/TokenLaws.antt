@@ -1,0 +1,93 @@
+-- The search for a token that the grammar does not know, and rows that are cleared.
+use mathlib.Core.Path.{_≡_, refl, sym, ap, _∙_}
+use mathlib.Core.Bool.{Bool, true, false, not, _&&_}
+use mathlib.Core.List.{List, [], _∷_, _++_}
+use Prim.Native.Nat.{ℕ, zero, suc, _+_, _-_, _≤_, _<_}
+use native.Mathlib.Numerals.{add-one}
+use native.Mathlib.Omega.{arith}
+use lib.Dec.{leb}
+use lib.ListN.{length, getD, set, take, replicate, length-set}
+use borrow.Author.Tests.{le-leb, lt-leb}
+use Rattle.base.specs.Search.{lowestFrom}
+use Rattle.base.proofs.Lowest.{lowest-none, lowest-hit, lowest-miss}
+use Rattle.derivation.specs.Plain.{known?, firstUnknown}
+use Rattle.plain.specs.Reading.{tokensOf}
+use Rattle.plain.specs.declared.tokens.Tokens.{Tokens}
+use Rattle.plain.specs.declared.tokens.Tokens.the-variants.{Known, Unknown}
+
+-- ---- the search: position i is the next
+module _ (kinds : ℕ) (w : List ℕ) where
+  abbrev unknown : ℕ → Bool
+  unknown i = not (known? kinds (getD w i 0))
+
+  pub Looking : ℕ → Type 0
+  Looking i = lowestFrom unknown i (length w - i) ≡ firstUnknown kinds w
+
+  pub looking-begins : Looking 0
+  unfolding Looking firstUnknown
+  looking-begins = let z : length w - 0 ≡ length w = omega arith in ap (lowestFrom unknown 0) z
+
+  module _ (i : ℕ) (x : Looking i) (l : i < length w) {t : ℕ} (e : t ≡ getD w i 0) where
+    zero-unknown : t ≡ 0 → unknown i ≡ true
+    zero-unknown z = rw (← e, z)
+
+    pub found-zero : t ≡ 0 → Unknown i ≡ tokensOf (firstUnknown kinds w)
+    unfolding Looking
+    found-zero z = ap tokensOf (lowest-hit unknown i (length w - i) x (omega arith) (zero-unknown z))
+
+    high-unknown : kinds < t → unknown i ≡ true
+    high-unknown h = rw (← e, lt-leb t kinds h) (all (leb 1 t))
+      where
+        all : (b : Bool) → not (b && false) ≡ true
+        all true = refl
+        all false = refl
+
+    pub found-high : kinds < t → Unknown i ≡ tokensOf (firstUnknown kinds w)
+    unfolding Looking
+    found-high h = ap tokensOf (lowest-hit unknown i (length w - i) x (omega arith) (high-unknown h))
+
+    pub looking-on : (t ≡ 0 → ⊥) → t ≤ kinds → Looking (i + 1)
+    unfolding Looking
+    looking-on n h =
+        let q : unknown i ≡ false = rw (← e, le-leb 1 t (omega arith), le-leb t kinds h) in
+        let z : length w - i - 1 ≡ length w - (i + 1) = omega arith in
+        rw z at (lowest-miss unknown i (length w - i) x (omega arith) q)
+
+  pub looking-ends : (i : ℕ) → Looking i → length w ≤ i → Known ≡ tokensOf (firstUnknown kinds w)
+  unfolding Looking
+  looking-ends i x l = ap tokensOf (lowest-none unknown i (length w - i) x (omega arith))
+
+-- ---- clearing: so many entries from entry k on become 0
+unfoldable pub zeros : ℕ → ℕ → List ℕ → List ℕ
+zeros zero k row = row
+zeros (suc n) k row = zeros n (suc k) (set row k 0)
+
+zeros-behind : (n k x : ℕ) (row : List ℕ) → zeros n (suc k) (x ∷ row) ≡ x ∷ zeros n k row
+unfolding zeros
+zeros-behind zero k x row = refl
+zeros-behind (suc n) k x row = zeros-behind n (suc k) x (set row k 0)
+
+zeros-are : (row : List ℕ) (n k : ℕ) → n + k ≡ length row → zeros n k row ≡ take k row ++ replicate n 0
+unfolding zeros
+zeros-are [] zero zero l = refl
+zeros-are [] zero (suc k) l = absurd (omega arith)
+zeros-are [] (suc n) k l = absurd (omega arith)
+zeros-are (x ∷ row) zero zero l = absurd (omega arith)
+zeros-are (x ∷ row) (suc n) zero l = zeros-behind n 0 0 row ∙ ap {B = List ℕ} (λ m. 0 ∷ m) (zeros-are row n 0 (omega arith))
+zeros-are (x ∷ row) n (suc k) l = zeros-behind n k x row ∙ ap {B = List ℕ} (λ m. x ∷ m) (zeros-are row n k (omega arith))
+
+pub zeros-next : (n k : ℕ) (row : List ℕ) {end : List ℕ} {v : ℕ} → zeros (n - k) k row ≡ end → k < n → v ≡ 0 → zeros (n - (k + 1)) (k + 1) (set row k v) ≡ end
+unfolding zeros
+zeros-next n k row {end} {v} x l z = go (n - k) refl x
+  where
+    go : (m : ℕ) → n - k ≡ m → zeros m k row ≡ end → zeros (n - (k + 1)) (k + 1) (set row k v) ≡ end
+    go zero q x = absurd (omega arith)
+    go (suc m) q x = let y : n - (k + 1) ≡ m = omega arith in rw (y, add-one k, z) x
+
+pub zeros-end : (n k from : ℕ) (row row₀ : List ℕ) → zeros (n - k) k row ≡ zeros (n - from) from row₀ → n ≤ k → n ≡ length row₀ → from ≤ length row₀
+    → row ≡ take from row₀ ++ replicate (length row₀ - from) 0
+unfolding zeros
+zeros-end n k from row row₀ x l e h =
+    let z : n - k ≡ 0 = omega arith in
+    let y : zeros 0 k row ≡ zeros (n - from) from row₀ = rw z at x in
+    (y ∙ ap (λ (n : ℕ). zeros (n - from) from row₀) e) ∙ zeros-are row₀ (length row₀ - from) from (omega arith)
