@@ -1,5 +1,7 @@
 // The library's calls for C and Rust: thin, with numbers and slices alone.
 ghost use mathlib.Core.Path.{_≡_};
+ghost use lib.ListN.{length};
+ghost use Rattle.derivation.specs.Plain.{answer, plainReading};
 ghost use Rattle.soundness.specs.Check.{checkOf, verdictNumber, verdictPlace};
 
 // Checks a grammar. Answers document 01's number, 0 if it is sound, and stores the place.
@@ -11,4 +13,16 @@ pub extern "C" fn allstar_check(grammar: &[u8], place: &mut u64) -> u32
     let verdict = soundness::check(grammar);
     *place = verdict.place() as u64;
     verdict.number()
+}
+
+// Reads a note plainly. Answers document 01's number, 0 if the note was read, stores the place and the count of row entries, and leaves the row as the
+// plain reading does.
+#[no_mangle]
+pub extern "C" fn allstar_plain(grammar: &[u8], note: &[u16], row: &mut [u16], workspace: &mut [u32], place: &mut u64, count: &mut u64) -> u32
+    ensures { λ r. ⌜ answer r (now (place .exit)) (now (count .exit)) (now (row .exit)) ≡ plainReading (now (grammar .entry)) (now (note .entry)) (now (row .entry)) (length (now (workspace .entry))) ⌝ }
+{
+    let reading = plain::plain(grammar, note, row, workspace);
+    *place = reading.place() as u64;
+    *count = reading.count() as u64;
+    reading.number()
 }

@@ -1,0 +1,2 @@
+-- Laws for the calls of C.
+pub mod Answers
