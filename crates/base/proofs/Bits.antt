@@ -1,18 +1,20 @@
--- Laws of single bits: of `|`, of `&`, of a power of two, of a shift; a number that is not 0 has a bit, the lowest by its trailing zeros.
-use mathlib.Core.Path.{_≡_, refl, sym, _∙_, ap}
-use mathlib.Core.Logic.{_⊎_, inl, inr, ⊎-elim}
+-- Laws of single bits: of `|`, of `&`, of a power of two, of a shift; a number that is not 0 has a bit, the lowest by its trailing zeros; numbers with
+-- the same bits are equal; subsets.
+use mathlib.Core.Path.{_≡_, refl, sym, ap, _∙_}
+use mathlib.Core.Logic.{_⊎_, inl, inr, ⊎-elim, _↔_}
 use mathlib.Core.Bool.{Bool, true, false, _||_, _&&_}
 use Prim.Native.Nat.{ℕ, zero, suc, _+_, _-_, _*_, _/_, _%_, _^_, _≤_, _<_, min, max}
-use native.Mathlib.Nat.{one-mul, div-one, div-self, div-eq-of-lt, pow-suc, lt-of-lt-of-le, mul-mod-left}
+use native.Mathlib.Nat.{one-mul, div-one, div-self, div-eq-of-lt, pow-suc, lt-of-lt-of-le, mod-eq-of-lt, mul-mod-left}
 use native.Mathlib.Omega.{arith}
 use native.Mathlib.Decide.{decLt}
-use lib.Dec.{eqb}
-use lib.Bits.{bitOr, bitAnd, or-shr, or-step, and-shr, and-step, or-add-and, and-le-l, and-le-r, or-lt}
+use lib.Dec.{T, eqb, eqb→eq, eqb-refl}
+use lib.Bits.{bitOr, bitAnd, or-shr, or-step, and-shr, and-step, and-mask, or-add-and, and-le-l, and-le-r, or-lt}
 use lib.Count.{trailingZeros, under}
-use lib.Pow.{pow-pos, pow-lt, pow-mono, pow-add, shl-exact, shr-shr, shl-shr}
+use lib.Pow.{pow-pos, pow-lt, pow-mono, pow-add, shl-exact, shl-shr, shr-shr}
 use lib.Arith.{digits-mod}
 use borrow.Author.Tests.{eqb-true, eqb-false, eq-eqb, ne-eqb}
-use Rattle.base.specs.Bits.{bit, testBit, setBit}
+use Rattle.base.specs.Bits.{bit, testBit, setBit, isSubset}
+use Rattle.base.proofs.Booleans.{clash, same, and-T, T-and, or-T, T-or-l, T-or-r, T→true}
 
 pub same? : (a b : ℕ) → (a ≡ b) ⊎ (a ≡ b → ⊥)
 same? a b = go (eqb a b) refl
@@ -33,6 +35,10 @@ bit-lt x k = omega arith
 bit-or : (x y k : ℕ) → bit (bitOr x y) k ≡ max (bit x k) (bit y k)
 unfolding bit
 bit-or x y k = rw (or-shr, or-step) (digits-mod _ (omega arith))
+
+bit-and : (x y k : ℕ) → bit (bitAnd x y) k ≡ min (bit x k) (bit y k)
+unfolding bit
+bit-and x y k = rw (and-shr, and-step) (digits-mod _ (omega arith))
 
 bit-pow-same : (k : ℕ) → bit (2 ^ k) k ≡ 1
 unfolding bit
@@ -65,9 +71,9 @@ or-test (suc (suc x)) y p q = absurd (omega arith)
 or-test zero (suc (suc y)) p q = absurd (omega arith)
 or-test (suc zero) (suc (suc y)) p q = absurd (omega arith)
 
--- 1 << k
-pub shl-one : (k : ℕ) → k < 32 → 1 * 2 ^ k % 4294967296 ≡ 2 ^ k
-shl-one k h = shl-exact 1 k 32 (omega arith) (omega arith) ∙ one-mul _
+-- 1 << k in w bits
+pub shl-one : (w k : ℕ) → k < w → 1 * 2 ^ k % 2 ^ w ≡ 2 ^ k
+shl-one w k h = shl-exact 1 k w (omega arith) (omega arith) ∙ one-mul _
 
 -- ---- a word as a set
 pub test-or : (x y k : ℕ) → testBit (bitOr x y) k ≡ (testBit x k || testBit y k)
@@ -92,12 +98,20 @@ pub test-none : (k : ℕ) → testBit 0 k ≡ false
 unfolding testBit
 test-none k = rw (bit-high 0 0 k (omega arith) (omega arith))
 
+-- n ones are the numbers below n
+pub test-below : (n k : ℕ) → k < n → testBit (2 ^ n - 1) k ≡ true
+unfolding testBit
+test-below n k l = eq-eqb (bit (2 ^ n - 1) k) 1 (omega (arith, one, bit-pow-same k, bit-lt (2 ^ n - 1) k))
+  where
+    one : min (bit (2 ^ k) k) (bit (2 ^ n - 1) k) ≡ bit (2 ^ k) k
+    one = sym (bit-and (2 ^ k) (2 ^ n - 1) k) ∙ ap (λ (x : ℕ). bit x k) (and-mask (2 ^ k) n ∙ mod-eq-of-lt (pow-lt l))
+
 -- a word has no member from 32 on
 pub test-high : (x k : ℕ) → x < 2 ^ 32 → 32 ≤ k → testBit x k ≡ false
 unfolding testBit
 test-high x k h l = rw (bit-high 32 x k h l)
 
--- joining only adds, and stays within 32 bits
+-- joining only adds
 pub or-ge : (x y : ℕ) → x ≤ bitOr x y
 or-ge x y = omega (arith, or-add-and x y, and-le-r x y)
 
@@ -117,10 +131,6 @@ pub or-pos : (x y : ℕ) → 0 < bitOr x y → (0 < x) ⊎ (0 < y)
 or-pos x y h = ⊎-elim (λ e. inr (omega (arith, or-add-and x y))) (λ n. inl (omega arith)) (same? x 0)
 
 -- ---- members in common
-bit-and : (x y k : ℕ) → bit (bitAnd x y) k ≡ min (bit x k) (bit y k)
-unfolding bit
-bit-and x y k = rw (and-shr, and-step) (digits-mod _ (omega arith))
-
 and-test : (x y : ℕ) → x < 2 → y < 2 → eqb (min x y) 1 ≡ (eqb x 1 && eqb y 1)
 and-test zero zero p q = refl
 and-test zero (suc zero) p q = refl
@@ -167,3 +177,56 @@ trailing-found (suc d) x h k = go (x % 2) refl (λ a b. trailing-found d (x / 2)
         → testBit x (under r (trailingZeros d (x / 2))) ≡ true
     go zero e ih = test-half x _ ∙ ih (omega arith) (omega arith)
     go (suc r) e ih = test-zero x ∙ eq-eqb (x % 2) 1 (omega arith)
+
+-- ---- numbers with the same bits are equal
+same-bit : (a b : ℕ) → a < 2 → b < 2 → eqb a 1 ≡ eqb b 1 → a ≡ b
+same-bit zero zero p q e = refl
+same-bit zero (suc zero) p q e = clash (cc)
+same-bit (suc zero) zero p q e = clash (cc)
+same-bit (suc zero) (suc zero) p q e = refl
+same-bit (suc (suc a)) b p q e = absurd (omega arith)
+same-bit zero (suc (suc b)) p q e = absurd (omega arith)
+same-bit (suc zero) (suc (suc b)) p q e = absurd (omega arith)
+
+bits-same : (n x y : ℕ) → x ≤ n → y ≤ n → ((k : ℕ) → bit x k ≡ bit y k) → x ≡ y
+unfolding bit
+bits-same zero x y h l e = omega arith
+bits-same (suc n) x y h l e =
+    let low : x / 1 % 2 ≡ y / 1 % 2 = e 0 in
+    let high : x / 2 ≡ y / 2 = bits-same n (x / 2) (y / 2) (omega arith) (omega arith) (λ k. rw (shr-shr x 1 k, shr-shr y 1 k) (e (1 + k))) in
+    omega arith
+
+sets-same : (x y : ℕ) → ((k : ℕ) → testBit x k ≡ testBit y k) → x ≡ y
+unfolding testBit
+sets-same x y e = bits-same (x + y) x y (omega arith) (omega arith) (λ k. same-bit (bit x k) (bit y k) (bit-lt x k) (bit-lt y k) (e k))
+
+-- ---- subsets
+pub subset-iff : (x y : ℕ) → T (isSubset x y) ↔ ((k : ℕ) → T (testBit x k) → T (testBit y k))
+unfolding isSubset
+subset-iff x y = (to, from)
+  where
+    to : T (eqb (bitOr x y) y) → (k : ℕ) → T (testBit x k) → T (testBit y k)
+    to t k s =
+        let e : testBit y k ≡ (testBit x k || testBit y k) = ap (λ (z : ℕ). testBit z k) (sym (eqb→eq (bitOr x y) y t)) ∙ test-or x y k in
+        rw e (T-or-l (testBit x k) (testBit y k) s)
+
+    from : ((k : ℕ) → T (testBit x k) → T (testBit y k)) → T (eqb (bitOr x y) y)
+    from h =
+        let e : bitOr x y ≡ y = sets-same (bitOr x y) y (λ k. test-or x y k ∙ same (testBit x k || testBit y k) (testBit y k) (λ t. ⊎-elim (h k) (λ s. s) (or-T (testBit x k) (testBit y k) t)) (T-or-r (testBit x k) (testBit y k))) in
+        rw e (eqb-refl y)
+
+pub subset-none : (y : ℕ) → isSubset 0 y ≡ true
+subset-none y = T→true (isSubset 0 y) (subset-iff 0 y .1 (λ k t. absurd (rw test-none at t)))
+
+pub subset-set : (x k y : ℕ) → isSubset (setBit x k) y ≡ (isSubset x y && testBit y k)
+subset-set x k y = same (isSubset (setBit x k) y) (isSubset x y && testBit y k) to from
+  where
+    to : T (isSubset (setBit x k) y) → T (isSubset x y && testBit y k)
+    to t =
+        let h : (j : ℕ) → T (testBit x j || eqb j k) → T (testBit y j) = λ j s. subset-iff (setBit x k) y .0 t j (rw test-set s) in
+        T-and (isSubset x y) (testBit y k) (subset-iff x y .1 (λ j s. h j (T-or-l (testBit x j) (eqb j k) s))) (h k (T-or-r (testBit x k) (eqb k k) (eqb-refl k)))
+
+    from : T (isSubset x y && testBit y k) → T (isSubset (setBit x k) y)
+    from t =
+        let s = and-T (isSubset x y) (testBit y k) t in
+        subset-iff (setBit x k) y .1 (λ j m. elim (or-T (testBit x j) (eqb j k) (rw test-set at m)) [ inl u ↦ subset-iff x y .0 (s .0) j u | inr u ↦ rw (eqb→eq j k u) (s .1) ])

@@ -2,14 +2,14 @@
 use mathlib.Core.Path.{_≡_, refl, ap, _∙_}
 use mathlib.Core.Logic.{_⊎_, inl, inr}
 use mathlib.Core.Bool.{Bool}
-use mathlib.Core.Option.{some}
+use mathlib.Core.Option.{none, some}
 use mathlib.Core.List.{List, [], _∷_, _++_, List·Memᴰ, List·Memᴰ·head, List·Memᴰ·tail}
 use Prim.Native.Nat.{ℕ, zero, suc, _+_, _-_, _≤_, _<_}
 use native.Mathlib.Omega.{arith}
-use native.Mathlib.Decide.{decLe}
+use native.Mathlib.Decide.{decLe, decLt}
 use lib.Dec.{T}
-use lib.ListN.{length, getElem?, set}
-use lib.Seq.{sets, set-comm}
+use lib.ListN.{length, getD, getElem?, set, take, length-take, drop-of-length-le}
+use lib.Seq.{sets, set-comm, slice, slice-cons}
 use Rattle.base.specs.Rounds.{anyOf, upFrom}
 use Rattle.base.proofs.Booleans.{clash, or-T, T-or-l, T-or-r}
 
@@ -62,6 +62,29 @@ upFrom-in (suc k) i m h l = go (decLe (suc i) m) (upFrom-in k (suc i) m)
     go : Dec (suc i ≤ m) → (suc i ≤ m → m < suc i + k → List·Memᴰ m (upFrom (suc i) k)) → List·Memᴰ m (i ∷ upFrom (suc i) k)
     go (yes y) rec = List·Memᴰ·tail (rec y (omega arith))
     go (no y) rec = List·Memᴰ·head {x = i} (omega arith)
+
+-- ---- an element of a slice, by its number in the whole
+pub slice-get : (t : List ℕ) (e m f : ℕ) → f + m < e → e ≤ length t → getElem? (slice f e t) m ≡ some (getD t (f + m) 0)
+slice-get t e zero f l h = let q : f + 0 ≡ f = omega arith in rw (slice-cons f e t 0 (omega arith) h, q)
+slice-get t e (suc m) f l h = let q : f + suc m ≡ suc f + m = omega arith in rw (slice-cons f e t 0 (omega arith) h, q) (slice-get t e m (suc f) (omega arith) h)
+
+slice-none : (t : List ℕ) (e f : ℕ) → e ≤ f → slice f e t ≡ []
+slice-none t e f h = drop-of-length-le (take e t) {i = f} (omega (arith, length-take e t))
+
+pub slice-from : (t : List ℕ) (e m f v : ℕ) → e ≤ length t → getElem? (slice f e t) m ≡ some v → (f + m < e) × (v ≡ getD t (f + m) 0)
+slice-from t e zero f v h q = go (decLt f e)
+  where
+    go : Dec (f < e) → (f + 0 < e) × (v ≡ getD t (f + 0) 0)
+    go (yes l) =
+        let z : f + 0 ≡ f = omega arith in
+        let y : some (getD t f 0) ≡ some v = rw (slice-cons f e t 0 l h) at q in
+        (omega arith, rw z (cc))
+    go (no l) = let y : none ≡ some v = rw (slice-none t e f (omega arith)) at q in clash (cc)
+slice-from t e (suc m) f v h q = go (decLt f e) (slice-from t e m (suc f) v h)
+  where
+    go : Dec (f < e) → (getElem? (slice (suc f) e t) m ≡ some v → (suc f + m < e) × (v ≡ getD t (suc f + m) 0)) → (f + suc m < e) × (v ≡ getD t (f + suc m) 0)
+    go (yes l) rec = let z : f + suc m ≡ suc f + m = omega arith in rw z (rec (rw (slice-cons f e t 0 l h) at q))
+    go (no l) rec = let y : none ≡ some v = rw (slice-none t e f (omega arith)) at q in clash (cc)
 
 -- ---- stores in two places that do not meet commute
 pub set-sets : (t : List ℕ) (i v p : ℕ) (vs : List ℕ) → (p + length vs ≤ i) ⊎ (i < p) → set (sets t p vs) i v ≡ sets (set t i v) p vs

@@ -15,3 +15,7 @@ testBit x k = eqb (bit x k) 1
 -- the set x with the member k
 unfoldable pub setBit : ℕ → ℕ → ℕ
 setBit x k = bitOr x (2 ^ k)
+
+-- every member of x is one of y
+unfoldable pub isSubset : ℕ → ℕ → Bool
+isSubset x y = eqb (bitOr x y) y

@@ -1,7 +1,7 @@
-// Casts and single bits of a word, each a tiny function whose contract is arithmetic: no proof above this crate sees a shift or a mask.
+// Casts, single bits of a word and words as sets, each a tiny function whose contract is arithmetic: no proof above this crate sees a shift or a mask.
 ghost use mathlib.Core.Path.{_≡_};
-ghost use Prim.Native.Nat.{_<_};
-ghost use Rattle.base.specs.Bits.{testBit, setBit};
+ghost use Prim.Native.Nat.{_-_, _^_, _≤_, _<_};
+ghost use Rattle.base.specs.Bits.{testBit, setBit, isSubset};
 
 // A byte as a number.
 pub fn wide(b: u8) -> usize
@@ -54,4 +54,19 @@ pub fn number(x: u32) -> usize
     ensures { λ r. ⌜ r ≡ x ⌝ }
 {
     x as usize
+}
+
+// The set of the numbers below n.
+pub fn below(n: usize) -> u32
+    requires { ⌜ n ≤ 32 ⌝ }
+    ensures { λ r. ⌜ r ≡ 2 ^ n - 1 ⌝ }
+{
+    word((1usize << n) - 1)
+}
+
+// Whether every member of the set x is one of y.
+pub fn subset(x: u32, y: u32) -> bool
+    ensures { λ r. ⌜ r ≡ isSubset x y ⌝ }
+{
+    x | y == y
 }

@@ -14,15 +14,15 @@ use borrow.Author.Tests.{not-true, not-false}
 use Rattle.base.specs.Bits.{testBit, setBit}
 use Rattle.base.specs.Rounds.{anyOf}
 use Rattle.base.proofs.Booleans.{or-T, T-or-r, true→T, T→true}
-use Rattle.base.proofs.Bits.{test-set, test-none, set-ge, set-fits}
+use Rattle.base.proofs.Bits.{test-set, test-none, test-below, set-ge}
 use Rattle.grammar.specs.declared.Symbol.{Symbol}
 use Rattle.grammar.specs.declared.Symbol.the-variants.{Token, Nonterminal, End}
 use Rattle.grammar.specs.Grammar.{Grammar, suffix, facing}
 use Rattle.grammar.specs.Tables.{placeWords, tableWords, grammarIn, nonterminalsIn, ruleAt, Fits}
 use Rattle.grammar.proofs.WordLaws.{facing-past, alternatives-in}
-use Rattle.soundness.specs.Closures.{passes, passesBy, derivingRound}
-use Rattle.soundness.specs.Steps.{stepOf, passOf, DerivingIs}
-use Rattle.soundness.proofs.Deriving.{passes-place, AllDerive, deriving-adds, deriving-exact}
+use Rattle.soundness.specs.Closures.{passes, passesBy, derivingRound, deriving?}
+use Rattle.soundness.specs.Steps.{stepOf, passOf, Derivers, DerivingIs}
+use Rattle.soundness.proofs.Deriving.{passes-place, round-within, deriving-exact}
 
 -- ---- along a production
 module _ (t : List ℕ) (tokens : Bool) (x first p : ℕ)
@@ -107,7 +107,7 @@ pub pass-done : (tokens : Bool) (g : Grammar) (a x : ℕ) {y : ℕ} → a ≡ 0 
 unfolding passOf
 pass-done tokens g a x e i = rw e at i
 
--- ---- steps and passes only add, stay within 32 bits, and add only what derives
+-- ---- steps and passes only add, and only what derives
 module _ (tokens : Bool) (g : Grammar) where
   step-ge : (a x : ℕ) → x ≤ stepOf tokens g a x
   unfolding stepOf
@@ -118,49 +118,31 @@ module _ (tokens : Bool) (g : Grammar) where
       go false true = set-ge x a
       go false false = omega arith
 
-  step-fits : (a x : ℕ) → a < 32 → x < 2 ^ 32 → stepOf tokens g a x < 2 ^ 32
-  unfolding stepOf
-  step-fits a x l h = go (testBit x a) (derivingRound tokens g (testBit x) a)
-    where
-      go : (b d : Bool) → cond b x (cond d (setBit x a) x) < 2 ^ 32
-      go true d = h
-      go false true = set-fits x a h l
-      go false false = h
-
-  step-sound : (a x : ℕ) → AllDerive tokens g (testBit x) → AllDerive tokens g (testBit (stepOf tokens g a x))
-  unfolding stepOf
-  step-sound a x s = go (testBit x a) (derivingRound tokens g (testBit x) a) refl
-    where
-      go : (b d : Bool) → derivingRound tokens g (testBit x) a ≡ d → AllDerive tokens g (testBit (cond b x (cond d (setBit x a) x)))
-      go true d e = s
-      go false true e = λ c t. elim (or-T (testBit x c) (eqb c a) (rw test-set at t)) [ inl m ↦ s c m | inr m ↦ rw (eqb→eq c a m) (deriving-adds tokens g (testBit x) s a (true→T (derivingRound tokens g (testBit x) a) e)) ]
-      go false false e = s
-
-  pub pass-ge : (n x : ℕ) → x ≤ passOf tokens g n x
+  pass-ge : (n x : ℕ) → x ≤ passOf tokens g n x
   unfolding passOf
   pass-ge zero x = omega arith
   pass-ge (suc n) x = omega (arith, step-ge n x, pass-ge n (stepOf tokens g n x))
 
-  pub pass-fits : (n x : ℕ) → n ≤ 32 → x < 2 ^ 32 → passOf tokens g n x < 2 ^ 32
+  step-derives : (a x : ℕ) → Derivers tokens g x → Derivers tokens g (stepOf tokens g a x)
+  unfolding stepOf Derivers
+  step-derives a x s = go (testBit x a) (derivingRound tokens g (testBit x) a) refl
+    where
+      go : (b d : Bool) → derivingRound tokens g (testBit x) a ≡ d → (c : ℕ) → T (testBit (cond b x (cond d (setBit x a) x)) c) → T (deriving? tokens g c)
+      go true d e = s
+      go false true e = λ c t. elim (or-T (testBit x c) (eqb c a) (rw test-set at t)) [ inl m ↦ s c m | inr m ↦ rw (eqb→eq c a m) (round-within tokens g (testBit x) s a (true→T (derivingRound tokens g (testBit x) a) e)) ]
+      go false false e = s
+
+  pass-derives : (n x : ℕ) → Derivers tokens g x → Derivers tokens g (passOf tokens g n x)
   unfolding passOf
-  pass-fits zero x l h = h
-  pass-fits (suc n) x l h = pass-fits n (stepOf tokens g n x) (omega arith) (step-fits n x (omega arith) h)
+  pass-derives zero x s = s
+  pass-derives (suc n) x s = pass-derives n (stepOf tokens g n x) (step-derives n x s)
 
-  pass-sound : (n x : ℕ) → AllDerive tokens g (testBit x) → AllDerive tokens g (testBit (passOf tokens g n x))
-  unfolding passOf
-  pass-sound zero x s = s
-  pass-sound (suc n) x s = pass-sound n (stepOf tokens g n x) (step-sound n x s)
+  pub pass-keeps : (n x : ℕ) {r : ℕ} → r ≡ passOf tokens g n x → Derivers tokens g x → Derivers tokens g r
+  pass-keeps n x e s = rw e (pass-derives n x s)
 
-  pub Sound : ℕ → Type 0
-  Sound x = AllDerive tokens g (testBit x)
-
-  pub sound-none : Sound 0
-  unfolding Sound
-  sound-none a t = absurd (rw test-none at t)
-
-  pub pass-keeps : (n x : ℕ) {r : ℕ} → r ≡ passOf tokens g n x → Sound x → Sound r
-  unfolding Sound
-  pass-keeps n x e s = rw e (pass-sound n x s)
+  pub derivers-none : Derivers tokens g 0
+  unfolding Derivers
+  derivers-none a t = absurd (rw test-none at t)
 
   -- a pass that adds nothing leaves nothing to add
   step-same : (n x : ℕ) → passOf tokens g n x ≡ x → (a : ℕ) → a < n → stepOf tokens g a x ≡ x
@@ -182,6 +164,11 @@ module _ (tokens : Bool) (g : Grammar) where
           let h : testBit x a ≡ (testBit x a || eqb a a) = ap (λ (y : ℕ). testBit y a) (sym s) ∙ test-set x a a in
           rw h (T-or-r (testBit x a) (eqb a a) (eqb-refl a))
 
-  pub closure-exact : (n x : ℕ) → length (g .starts) ≡ n → Sound x → x ≡ passOf tokens g n x → DerivingIs tokens g x
-  unfolding DerivingIs Sound
+  pub closure-exact : (n x : ℕ) → length (g .starts) ≡ n → Derivers tokens g x → x ≡ passOf tokens g n x → DerivingIs tokens g x
+  unfolding DerivingIs Derivers
   closure-exact n x m s e = deriving-exact tokens g (testBit x) s (λ a l t. step-held a x (step-same n x (sym e) a (omega (arith, m))) t)
+
+  -- a set of all nonterminals leaves none to add
+  pub closure-full : (n x : ℕ) → length (g .starts) ≡ n → Derivers tokens g x → x ≡ 2 ^ n - 1 → DerivingIs tokens g x
+  unfolding DerivingIs Derivers
+  closure-full n x m s e = deriving-exact tokens g (testBit x) s (λ a l t. true→T (testBit x a) (rw e (test-below n a (omega (arith, m)))))

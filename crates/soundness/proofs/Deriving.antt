@@ -85,7 +85,7 @@ module _ (tokens : Bool) where
 
 module _ (tokens : Bool) (g : Grammar) where
   -- every member derives what is wanted
-  abbrev pub AllDerive : (ℕ → Bool) → Type 0
+  abbrev AllDerive : (ℕ → Bool) → Type 0
   AllDerive X = (a : ℕ) → T (X a) → DerivesFor tokens g (Nonterminal a ∷ [])
 
   -- ---- the round as an operator on sets
@@ -119,7 +119,7 @@ module _ (tokens : Bool) (g : Grammar) where
   passes-derives X h (End ∷ l) t = absurd t
 
   -- what a round adds derives what is wanted too
-  pub deriving-adds : (X : ℕ → Bool) → AllDerive X → AllDerive (derivingRound tokens g X)
+  deriving-adds : (X : ℕ → Bool) → AllDerive X → AllDerive (derivingRound tokens g X)
   unfolding derivingRound
   deriving-adds X h a t =
       let (n, f, e, s) = anyOf-T (λ f. passes tokens X (suffix g f)) (alternatives g a) t in
@@ -157,12 +157,15 @@ module _ (tokens : Bool) (g : Grammar) where
   deriving-iff a =
       (rounds-sound (suc (length (g .starts))) a, λ h. and-T (deriving? tokens g a) true (passes-all (h .2 .1) (h .1)) .0)
 
-  -- ---- for the code: a set that is sound, and closed among the grammar's nonterminals, is the set
-  pub deriving-exact : (X : ℕ → Bool) → AllDerive X → ((a : ℕ) → a < length (g .starts) → T (derivingRound tokens g X a) → T (X a))
+  -- ---- for the code: a round adds only what derives, and a set of what derives that is closed among the grammar's nonterminals is the set
+  pub round-within : (X : ℕ → Bool) → Within X (deriving? tokens g) → Within (derivingRound tokens g X) (deriving? tokens g)
+  round-within X h a t = closed a (round-mono X (deriving? tokens g) h a t)
+
+  pub deriving-exact : (X : ℕ → Bool) → Within X (deriving? tokens g) → ((a : ℕ) → a < length (g .starts) → T (derivingRound tokens g X a) → T (X a))
       → (a : ℕ) → X a ≡ deriving? tokens g a
   unfolding deriving?
   deriving-exact X sound below a =
-      same (X a) (deriving? tokens g a) (λ t. deriving-iff a .1 (sound a t))
+      same (X a) (deriving? tokens g a) (sound a)
       (least (derivingRound tokens g) round-mono X (closed-from-below (derivingRound tokens g) round-mono (length (g .starts)) round-below X below)
       (suc (length (g .starts))) a)
 

@@ -5,6 +5,7 @@ use mathlib.Core.List.{List}
 use Prim.Native.Nat.{ℕ, _<_}
 use native.Mathlib.Omega.{arith}
 use lib.ListN.{length, getD, replicate}
+use borrow.Author.Tests.{eq-eqb, ne-eqb}
 use Rattle.base.specs.Bits.{testBit}
 use Rattle.base.specs.Search.{lowestFrom}
 use Rattle.base.proofs.Booleans.{clash}
@@ -25,7 +26,7 @@ use Rattle.soundness.specs.declared.judgement.Verdict.the-variants.{Soun
 use Rattle.soundness.specs.Textbook.{Move}
 use Rattle.soundness.specs.Closures.{deriving?, leftRecursive?, lowestUnproductive, lowestLeftRecursive}
 use Rattle.soundness.specs.Steps.{DerivingIs, Rows, reachOf}
-use Rattle.soundness.specs.Check.{refuseAt, unproductiveOf, leftRecursiveOf, judgeOf, judged, checkOf}
+use Rattle.soundness.specs.Check.{refuseAt, unproductiveOf, leftRecursiveOf, verdictOn, judgeOf, judged, checkOf}
 use Rattle.soundness.specs.Compiled.{Compiled}
 use Rattle.soundness.proofs.LeftRecursion.{move-to}
 use Rattle.soundness.proofs.Warshall.{reached}
@@ -54,14 +55,24 @@ recursive-is t f nullable n rows d e l h {after} q =
     (λ a k b. ap (λ (r : List ℕ). testBit (getD r a 0) a) q ∙ reached nullable g n rows m named (omega (arith, l, e, f .few)) d rows-n a (omega (arith, b)))
     ∙ ap (lowestFrom (leftRecursive? g) 0) m)
 
+-- ---- 6 or 7 by its number
+module _ (g : Grammar) (number : ℕ) {v : Verdict} where
+  pub verdict-six : number ≡ 6 → v ≡ unproductiveOf g → v ≡ verdictOn number g
+  unfolding verdictOn
+  verdict-six e h = rw (eq-eqb number 6 e) h
+
+  pub verdict-seven : (number ≡ 6 → ⊥) → v ≡ leftRecursiveOf g → v ≡ verdictOn number g
+  unfolding verdictOn
+  verdict-seven n h = rw (ne-eqb number 6 n) h
+
 -- ---- 6 before 7
-module _ (g : Grammar) {v : Verdict} (e : v ≡ unproductiveOf g) where
+module _ (g : Grammar) {v : Verdict} (e : v ≡ verdictOn 6 g) where
   pub judge-first : {r : Refusal} → v ≡ Refused r → Refused r ≡ judgeOf g
-  unfolding judgeOf
+  unfolding judgeOf verdictOn
   judge-first h = rw (← e, h)
 
-  pub judge-second : {w : Verdict} → v ≡ Sound → w ≡ leftRecursiveOf g → w ≡ judgeOf g
-  unfolding judgeOf
+  pub judge-second : {w : Verdict} → v ≡ Sound → w ≡ verdictOn 7 g → w ≡ judgeOf g
+  unfolding judgeOf verdictOn
   judge-second h q = rw (← e, h, q)
 
 -- ---- the bytes

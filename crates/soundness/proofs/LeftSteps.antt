@@ -1,7 +1,7 @@
 -- The loops of left recursion by cases, as the code meets them; and that the rows they end with are where moves lead.
-use mathlib.Core.Path.{_≡_, sym, ap, _∙_}
+use mathlib.Core.Path.{_≡_, refl, sym, ap, _∙_}
 use mathlib.Core.Logic.{_⊎_, inl, inr}
-use mathlib.Core.Bool.{Bool, true, false, not, _&&_, _||_}
+use mathlib.Core.Bool.{Bool, true, false, cond, not, _&&_, _||_}
 use mathlib.Core.List.{List, []}
 use Prim.Native.Nat.{ℕ, suc, _+_, _≤_, _<_}
 use native.Mathlib.Numerals.{add-one}
@@ -9,7 +9,7 @@ use native.Mathlib.Omega.{arith}
 use lib.Bits.{bitOr}
 use lib.Dec.{eqb, eqb→eq, eqb-refl}
 use lib.ListN.{length, getD, set, take, length-take, drop-of-length-le}
-use lib.Seq.{slice, slice-cons, getD-set-same, getD-set-other}
+use lib.Seq.{slice, slice-cons, getD-set-same, getD-set-other, set-getD}
 use borrow.Author.Tests.{not-true, not-false, eq-eqb, ne-eqb}
 use Rattle.base.specs.Bits.{testBit, setBit}
 use Rattle.base.specs.Rounds.{anyOf}
@@ -105,14 +105,14 @@ unfolding Rows
 rows-none nullable g rows b h = absurd (omega arith)
 
 -- ---- the code's ways through a turn
-module _ (row b a : ℕ) (rows₀ rows : List ℕ) (i : rows ≡ throughOf row b a rows₀) {x : ℕ} (e : x ≡ getD rows a 0) {d : Bool} (h : d ≡ testBit x b) where
-  pub through-joins : {y : ℕ} → d ≡ true → y ≡ bitOr x row → set rows a y ≡ throughOf row b (a + 1) rows₀
-  unfolding throughOf joinOf
-  through-joins t q = rw (q, add-one, ← i, ← e, sym h ∙ t)
-
-  pub through-stays : d ≡ false → rows ≡ throughOf row b (a + 1) rows₀
-  unfolding throughOf joinOf
-  through-stays t = rw (add-one, ← i, ← e, sym h ∙ t)
+pub through-more : (row b a : ℕ) (rows₀ rows : List ℕ) → rows ≡ throughOf row b a rows₀ → {x : ℕ} → x ≡ cond (testBit (getD rows a 0) b) (bitOr (getD rows a 0) row) (getD rows a 0)
+    → set rows a x ≡ throughOf row b (a + 1) rows₀
+unfolding throughOf joinOf
+through-more row b a rows₀ rows i e = rw (e, add-one, ← i) (go (testBit (getD rows a 0) b))
+  where
+    go : (d : Bool) → set rows a (cond d (bitOr (getD rows a 0) row) (getD rows a 0)) ≡ cond d (set rows a (bitOr (getD rows a 0) row)) rows
+    go true = refl
+    go false = set-getD rows a 0
 
 pub rows-upto : (nullable : ℕ) (g : Grammar) (rows : List ℕ) (a n : ℕ) → Rows nullable g a rows → a ≡ n → Rows nullable g n rows
 rows-upto nullable g rows a n h e = rw e at h

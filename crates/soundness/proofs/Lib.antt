@@ -4,6 +4,8 @@ pub mod Deriving
 pub mod LeftRecursion
 pub mod LowestLaws
 pub mod ClosureSteps
+pub mod NoteSteps
+pub mod RoundSteps
 pub mod LeftSteps
 pub mod Warshall
 pub mod Judging

@@ -1,7 +1,9 @@
 -- The check: refusals 1 to 5 as the bytes come, then 6, then 7; and document 01's number and place of a verdict.
+use mathlib.Core.Bool.{cond}
 use mathlib.Core.Option.{Option, none, some}
 use mathlib.Core.List.{List}
 use Prim.Native.Nat.{ℕ}
+use lib.Dec.{eqb}
 use Rattle.number.specs.declared.Refusal.{Refusal}
 use Rattle.number.specs.declared.Refusal.the-variants.{Unproductive, LeftRecursive}
 use Rattle.number.specs.Refusals.{refusalNumber, refusalPlace}
@@ -25,6 +27,11 @@ unproductiveOf g = refuseAt Unproductive (lowestUnproductive g)
 unfoldable pub leftRecursiveOf : Grammar → Verdict
 unfolding lowestLeftRecursive
 leftRecursiveOf g = refuseAt LeftRecursive (lowestLeftRecursive g)
+
+-- the verdict on refusal 6, or else on 7
+unfoldable pub verdictOn : ℕ → Grammar → Verdict
+unfolding unproductiveOf leftRecursiveOf
+verdictOn number g = cond (eqb number 6) (unproductiveOf g) (leftRecursiveOf g)
 
 -- the first of two verdicts that refuses
 abbrev pub orElse : Verdict → Verdict → Verdict

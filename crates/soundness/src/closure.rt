@@ -1,8 +1,9 @@
 // Which nonterminals derive some row of tokens, and which derive the empty row: one closure, in which tokens pass or do not. Nonterminal sets are
-// the bits of a word. Passes go from the last nonterminal to the first, which is mostly the order in which grammars build on each other.
+// the bits of a word. Passes go from the last nonterminal to the first, which is mostly the order in which grammars build on each other. What they leave
+// unsettled is left to rounds (module rounds).
 use grammar::Symbol;
 ghost use mathlib.Core.Path.{_≡_};
-ghost use Prim.Native.Nat.{ℕ, _<_};
+ghost use Prim.Native.Nat.{_<_};
 ghost use Rattle.base.specs.Bits.{testBit};
 ghost use Rattle.grammar.specs.Grammar.{suffix};
 ghost use Rattle.grammar.specs.Tables.{grammarIn, nonterminalsIn, Fits};
@@ -82,17 +83,28 @@ fn pass(tables: &[u16], tokens: bool, from: u32) -> u32
     set
 }
 
-// The nonterminals that derive some row of tokens if `tokens`, the empty row if not.
+// So many passes settle most grammars, and cost less than the rows of words that rounds work on.
+const PASSES: usize = 2;
+
+// The nonterminals that derive some row of tokens if `tokens`, the empty row if not. Once all are found, no pass has to confirm it.
 pub fn derivers(tables: &[u16], tokens: bool) -> u32
     requires { ⌜ Fits (now tables) ⌝ }
     ensures { λ r. ⌜ DerivingIs tokens (grammarIn (now (tables .entry))) r ⌝ }
 {
+    let n = grammar::nonterminals(tables);
+    let all = base::below(n);
     let mut set = 0;
-    loop {
+    let mut left = PASSES;
+    while 0 < left {
         let next = pass(tables, tokens, set);
         if next == set {
             return set;
         }
+        if next == all {
+            return next;
+        }
         set = next;
+        left -= 1;
     }
+    crate::rounds::by_rounds(tables, tokens, set)
 }

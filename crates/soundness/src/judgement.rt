@@ -9,7 +9,7 @@ ghost use Rattle.base.specs.Bits.{testBit};
 ghost use Rattle.base.specs.Search.{lowestFrom};
 ghost use Rattle.grammar.specs.Limits.{maxNonterminals};
 ghost use Rattle.grammar.specs.Tables.{grammarIn, Fits, tableWords};
-ghost use Rattle.soundness.specs.Check.{refuseAt, unproductiveOf, leftRecursiveOf, judgeOf, checkOf, verdictNumber, verdictPlace};
+ghost use Rattle.soundness.specs.Check.{refuseAt, unproductiveOf, leftRecursiveOf, verdictOn, judgeOf, checkOf, verdictNumber, verdictPlace};
 ghost use Rattle.soundness.specs.Compiled.{Compiled};
 
 // What the check answers.
@@ -40,32 +40,34 @@ impl Verdict {
     }
 }
 
-// The lowest nonterminal of the first n that is missing from the set.
+// The lowest nonterminal of the first n that is missing from the set. `left` counts those not yet looked at.
 fn lowest_missing(set: u32, n: usize) -> Verdict
     requires { ⌜ n ≤ maxNonterminals ⌝ }
     ensures { λ r. ⌜ r ≡ refuseAt Refusal.Unproductive (lowestFrom (λ a. not (testBit set a)) 0 n) ⌝ }
 {
-    let mut a = 0;
-    while a < n {
+    let mut left = n;
+    while 0 < left {
+        let a = n - left;
         if !base::has(set, a) {
             return Verdict::Refused(Refusal::Unproductive(a));
         }
-        a += 1;
+        left -= 1;
     }
     Verdict::Sound
 }
 
-// The lowest nonterminal of the first n whose row holds it.
+// The lowest nonterminal of the first n whose row holds it. `left` counts those not yet looked at.
 fn lowest_own(rows: &[u32], n: usize) -> Verdict
     requires { ⌜ (n ≤ maxNonterminals) × (length (now rows) ≡ maxNonterminals) ⌝ }
     ensures { λ r. ⌜ r ≡ refuseAt Refusal.LeftRecursive (lowestFrom (λ a. testBit (getD (now (rows .entry)) a 0) a) 0 n) ⌝ }
 {
-    let mut a = 0;
-    while a < n {
-        if base::has(rows[a], a) {
-            return Verdict::Refused(Refusal::LeftRecursive(a));
+    let mut left = n;
+    while 0 < left {
+        let b = n - left;
+        if base::has(rows[b], b) {
+            return Verdict::Refused(Refusal::LeftRecursive(b));
         }
-        a += 1;
+        left -= 1;
     }
     Verdict::Sound
 }
@@ -93,15 +95,26 @@ fn left_recursive(tables: &[u16]) -> Verdict
     lowest_own(&rows, n)
 }
 
+// The verdict on refusal 6, or else on 7.
+fn verdict_on(tables: &[u16], number: u32) -> Verdict
+    requires { ⌜ Fits (now tables) ⌝ }
+    ensures { λ r. ⌜ r ≡ verdictOn number (grammarIn (now (tables .entry))) ⌝ }
+{
+    if number == 6 {
+        return unproductive(tables);
+    }
+    left_recursive(tables)
+}
+
 // 6, and then 7.
 fn judge(tables: &[u16]) -> Verdict
     requires { ⌜ Fits (now tables) ⌝ }
     ensures { λ r. ⌜ r ≡ judgeOf (grammarIn (now (tables .entry))) ⌝ }
 {
-    let first = unproductive(tables);
+    let first = verdict_on(tables, 6);
     match first {
         Verdict::Refused(r) => Verdict::Refused(r),
-        Verdict::Sound => left_recursive(tables),
+        Verdict::Sound => verdict_on(tables, 7),
     }
 }
 

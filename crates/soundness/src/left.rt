@@ -1,14 +1,14 @@
 // Left recursion: for each nonterminal the set of those that one or more moves lead to, as one row of bits each.
 use grammar::Symbol;
 ghost use mathlib.Core.Path.{_≡_};
-ghost use mathlib.Core.Bool.{_||_};
-ghost use Prim.Native.Nat.{ℕ, _≤_, _<_};
+ghost use mathlib.Core.Bool.{cond};
+ghost use Prim.Native.Nat.{_≤_, _<_};
+ghost use lib.Bits.{bitOr};
 ghost use lib.ListN.{length};
 ghost use Rattle.base.specs.Bits.{testBit};
-ghost use Rattle.grammar.specs.Grammar.{suffix, alternatives};
+ghost use Rattle.grammar.specs.Grammar.{suffix};
 ghost use Rattle.grammar.specs.Limits.{maxNonterminals};
 ghost use Rattle.grammar.specs.Tables.{grammarIn, nonterminalsIn, Fits};
-ghost use Rattle.soundness.specs.Closures.{leads};
 ghost use Rattle.soundness.specs.Steps.{Leads, Moves, Rows, throughOf, reachOf};
 
 // The set `from` with every nonterminal that stands from place `first` on behind only nullable ones.
@@ -66,6 +66,14 @@ pub fn begin(tables: &[u16], nullable: u32, rows: &mut [u32])
     }
 }
 
+// A row joined by `row` if it holds b. There is a word to store in both cases, so that the compiler joins several rows at once.
+fn joined(held: u32, b: usize, row: u32) -> u32
+    requires { ⌜ b < maxNonterminals ⌝ }
+    ensures { λ r. ⌜ r ≡ cond (testBit held b) (bitOr held row) held ⌝ }
+{
+    if base::has(held, b) { held | row } else { held }
+}
+
 // Every row that holds b is joined by the row of b, `row`.
 fn through(rows: &mut [u32], n: usize, row: u32, b: usize)
     requires { ⌜ (n ≤ maxNonterminals) × (b < maxNonterminals) × (length (now rows) ≡ maxNonterminals) ⌝ }
@@ -73,12 +81,8 @@ fn through(rows: &mut [u32], n: usize, row: u32, b: usize)
 {
     let mut a = 0;
     while a < n {
-        let held = rows[a];
-        let here = a;
+        rows[a] = joined(rows[a], b, row);
         a += 1;
-        if base::has(held, b) {
-            rows[here] = held | row;
-        }
     }
 }
 

@@ -2,6 +2,7 @@
 mod closure;
 mod judgement;
 mod left;
+mod rounds;
 
 pub use judgement::Verdict;
 pub use judgement::check;

@@ -13,7 +13,7 @@ shl-result c = search needs
 
 returns : tie.Need-returns
 unfolding setBit
-returns c = rw (shl-one (c .args .k) (c .pre))
+returns c = rw (shl-one 32 (c .args .k) (c .pre))
 
 pub with-spec : {M : Type 1} → statement M
 with-spec = tie.close (tie.spec cast-result shl-result returns)

@@ -1,11 +1,11 @@
 -- `soundness::judgement::judge` meets its contract.
-use Rattle.soundness.proofs.Judging.{judge-first, judge-second}
 use borrow.Author.Needs.{needs}
+use Rattle.soundness.proofs.Judging.{judge-first, judge-second}
 use Rattle.soundness.proofs.judgement.judge.Statement.{statement}
 use Rattle.soundness.proofs.judgement.judge.Tie as tie
 
-unproductive-requires : tie.Need-unproductive-requires
-unproductive-requires c κs = search needs
+verdict-on-requires : tie.Need-verdict-on-requires
+verdict-on-requires c κs = search needs
 
 enum-known-first : tie.Need-enum-known-first
 enum-known-first c = search needs
@@ -13,22 +13,22 @@ enum-known-first c = search needs
 enum-told : tie.Need-enum-told
 enum-told c = search needs
 
-left-recursive-requires : tie.Need-left-recursive-requires
-left-recursive-requires c κs = search needs
+verdict-on-requires-2 : tie.Need-verdict-on-requires-2
+verdict-on-requires-2 c κs = search needs
 
 returns : tie.Need-returns
-returns c = judge-first _ (c .before .before .before .unproductive .ensures) (c .before .first .given .1)
+returns c = judge-first _ (c .before .before .before .verdict-on .ensures) (c .before .first .given .1)
 
 returns-2 : tie.Need-returns-2
-returns-2 c = judge-second _ (c .before .before .before .unproductive .ensures) (c .before .enum-told .given .1) (c .left-recursive .ensures)
+returns-2 c = judge-second _ (c .before .before .before .verdict-on .ensures) (c .before .enum-told .given .1) (c .verdict-on2 .ensures)
 
 pub judge-spec : {M : Type 1} → statement M
 judge-spec =
     tie.close
     (tie.spec
-    unproductive-requires
+    verdict-on-requires
     enum-known-first
     enum-told
-    left-recursive-requires
+    verdict-on-requires-2
     returns
     returns-2)

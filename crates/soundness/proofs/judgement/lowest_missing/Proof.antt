@@ -1,26 +1,28 @@
 -- `soundness::judgement::lowest_missing` meets its contract.
 use borrow.Author.Needs.{needs}
-use mathlib.Core.Path.{_≡_, refl, ap, sym, _∙_}
+use mathlib.Core.Path.{_≡_, ap, sym, _∙_}
 use mathlib.Core.Bool.{not}
 use Prim.Native.Nat.{_≤_, _-_}
-use native.Mathlib.Nat.{sub-zero}
 use native.Mathlib.Omega.{arith}
 use Rattle.base.specs.Bits.{testBit}
 use Rattle.base.specs.Search.{lowestFrom}
-use Rattle.base.proofs.Lowest.{lowest-none, lowest-hit, lowest-miss}
+use Rattle.base.proofs.Lowest.{lowest-none, lowest-hit, lowest-begin, lowest-next}
 use Rattle.number.specs.declared.Refusal.the-variants.{Unproductive}
 use Rattle.soundness.specs.Check.{refuseAt}
 use Rattle.soundness.proofs.judgement.lowest_missing.Statement.{statement}
 use Rattle.soundness.proofs.judgement.lowest_missing.Tie as tie
 
 abbrev Inv-loop : tie.InvT-loop
-Inv-loop set n a₀ a = (a ≤ n) × (lowestFrom (λ a. not (testBit set a)) a (n - a) ≡ lowestFrom (λ a. not (testBit set a)) 0 n)
+Inv-loop set n left₀ left = (left ≤ n) × (lowestFrom (λ a. not (testBit set a)) (n - left) left ≡ lowestFrom (λ a. not (testBit set a)) 0 n)
 
 abbrev μ-loop : tie.MeasureT-loop
-μ-loop set n a₀ a = n - a
+μ-loop set n left₀ left = left
 
 loop-holds : tie.Need-loop-holds Inv-loop μ-loop
-loop-holds c = (omega arith, rw sub-zero refl)
+loop-holds c = (omega arith, lowest-begin _ _)
+
+sub-a : tie.Need-sub-a Inv-loop μ-loop
+sub-a c = search needs
 
 has-requires : tie.Need-has-requires Inv-loop μ-loop
 has-requires c κs = search needs
@@ -28,14 +30,14 @@ has-requires c κs = search needs
 returns : tie.Need-returns Inv-loop μ-loop
 returns c = ap (refuseAt Unproductive) (lowest-hit (λ a. not (testBit (c .before .before .before .before .args .set) a)) _ _ (c .before .before .before .loop .inv .1) (omega arith) (ap not (sym (c .before .has .ensures)) ∙ c .if1 .taken))
 
-add-a : tie.Need-add-a Inv-loop μ-loop
-add-a c = search needs
+sub-left : tie.Need-sub-left Inv-loop μ-loop
+sub-left c = search needs
 
 loop-less : tie.Need-loop-less Inv-loop μ-loop
 loop-less c = search needs
 
 loop-again : tie.Need-loop-again Inv-loop μ-loop
-loop-again c = (omega arith, ap (lowestFrom (λ a. not (testBit (c .before .before .before .before .args .set) a)) _) (omega arith) ∙ lowest-miss (λ a. not (testBit (c .before .before .before .before .args .set) a)) _ _ (c .before .before .before .loop .inv .1) (omega arith) (ap not (sym (c .before .has .ensures)) ∙ c .if1 .left))
+loop-again c = (omega arith, lowest-next (λ a. not (testBit (c .before .before .before .before .args .set) a)) _ _ (c .before .before .before .loop .inv .1) (omega arith) (omega arith) (ap not (sym (c .before .has .ensures)) ∙ c .if1 .left))
 
 returns-2 : tie.Need-returns-2 Inv-loop μ-loop
 returns-2 c = ap (refuseAt Unproductive) (lowest-none (λ a. not (testBit (c .before .before .args .set) a)) _ _ (c .before .loop .inv .1) (omega arith))
@@ -43,4 +45,14 @@ returns-2 c = ap (refuseAt Unproductive) (lowest-none (λ a. not (testBit (c .be
 pub lowest-missing-spec : {M : Type 1} → statement M
 lowest-missing-spec =
     tie.close
-    (tie.spec Inv-loop μ-loop loop-holds has-requires returns add-a loop-less loop-again returns-2)
+    (tie.spec
+    Inv-loop
+    μ-loop
+    loop-holds
+    sub-a
+    has-requires
+    returns
+    sub-left
+    loop-less
+    loop-again
+    returns-2)
