@@ -18,7 +18,14 @@ pub extern "C" fn allstar_check(grammar: &[u8], place: &mut u64) -> u32
 // Reads a note plainly. Answers document 01's number, 0 if the note was read, stores the place and the count of row entries, and leaves the row as the
 // plain reading does.
 #[no_mangle]
-pub extern "C" fn allstar_plain(grammar: &[u8], note: &[u16], row: &mut [u16], workspace: &mut [u32], place: &mut u64, count: &mut u64) -> u32
+pub extern "C" fn allstar_plain(
+    grammar: &[u8],
+    note: &[u16],
+    row: &mut [u16],
+    workspace: &mut [u32],
+    place: &mut u64,
+    count: &mut u64,
+) -> u32
     ensures { λ r. ⌜ answer r (now (place .exit)) (now (count .exit)) (now (row .exit)) ≡ plainReading (now (grammar .entry)) (now (note .entry)) (now (row .entry)) (length (now (workspace .entry))) ⌝ }
 {
     let reading = plain::plain(grammar, note, row, workspace);

@@ -58,7 +58,7 @@ module _ (p : ℕ → Bool) (i k : ℕ) {o : Option ℕ} (h : lowestFrom p i k �
       go zero l h = absurd (omega arith)
       go (suc k) l h = ap (λ (b : Bool). elim b as (λ _. Option ℕ) [ true ↦ some i | false ↦ lowestFrom p (suc i) k ]) (sym e) ∙ h
 
-  lowest-miss : 0 < k → p i ≡ false → lowestFrom p (i + 1) (k - 1) ≡ o
+  pub lowest-miss : 0 < k → p i ≡ false → lowestFrom p (i + 1) (k - 1) ≡ o
   unfolding lowestFrom
   lowest-miss l e = go k l h
     where

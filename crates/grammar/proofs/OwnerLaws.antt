@@ -1,7 +1,6 @@
 -- The places of a compiled grammar's productions have an owner, all others have none: so productions never run on past the last place, and begin at
 -- places of their own.
 use mathlib.Core.Path.{_≡_, refl, ap}
-use mathlib.Core.Logic.{_⊎_, inl, inr}
 use mathlib.Core.Option.{some}
 use mathlib.Core.List.{List, [], _∷_, _++_}
 use Prim.Native.Nat.{ℕ, zero, suc, _+_, _-_, _≤_, _<_}
@@ -12,8 +11,7 @@ use Rattle.base.proofs.Booleans.{clash}
 use Rattle.grammar.specs.Types.{Symbol, Token, Nonterminal, End, Place}
 use Rattle.grammar.specs.Limits.{maxPlaces, maxNonterminals, endPlace, endMark, nobody}
 use Rattle.grammar.specs.Decode.{Rules, Legal}
-use Rattle.grammar.specs.Grammar.{at, nowhere, facing, owner, first}
-use Rattle.grammar.specs.Grammar.{layOne, layEach, layAll, sizeAll, padded, compile, Limited}
+use Rattle.grammar.specs.Grammar.{at, nowhere, facing, owner, first, layOne, layEach, layAll, sizeAll, padded, compile, Limited}
 use Rattle.grammar.proofs.GrammarLaws.{first-below}
 use Rattle.grammar.proofs.CompileLaws.{length-all}
 use Rattle.grammar.proofs.OrderedLaws.{compile-ordered}

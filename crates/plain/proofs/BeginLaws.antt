@@ -8,7 +8,7 @@ use native.Mathlib.Numerals.{add-one}
 use native.Mathlib.Omega.{arith}
 use lib.Dec.{T}
 use Rattle.base.proofs.Booleans.{clash}
-use lib.ListN.{length, getD, take, set, length-set}
+use lib.ListN.{length, take, set, length-set}
 use Rattle.grammar.specs.Limits.{endPlace}
 use Rattle.grammar.specs.Grammar.{Grammar, first, compile}
 use Rattle.grammar.specs.Tables.{grammarIn, nonterminalsIn}
@@ -18,11 +18,11 @@ use Rattle.positions.specs.Positions.{emptySet, withOf}
 use Rattle.positions.proofs.SetLaws.{Fit}
 use Rattle.derivation.specs.Runs.{marked}
 use Rattle.derivation.specs.Cells.{derives?, runs?}
-use Rattle.derivation.specs.Machine.{lowest, Outcome, stuck, full, prefix, onCall, onChoice, run, reading}
+use Rattle.derivation.specs.Machine.{lowest, stuck, full, prefix, onCall, onChoice, run, reading}
 use Rattle.derivation.specs.Space.{frameWords, returnsOf, Pushed}
 use Rattle.derivation.specs.Ready.{Ready}
 use Rattle.derivation.proofs.Entries.{open-start}
-use Rattle.derivation.proofs.FrameWords.{Held, pushed-returns}
+use Rattle.derivation.proofs.FrameWords.{pushed-returns}
 use Rattle.derivation.proofs.ReadyLaws.{ready-ordered, ready-first}
 use Rattle.derivation.proofs.MarkedCells.{length-marked, derives-inside}
 use Rattle.chart.specs.Chart.{Lent, Charted}
@@ -31,7 +31,7 @@ use Rattle.plain.specs.Choice.{orZero, lowestIn}
 use Rattle.plain.specs.Machine.{Named, pushIf, ground, readingOf, Ran}
 use Rattle.plain.specs.Going.{after, steps, onward, Going}
 use Rattle.plain.proofs.StepLaws.{after-entry}
-use Rattle.plain.specs.declared.machine.Outcome.{Outcome as CodeOutcome}
+use Rattle.plain.specs.declared.machine.Outcome.{Outcome}
 use Rattle.plain.specs.declared.machine.Outcome.the-variants.{Stuck, Full}
 use Rattle.plain.proofs.GoingLaws.{reads, quiet}
 use Rattle.plain.proofs.ServingLaws.{lowest-is, serving-end}
@@ -148,7 +148,7 @@ module _ (t : List ℕ) (h : Ready t) (w ws : List ℕ) (fit : Fit ws) (lent : L
           rw (rows, z) x
 
 -- the rest of a run that began so is the whole
-pub begin-ran : (t w row ws : List ℕ) {row′ ws′ : List ℕ} {o : CodeOutcome} (k v : ℕ) {vs : List ℕ} → length vs ≡ length ws → Ran t w (set row k v) vs o row′ ws′ → Ran t w row ws o row′ ws′
+pub begin-ran : (t w row ws : List ℕ) {row′ ws′ : List ℕ} {o : Outcome} (k v : ℕ) {vs : List ℕ} → length vs ≡ length ws → Ran t w (set row k v) vs o row′ ws′ → Ran t w row ws o row′ ws′
 begin-ran t w row ws k v e x =
     record {
       outcome = x .outcome ∙ ap (readingOf t w) (length-set row k v);

@@ -2,7 +2,7 @@
 use mathlib.Core.Path.{_≡_, refl, sym, ap, _∙_}
 use mathlib.Core.Bool.{Bool}
 use mathlib.Core.Option.{Option, none, some}
-use mathlib.Core.List.{List, [], _∷_}
+use mathlib.Core.List.{List, []}
 use Prim.Native.Nat.{ℕ, zero, suc, _+_, _-_, _*_, _≤_, _<_}
 use native.Mathlib.Numerals.{add-one}
 use native.Mathlib.Omega.{arith}
@@ -12,28 +12,23 @@ use lib.Seq.{length-slice}
 use Rattle.base.specs.Search.{lowestFrom, LowestIs, this, nothing}
 use Rattle.base.proofs.Booleans.{clash}
 use Rattle.base.proofs.Lowest as search
-use Rattle.grammar.specs.declared.Symbol.the-variants.{Nonterminal, End}
-use Rattle.grammar.specs.Limits.{endPlace, endMark}
-use Rattle.grammar.specs.Grammar.{facing, alternatives, first}
+use Rattle.grammar.specs.Grammar.{alternatives, first}
 use Rattle.grammar.specs.Tables.{tableWords, grammarIn, nonterminalsIn, ruleAt}
 use Rattle.grammar.proofs.GrammarLaws.{first-below}
 use Rattle.grammar.proofs.WordLaws.{length-starts-in}
-use Rattle.positions.specs.Positions.{positionCount, member}
 use Rattle.positions.specs.Words.{setAt}
 use Rattle.positions.proofs.SetLaws.{Fit}
 use Rattle.derivation.specs.Runs.{marked}
-use Rattle.derivation.specs.Cells.{derives?, runs?}
 use Rattle.derivation.specs.Machine.{Serves, lowest}
-use Rattle.derivation.specs.Space.{frameWords, spareWords, returnsOf, Pushed}
+use Rattle.derivation.specs.Space.{frameWords, spareWords, returnsOf}
 use Rattle.derivation.specs.Ready.{Ready}
 use Rattle.derivation.proofs.Notes.{get-lt}
-use Rattle.derivation.proofs.FrameWords.{Held, returns-length}
 use Rattle.derivation.proofs.LowestLaws.{lowest-serves}
 use Rattle.derivation.proofs.MarkedCells.{get-mark, get-note, derives-inside}
-use Rattle.derivation.proofs.ReadyLaws.{ready-first, ready-call, ready-next, ready-size}
-use Rattle.chart.specs.Chart.{Lent, LentAt, Charted, EndsOf}
+use Rattle.derivation.proofs.ReadyLaws.{ready-first, ready-call, ready-next}
+use Rattle.chart.specs.Chart.{Lent, LentAt, EndsOf}
 use Rattle.chart.proofs.GatherLaws.{get-some, rule-within, rules-are, first-at}
-use Rattle.plain.specs.Frames.{frameHas, Serving, pushOf}
+use Rattle.plain.specs.Frames.{Serving, pushOf}
 use Rattle.plain.specs.Choice.{Leading, endsIn, orZero, lowestIn}
 use Rattle.plain.specs.Machine.{Named, Roomy, pushIf, ground, waiting, Called}
 use Rattle.plain.specs.Waiting.{Waiting}

@@ -2,10 +2,9 @@
 use mathlib.Core.Path.{_≡_, refl, sym, ap, _∙_}
 use mathlib.Core.Bool.{Bool, true, false, _&&_, _||_}
 use mathlib.Core.Logic.{inl, inr}
-use mathlib.Core.Option.{Option, none, some}
+use mathlib.Core.Option.{none}
 use mathlib.Core.List.{List}
-use Prim.Native.Nat.{ℕ, zero, suc, _+_, _-_, _*_, _≤_, _<_}
-use native.Mathlib.Numerals.{add-one}
+use Prim.Native.Nat.{ℕ, suc, _+_, _-_, _≤_, _<_}
 use native.Mathlib.Omega.{arith}
 use native.Mathlib.Decide.{decLt}
 use lib.Dec.{eqb}
@@ -96,6 +95,9 @@ module _ (t ws : List ℕ) (a i : ℕ) (s : List ℕ) where
 
   pub Seeking : ℕ → ℕ → ℕ → Type 0
   Seeking from to k = lowestFrom test (suc (k - from)) (to - k) ≡ lowestFrom test 0 (suc (length (alternatives (grammarIn t) a)))
+
+  pub seeking-at : (from to k k′ : ℕ) → k ≡ k′ → Seeking from to k → Seeking from to k′
+  seeking-at from to k k′ e x = rw e at x
 
   module _ (h : Ready t) (named : a < nonterminalsIn t) {from to : ℕ} (p : from ≡ ruleAt t a) (q : to ≡ ruleAt t (a + 1)) where
     pub seeking-begins : Seeking from to from

@@ -1,16 +1,16 @@
 -- How a reading ends: the sentence test, and the answer for each way in which the machine stops; and the refusals before it.
 use mathlib.Core.Path.{_≡_, refl, sym, ap, _∙_}
-use mathlib.Core.Bool.{Bool, true, false, cond, not}
+use mathlib.Core.Bool.{Bool, true, false, not}
 use mathlib.Core.Option.{Option, none, some}
 use mathlib.Core.List.{List, [], _∷_, _++_}
 use Prim.Native.Nat.{ℕ, zero, suc, _+_, _-_, _*_, _≤_, _<_}
 use native.Mathlib.Nat.{mul-le-mul-right}
 use native.Mathlib.Numerals.{add-one}
 use native.Mathlib.Omega.{arith}
-use lib.Dec.{T, ltb, eqb}
+use lib.Dec.{eqb}
 use lib.ListN.{length, take, replicate}
 use lib.Seq.{length-take-le}
-use borrow.Author.Tests.{lt-ltb, le-ltb, eq-eqb, ne-eqb}
+use borrow.Author.Tests.{lt-ltb, le-ltb, ne-eqb}
 use Rattle.base.proofs.Booleans.{clash, same}
 use Rattle.base.proofs.Lists.{anyOf-T, T-anyOf}
 use Rattle.base.specs.Search.{LowestIs, this, nothing}
@@ -18,7 +18,7 @@ use Rattle.number.specs.declared.Refusal.{Refusal}
 use Rattle.number.specs.Refusals.{refusalNumber, refusalPlace}
 use Rattle.grammar.specs.Limits.{endPlace, maxPlaces}
 use Rattle.grammar.specs.Decode.{Rules, Mark, Parsed, got, refused, decode}
-use Rattle.grammar.specs.Grammar.{Grammar, alternatives, first, compile}
+use Rattle.grammar.specs.Grammar.{Grammar, alternatives, compile}
 use Rattle.grammar.specs.Tables.{grammarIn}
 use Rattle.grammar.proofs.GrammarLaws.{first-pos}
 use Rattle.soundness.specs.declared.judgement.Verdict.{Verdict}
@@ -31,7 +31,7 @@ use Rattle.derivation.specs.Runs.{marked}
 use Rattle.derivation.specs.Cells.{runs?}
 use Rattle.derivation.specs.Machine as machine
 use Rattle.derivation.specs.Space.{maxTokens, spaceWords}
-use Rattle.derivation.specs.Plain.{Answer, refuse, clear, firstUnknown, sentence?, onOutcome, readNote, orUnknown, from11, from9, from8, onVerdict, onRules, plainReading}
+use Rattle.derivation.specs.Plain.{Answer, refuse, clear, firstUnknown, sentence?, onOutcome, readNote, orUnknown, from11, from9, from8, onRules, plainReading}
 use Rattle.derivation.specs.ReachRounds.{wrongPlace}
 use Rattle.derivation.specs.Ready.{Ready}
 use Rattle.derivation.proofs.CellLaws.{runs-iff}
@@ -39,11 +39,10 @@ use Rattle.derivation.proofs.LowestLaws.{lowest-serves}
 use Rattle.derivation.proofs.ReadyLaws.{ready}
 use Rattle.chart.specs.Chart.{Lent, Charted}
 use Rattle.plain.specs.Choice.{orZero, lowestIn}
-use Rattle.plain.specs.Machine.{outcomeIn, Counted, readingOf, Ran}
+use Rattle.plain.specs.Machine.{outcomeIn, Ran}
 use Rattle.plain.specs.Reading.{answered, tokensOf}
 use Rattle.plain.specs.declared.machine.Outcome.{Outcome}
-use Rattle.plain.specs.declared.machine.Outcome.the-variants.{Accepted, Stuck, Full}
-use Rattle.plain.specs.declared.reading.Reading.{Reading}
+use Rattle.plain.specs.declared.machine.Outcome.the-variants.{Accepted}
 use Rattle.plain.specs.declared.reading.Reading.the-variants
 use Rattle.plain.specs.declared.tokens.Tokens.{Tokens}
 use Rattle.plain.specs.declared.tokens.Tokens.the-variants.{Known, Unknown}

@@ -1,9 +1,9 @@
 -- The machine's loop: what it keeps from turn to turn, and how it ends.
 use mathlib.Core.Path.{_≡_, refl, sym, ap, _∙_}
 use mathlib.Core.Bool.{false}
-use mathlib.Core.Option.{Option, none, some}
+use mathlib.Core.Option.{none, some}
 use mathlib.Core.List.{List, [], _∷_}
-use Prim.Native.Nat.{ℕ, zero, suc, _+_, _-_, _*_, _≤_, _<_}
+use Prim.Native.Nat.{ℕ, suc, _+_, _-_, _*_, _≤_, _<_}
 use native.Mathlib.Nat.{mul-comm}
 use native.Mathlib.Omega.{arith}
 use lib.Dec.{T}
@@ -11,15 +11,14 @@ use lib.ListN.{length, getD, getElem?, take, set, length-set}
 use Rattle.base.proofs.Booleans.{clash}
 use Rattle.grammar.specs.declared.Symbol.the-variants.{Token, Nonterminal, End}
 use Rattle.grammar.specs.Limits.{endPlace}
-use Rattle.grammar.specs.Grammar.{Grammar, facing, admits, first, compile}
+use Rattle.grammar.specs.Grammar.{Grammar, facing, admits, first}
 use Rattle.grammar.specs.Tables.{grammarIn}
 use Rattle.soundness.specs.Textbook.{LeftRecursive}
-use Rattle.positions.specs.Positions.{positionCount}
 use Rattle.derivation.specs.Runs.{marked}
 use Rattle.derivation.specs.Cells.{derives?, runs?}
-use Rattle.derivation.specs.Machine.{lowest, Outcome, accepted, stuck, full, prefix, run}
+use Rattle.derivation.specs.Machine.{lowest, Outcome, accepted, stuck, full}
 use Rattle.derivation.specs.Steps.{Quiet, Reads}
-use Rattle.derivation.specs.Space.{maxTokens, spaceWords, cellWords, frameWords, spareWords, returnsOf, Pushed}
+use Rattle.derivation.specs.Space.{frameWords, spareWords, returnsOf, Pushed}
 use Rattle.derivation.specs.Ready.{Ready}
 use Rattle.derivation.proofs.Entries.{Open, Below}
 use Rattle.derivation.proofs.CompiledDepth.{end-quiet, compile-reads}
@@ -27,12 +26,11 @@ use Rattle.derivation.proofs.FrameWords.{Held, held-pop, held-match, held-pick,
 use Rattle.derivation.proofs.ReadyLaws.{ready-ordered, ready-call}
 use Rattle.derivation.proofs.MarkedCells.{length-marked}
 use Rattle.chart.specs.Chart.{Lent, Charted}
-use Rattle.plain.specs.Frames.{frameHas, Good}
+use Rattle.plain.specs.Frames.{frameHas}
 use Rattle.plain.specs.Machine.{ground}
 use Rattle.plain.specs.Going.{after, steps, onward, Going}
 use Rattle.plain.proofs.GoodLaws.{good-match, good-pop, good-push}
-use Rattle.plain.proofs.StepLaws.{after-accepted, after-stuck, after-full, after-entry}
-use Rattle.plain.proofs.StepLaws.{run-end, run-match, run-none, run-other, run-full, run-unserved, run-pick, run-nothing, run-left}
+use Rattle.plain.proofs.StepLaws.{after-accepted, after-stuck, after-full, after-entry, run-end, run-match, run-none, run-other, run-full, run-unserved, run-pick, run-nothing, run-left}
 
 -- ---- what the machine's states say of a place that calls
 module _ {g : Grammar} where

@@ -1,5 +1,5 @@
 -- The frames' sets stay right with every step of the machine.
-use mathlib.Core.Path.{_≡_, refl, sym, ap, _∙_}
+use mathlib.Core.Path.{_≡_, sym, ap, _∙_}
 use mathlib.Core.Option.{some}
 use mathlib.Core.List.{List, _∷_}
 use Prim.Native.Nat.{ℕ, zero, suc, _+_, _*_, _/_, _%_, _≤_, _<_}
@@ -17,7 +17,7 @@ use Rattle.derivation.specs.Space.{frameWords, returnsOf, Pushed}
 use Rattle.derivation.proofs.CellLaws.{derives-sound, derives-complete}
 use Rattle.derivation.proofs.RunLaws.{der-in}
 use Rattle.derivation.proofs.FrameWords.{returns-same, pushed-returns}
-use Rattle.plain.specs.Frames.{frameHas, Good, Serving}
+use Rattle.plain.specs.Frames.{frameHas, Good}
 
 module _ (g : Grammar) (w : List ℕ) (base : ℕ) where
   derives-end : (p i : ℕ) → facing g p ≡ End → i ≤ length w → T (derives? g w p i i)

@@ -1,17 +1,17 @@
 -- A frame that is pushed: its return place and its set stand there, and everything below stays, the cells too.
-use mathlib.Core.Path.{_≡_, refl, sym, ap, _∙_}
-use mathlib.Core.Logic.{inl, inr}
+use mathlib.Core.Path.{_≡_, ap, _∙_}
+use mathlib.Core.Logic.{inl}
 use mathlib.Core.List.{List}
-use Prim.Native.Nat.{ℕ, suc, _+_, _-_, _*_, _/_, _%_, _≤_, _<_}
+use Prim.Native.Nat.{ℕ, suc, _+_, _*_, _/_, _%_, _≤_, _<_}
 use native.Mathlib.Nat.{mul-le-mul-right, suc-mul}
 use native.Mathlib.Omega.{arith}
 use lib.ListN.{length, getD, set, length-set}
 use lib.Seq.{getD-set-same, getD-set-other}
 use Rattle.base.specs.Bits.{testBit}
 use Rattle.grammar.specs.Tables.{grammarIn}
-use Rattle.positions.specs.Positions.{positionCount, setWords, member}
+use Rattle.positions.specs.Positions.{positionCount, member}
 use Rattle.positions.specs.Words.{memberAt, putAt}
-use Rattle.positions.proofs.WordLaws.{length-put, put-word, put-same, put-other}
+use Rattle.positions.proofs.WordLaws.{length-put, put-word, put-same}
 use Rattle.derivation.specs.Space.{frameWords, Pushed}
 use Rattle.chart.specs.Chart.{spot, cellsEnd, cellHas, ChartedFrom, Charted}
 use Rattle.plain.specs.Frames.{frameHas, pushOf}

@@ -1,13 +1,12 @@
 -- The machine's loop turn by turn, as the code has it, and its ways out.
-use mathlib.Core.Path.{_≡_, refl, sym, ap, _∙_}
+use mathlib.Core.Path.{_≡_, refl, sym, _∙_}
 use mathlib.Core.Option.{none, some}
 use mathlib.Core.List.{List, [], _∷_}
 use Prim.Native.Nat.{ℕ, zero, suc, _+_, _-_, _*_, _≤_, _<_}
 use native.Mathlib.Numerals.{add-one}
 use native.Mathlib.Omega.{arith}
 use native.Mathlib.Decide.{decLt}
-use lib.Dec.{T}
-use lib.ListN.{length, getD, getElem?, take, set}
+use lib.ListN.{length, getD, getElem?, set}
 use borrow.Author.Tests.{ne-eqb}
 use Rattle.base.proofs.Booleans.{clash}
 use Rattle.grammar.specs.declared.Symbol.the-variants.{Token, Nonterminal, End}

@@ -3,30 +3,28 @@ use mathlib.Core.Path.{_≡_, refl, sym, ap, _∙_}
 use mathlib.Core.Bool.{Bool, _&&_, _||_}
 use mathlib.Core.Option.{Option, none, some}
 use mathlib.Core.List.{List, [], _∷_}
-use Prim.Native.Nat.{ℕ, zero, suc, _+_, _-_, _*_, _≤_, _<_}
+use Prim.Native.Nat.{ℕ, suc, _+_, _-_, _*_, _≤_, _<_}
 use native.Mathlib.Omega.{arith}
 use lib.Dec.{T, eqb, eqb→eq, eqb-refl}
-use lib.ListN.{length, getD, getElem?}
-use Rattle.base.specs.Rounds.{anyOf}
-use Rattle.base.specs.Search.{lowestFrom}
+use lib.ListN.{length}
 use Rattle.base.proofs.Booleans.{clash, and-T, T-and, same}
 use Rattle.base.proofs.Lists.{anyOf-T, T-anyOf, upFrom-get}
 use Rattle.base.proofs.Lowest.{lowest-same}
-use Rattle.grammar.specs.declared.Symbol.the-variants.{Token, Nonterminal, End}
+use Rattle.grammar.specs.declared.Symbol.the-variants.{Nonterminal}
 use Rattle.grammar.specs.Limits.{endPlace, endMark}
 use Rattle.grammar.specs.Grammar.{Grammar, facing, alternatives, first}
 use Rattle.grammar.specs.Tables.{grammarIn}
 use Rattle.grammar.proofs.GrammarLaws.{first-pos, admits-self}
-use Rattle.positions.specs.Positions.{positionCount, setWords, member, emptySet, withOf, meetsOf}
-use Rattle.positions.specs.Words.{memberAt, setAt}
+use Rattle.positions.specs.Positions.{member, emptySet, withOf, meetsOf}
+use Rattle.positions.specs.Words.{setAt}
 use Rattle.positions.proofs.SetLaws.{Fit, meets-out, meets-in, member-with, member-empty}
 use Rattle.positions.proofs.WordLaws.{member-set, fit-at}
-use Rattle.derivation.specs.Runs.{Der, Run, marked}
+use Rattle.derivation.specs.Runs.{Run, marked}
 use Rattle.derivation.specs.Cells.{cuts, derives?, runs?}
 use Rattle.derivation.specs.Machine.{serves?, lowest}
 use Rattle.derivation.specs.Space.{maxTokens, frameWords, returnsOf}
 use Rattle.derivation.specs.Ready.{Ready}
-use Rattle.derivation.proofs.CellLaws.{derives-sound, derives-complete, runs-iff}
+use Rattle.derivation.proofs.CellLaws.{derives-sound, runs-iff}
 use Rattle.derivation.proofs.RunLaws.{der-le, der-in, run-token, run-end, run-empty}
 use Rattle.derivation.proofs.ReadyLaws.{ready-first, ready-next, ready-call, ready-ordered}
 use Rattle.derivation.proofs.MarkedCells.{length-marked, get-mark, derives-inside, derives-marked}

@@ -1,18 +1,17 @@
 -- The search for a token that the grammar does not know, and rows that are cleared.
-use mathlib.Core.Path.{_≡_, refl, sym, ap, _∙_}
+use mathlib.Core.Path.{_≡_, refl, ap, _∙_}
 use mathlib.Core.Bool.{Bool, true, false, not, _&&_}
 use mathlib.Core.List.{List, [], _∷_, _++_}
 use Prim.Native.Nat.{ℕ, zero, suc, _+_, _-_, _≤_, _<_}
 use native.Mathlib.Numerals.{add-one}
 use native.Mathlib.Omega.{arith}
 use lib.Dec.{leb}
-use lib.ListN.{length, getD, set, take, replicate, length-set}
+use lib.ListN.{length, getD, set, take, replicate}
 use borrow.Author.Tests.{le-leb, lt-leb}
 use Rattle.base.specs.Search.{lowestFrom}
 use Rattle.base.proofs.Lowest.{lowest-none, lowest-hit, lowest-miss}
 use Rattle.derivation.specs.Plain.{known?, firstUnknown}
 use Rattle.plain.specs.Reading.{tokensOf}
-use Rattle.plain.specs.declared.tokens.Tokens.{Tokens}
 use Rattle.plain.specs.declared.tokens.Tokens.the-variants.{Known, Unknown}
 
 -- ---- the search: position i is the next

@@ -6,7 +6,7 @@ use mathlib.Core.List.{List}
 use Prim.Native.Nat.{ℕ, suc, _≤_}
 use lib.ListN.{length}
 use Rattle.base.specs.Search.{lowestFrom}
-use Rattle.grammar.specs.Grammar.{Grammar, alternatives, first}
+use Rattle.grammar.specs.Grammar.{alternatives, first}
 use Rattle.grammar.specs.Tables.{grammarIn}
 use Rattle.positions.specs.Positions.{member, meetsOf}
 use Rattle.positions.specs.Words.{setAt}

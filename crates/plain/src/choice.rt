@@ -32,20 +32,22 @@ pub fn serving(
     r
 }
 
-// The lowest alternative of a by which a position in s is come to from i, counted from 1; 0 if there is none.
+// The lowest alternative of a by which a position in s is come to from i, counted from 1; 0 if there is none. `left` counts those not yet looked at, on
+// top of `start`.
 pub fn lowest(tables: &[u16], ws: &[u32], places: usize, a: usize, i: usize, s: Positions) -> usize
     requires { ⌜ Ready (now tables) × (places ≡ grammarIn (now tables) .size) × LentAt places i (now ws) × (a < nonterminalsIn (now tables)) ⌝ }
     ensures { λ r. ⌜ r ≡ lowestIn (now (tables .entry)) (now (ws .entry)) a i (s .words) ⌝ }
 {
     let start = grammar::rule_at(tables, a);
     let end = grammar::rule_at(tables, a + 1);
-    let mut k = start;
-    while k < end {
+    let mut left = end;
+    while start < left {
+        let k = start + (end - left);
         let f = grammar::first_place(tables, k);
         let t = chart::cell(ws, places, f, i);
-        k += 1;
+        left -= 1;
         if t.meets(s) {
-            return k - start;
+            return k + 1 - start;
         }
     }
     0

@@ -1,7 +1,6 @@
 -- `grammar::kinds` meets its contract.
 use borrow.Author.Needs.{needs}
 use Rattle.grammar.specs.Tables.{grammarIn}
-use borrow.Author.Needs.{needs}
 use Rattle.grammar.proofs.kinds.Statement.{statement}
 use Rattle.grammar.proofs.kinds.Tie as tie
 

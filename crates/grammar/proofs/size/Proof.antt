@@ -1,7 +1,6 @@
 -- `grammar::size` meets its contract.
 use borrow.Author.Needs.{needs}
 use Rattle.grammar.specs.Tables.{grammarIn}
-use borrow.Author.Needs.{needs}
 use Rattle.grammar.proofs.size.Statement.{statement}
 use Rattle.grammar.proofs.size.Tie as tie
 

@@ -1,6 +1,5 @@
+-- `plain::choice::serving` meets its contract.
 use Rattle.chart.proofs.ThroughLaws.{next-behind}
-use mathlib.Core.Path.{refl}
-use lib.ListN.{length-set}
 use Prim.Native.Nat.{_-_}
 use native.Mathlib.Omega.{arith}
 use borrow.Author.Needs.{needs}
@@ -8,13 +7,6 @@ use Rattle.chart.proofs.Spots.{spot-in}
 use Rattle.plain.proofs.ChoiceLoops.{Keeping, keeping-begins, keeping-with, keeping-same, keeping-ends}
 use Rattle.plain.proofs.choice.serving.Statement.{statement}
 use Rattle.plain.proofs.choice.serving.Tie as tie
-use Rattle.plain.proofs.choice.serving.Reads as reads
-use Rattle.plain.proofs.choice.serving.Lts as lts
-use Rattle.chart.proofs.cell.Reads as cell-reads
-use Rattle.positions.proofs.Positions.empty.Reads as empty-reads
-use Rattle.positions.proofs.Positions.meets.Reads as meets-reads
-use Rattle.positions.proofs.Positions.with.Reads as with-reads
-use Rattle.positions.proofs.next.Reads as next-reads
 
 abbrev Inv-loop : tie.InvT-loop
 Inv-loop ws places n ends q rest r₀ m₀ r m = Keeping places ws n (ends .words) q (rest .words) m (r .words)
@@ -22,55 +14,42 @@ Inv-loop ws places n ends q rest r₀ m₀ r m = Keeping places ws n (ends .word
 abbrev μ-loop : tie.MeasureT-loop
 μ-loop ws places n ends q rest r₀ m₀ r m = 161 - m
 
--- src/choice.rt:15:9
 empty-requires : tie.Need-empty-requires Inv-loop μ-loop
 empty-requires c κs = search needs
 
--- src/choice.rt:16:9
 next-requires : tie.Need-next-requires Inv-loop μ-loop
 next-requires c κs = search needs
 
--- src/choice.rt:17:5
 loop-holds : tie.Need-loop-holds Inv-loop μ-loop
 loop-holds c = keeping-begins _ _ _ _ _ _ _ (c .before .empty .ensures) (c .next .ensures)
 
--- src/choice.rt:18:13
 cell-requires : tie.Need-cell-requires Inv-loop μ-loop
 cell-requires c κs = spot-in _ _ _ _ _ (c .before .before .before .before .before .pre .0) (c .before .before .before .before .before .pre .1) (c .loop-test .taken)
 
--- src/choice.rt:20:35
 add-next : tie.Need-add-next Inv-loop μ-loop
 add-next c = search needs
 
--- src/choice.rt:20:9
 next-requires-2 : tie.Need-next-requires-2 Inv-loop μ-loop
 next-requires-2 c κs = search needs
 
--- src/choice.rt:21:12
 meets-requires : tie.Need-meets-requires Inv-loop μ-loop
 meets-requires c κs = search needs
 
--- src/choice.rt:22:13
 with-requires : tie.Need-with-requires Inv-loop μ-loop
 with-requires c κs = search needs
 
--- src/choice.rt:17:5
 loop-less : tie.Need-loop-less Inv-loop μ-loop
 loop-less c = let h = next-behind _ _ _ (c .before .before .before .next2 .ensures) (omega (arith, c .before .before .before .before .before .before .before .before .before .before .pre .0 .short)) in omega (arith, c .before .before .before .next2 .ensures .most)
 
--- src/choice.rt:17:5
 loop-again : tie.Need-loop-again Inv-loop μ-loop
 loop-again c = keeping-with _ _ _ _ _ _ (omega (arith, c .before .before .before .before .before .before .before .before .before .before .pre .0 .short)) _ _ (c .before .before .before .before .before .before .loop .inv) (c .before .before .before .before .before .loop-test .taken) (c .before .before .before .next2 .ensures) (c .before .before .before .before .cell .ensures) (c .before .before .meets .ensures) (c .before .if1 .taken) (c .with .ensures)
 
--- src/choice.rt:17:5
 loop-less-2 : tie.Need-loop-less-2 Inv-loop μ-loop
 loop-less-2 c = let h = next-behind _ _ _ (c .before .before .next2 .ensures) (omega (arith, c .before .before .before .before .before .before .before .before .before .pre .0 .short)) in omega (arith, c .before .before .next2 .ensures .most)
 
--- src/choice.rt:17:5
 loop-again-2 : tie.Need-loop-again-2 Inv-loop μ-loop
 loop-again-2 c = keeping-same _ _ _ _ _ _ (omega (arith, c .before .before .before .before .before .before .before .before .before .pre .0 .short)) _ _ (c .before .before .before .before .before .loop .inv) (c .before .before .before .before .loop-test .taken) (c .before .before .next2 .ensures) (c .before .before .before .cell .ensures) (c .before .meets .ensures) (c .if1 .left)
 
--- src/choice.rt:11:1
 returns : tie.Need-returns Inv-loop μ-loop
 returns c = keeping-ends _ _ _ _ _ _ _ (c .before .loop .inv) (omega arith)
 

@@ -1,6 +1,7 @@
+-- `plain::machine::go` meets its contract.
 use Rattle.grammar.proofs.WordLaws.{facing-of}
 use Rattle.plain.proofs.RanLaws.{place-small, called-named, called-small, going-frames, going-waits, turn-match, turn-pick, turn-pop, out-none, out-other, out-full, out-unserved, out-accepted, out-left}
-use mathlib.Core.Path.{_≡_, refl, _∙_}
+use mathlib.Core.Path.{_≡_, _∙_}
 use Prim.Native.Nat.{suc, _+_, _-_, _*_}
 use native.Mathlib.Omega.{arith}
 use lib.ListN.{length, length-set}
@@ -9,14 +10,6 @@ use Rattle.plain.specs.Machine.{readingOf}
 use Rattle.plain.specs.Going.{Going}
 use Rattle.plain.proofs.machine.go.Statement.{statement}
 use Rattle.plain.proofs.machine.go.Tie as tie
-use Rattle.plain.proofs.machine.go.Reads as reads
-use Rattle.plain.proofs.machine.go.Lts as lts
-use Rattle.base.proofs.narrow.Reads as narrow-reads
-use Rattle.grammar.proofs.place_at.Reads as place-at-reads
-use Rattle.plain.proofs.frames.return_place.Reads as return-place-reads
-use Rattle.plain.proofs.machine.call.Reads as call-reads
-use Rattle.plain.proofs.machine.first.Reads as first-reads
-use Rattle.plain.proofs.machine.token_at.Reads as token-at-reads
 
 abbrev Inv-loop : tie.InvT-loop
 Inv-loop tables note row₀ ws₀ places base start n count₀ p₀ i₀ d₀ row ws count p i d =
@@ -25,171 +18,129 @@ Inv-loop tables note row₀ ws₀ places base start n count₀ p₀ i₀ d₀ ro
 abbrev μ-loop : tie.MeasureT-loop
 μ-loop tables note row₀ ws₀ places base start n count₀ p₀ i₀ d₀ row ws count p i d = 2 * (length row - count) + (suc n - i) + d
 
--- src/machine.rt:81:5
 loop-holds : tie.Need-loop-holds Inv-loop μ-loop
 loop-holds c = search needs
 
--- src/machine.rt:82:13
 place-at-requires : tie.Need-place-at-requires Inv-loop μ-loop
 place-at-requires c κs = search needs
 
--- src/machine.rt:86:20
 enum-told : tie.Need-enum-told Inv-loop μ-loop
 enum-told c = search needs
 
--- src/machine.rt:87:29
 add-if2 : tie.Need-add-if2 Inv-loop μ-loop
 add-if2 c = search needs
 
--- src/machine.rt:88:25
 same-length : tie.Need-same-length Inv-loop μ-loop
 same-length c = search needs
 
--- src/machine.rt:88:25
 same-length-2 : tie.Need-same-length-2 Inv-loop μ-loop
 same-length-2 c = search needs
 
--- src/machine.rt:88:25
 returns : tie.Need-returns Inv-loop μ-loop
 returns c = out-accepted _ (c .before .before .before .before .before .before .before .before .before .before .pre .0) _ (c .before .before .before .before .before .loop .inv .0) (c .before .before .before .before .before .loop .inv .1) (c .before .before .before .before .before .loop .inv .2) (c .before .if1 .taken) (facing-of _ _ (c .before .before .before .before .place-at .ensures) (c .before .before .enum-told .given .1)) (c .if2 .taken)
 
--- src/machine.rt:90:21
 same-length-3 : tie.Need-same-length-3 Inv-loop μ-loop
 same-length-3 c = search needs
 
--- src/machine.rt:90:21
 same-length-4 : tie.Need-same-length-4 Inv-loop μ-loop
 same-length-4 c = search needs
 
--- src/machine.rt:90:21
 returns-2 : tie.Need-returns-2 Inv-loop μ-loop
 returns-2 c = out-left _ (c .before .before .before .before .before .before .before .before .before .before .pre .0) _ (c .before .before .before .before .before .loop .inv .0) (c .before .before .before .before .before .loop .inv .1) (c .before .before .before .before .before .loop .inv .2) (c .before .if1 .taken) (facing-of _ _ (c .before .before .before .before .place-at .ensures) (c .before .before .enum-told .given .1)) (c .if2 .left)
 
--- src/machine.rt:92:17
 sub-d : tie.Need-sub-d Inv-loop μ-loop
 sub-d c = search needs
 
--- src/machine.rt:93:17
 return-place-requires : tie.Need-return-place-requires Inv-loop μ-loop
 return-place-requires c κs = let z = going-frames _ (c .before .before .before .before .before .before .before .before .before .before .pre .0) _ (c .before .before .before .before .before .loop .inv .0) in omega (arith, c .before .before .before .before .before .before .before .before .before .before .pre .2)
 
--- src/machine.rt:81:5
 loop-less : tie.Need-loop-less Inv-loop μ-loop
 loop-less c = search needs
 
--- src/machine.rt:81:5
 loop-again : tie.Need-loop-again Inv-loop μ-loop
 loop-again c = (turn-pop _ (c .before .before .before .before .before .before .before .before .before .before .before .pre .0) _ (c .before .before .before .before .before .before .loop .inv .0) (c .before .before .if1 .left) (facing-of _ _ (c .before .before .before .before .before .place-at .ensures) (c .before .before .before .enum-told .given .1)) (c .before .before .before .before .before .before .before .before .before .before .before .pre .2) (c .return-place .ensures), c .before .before .before .before .before .before .loop .inv .1, c .before .before .before .before .before .before .loop .inv .2)
 
--- src/machine.rt:95:27
 enum-known-symbol : tie.Need-enum-known-symbol Inv-loop μ-loop
 enum-known-symbol c = search needs
 
--- src/machine.rt:97:21
 same-length-5 : tie.Need-same-length-5 Inv-loop μ-loop
 same-length-5 c = search needs
 
--- src/machine.rt:97:21
 same-length-6 : tie.Need-same-length-6 Inv-loop μ-loop
 same-length-6 c = search needs
 
--- src/machine.rt:97:21
 returns-3 : tie.Need-returns-3 Inv-loop μ-loop
 returns-3 c = out-none _ (c .before .before .before .before .before .before .before .before .before .before .pre .0) _ (c .before .before .before .before .before .loop .inv .0) (c .before .before .before .before .before .loop .inv .1) (c .before .before .before .before .before .loop .inv .2) (facing-of _ _ (c .before .before .before .before .place-at .ensures) (c .before .before .symbol .given .1)) (c .if3 .taken)
 
--- src/machine.rt:99:21
 token-at-requires : tie.Need-token-at-requires Inv-loop μ-loop
 token-at-requires c κs = search needs
 
--- src/machine.rt:101:21
 same-length-7 : tie.Need-same-length-7 Inv-loop μ-loop
 same-length-7 c = search needs
 
--- src/machine.rt:101:21
 same-length-8 : tie.Need-same-length-8 Inv-loop μ-loop
 same-length-8 c = search needs
 
--- src/machine.rt:101:21
 returns-4 : tie.Need-returns-4 Inv-loop μ-loop
 returns-4 c = out-other _ (c .before .before .before .before .before .before .before .before .before .before .before .before .pre .0) _ (c .before .before .before .before .before .before .before .loop .inv .0) (c .before .before .before .before .before .before .before .loop .inv .1) (c .before .before .before .before .before .before .before .loop .inv .2) (facing-of _ _ (c .before .before .before .before .before .before .place-at .ensures) (c .before .before .before .before .symbol .given .1)) (c .before .token-at .ensures) (c .if4 .taken)
 
--- src/machine.rt:103:17
 add-p : tie.Need-add-p Inv-loop μ-loop
 add-p c = omega (arith, place-small (c .before .before .before .before .before .before .before .before .before .before .before .before .args .tables .now) (c .before .before .before .before .before .before .before .loop .p) (facing-of _ _ (c .before .before .before .before .before .before .place-at .ensures) (c .before .before .before .before .symbol .given .1)))
 
--- src/machine.rt:104:17
 add-i : tie.Need-add-i Inv-loop μ-loop
 add-i c = search needs
 
--- src/machine.rt:81:5
 loop-less-2 : tie.Need-loop-less-2 Inv-loop μ-loop
 loop-less-2 c = search needs
 
--- src/machine.rt:81:5
 loop-again-2 : tie.Need-loop-again-2 Inv-loop μ-loop
 loop-again-2 c = (turn-match _ (c .before .before .before .before .before .before .before .before .before .before .before .before .pre .0) _ (c .before .before .before .before .before .before .before .loop .inv .0) (facing-of _ _ (c .before .before .before .before .before .before .place-at .ensures) (c .before .before .before .before .symbol .given .1)) (omega arith) (c .before .token-at .ensures) (c .if4 .left), c .before .before .before .before .before .before .before .loop .inv .1, c .before .before .before .before .before .before .before .loop .inv .2)
 
--- src/machine.rt:106:33
 enum-known-symbol-2 : tie.Need-enum-known-symbol-2 Inv-loop μ-loop
 enum-known-symbol-2 c = search needs
 
--- src/machine.rt:108:21
 same-length-9 : tie.Need-same-length-9 Inv-loop μ-loop
 same-length-9 c = search needs
 
--- src/machine.rt:108:21
 same-length-10 : tie.Need-same-length-10 Inv-loop μ-loop
 same-length-10 c = search needs
 
--- src/machine.rt:108:21
 returns-5 : tie.Need-returns-5 Inv-loop μ-loop
 returns-5 c = out-full _ (c .before .before .before .before .before .before .before .before .before .before .pre .0) _ (c .before .before .before .before .before .loop .inv .0) (c .before .before .before .before .before .loop .inv .1) (c .before .before .before .before .before .loop .inv .2) (facing-of _ _ (c .before .before .before .before .place-at .ensures) (c .before .before .symbol2 .given .1)) (c .if5 .taken)
 
--- src/machine.rt:110:21
 call-requires : tie.Need-call-requires Inv-loop μ-loop
 call-requires c κs = (c .before .before .before .before .before .before .before .before .before .before .before .pre .0, c .before .before .before .before .before .before .before .before .before .before .before .pre .1, c .before .before .before .before .before .before .before .before .before .before .before .pre .2, going-waits _ (c .before .before .before .before .before .before .before .before .before .before .before .pre .0) _ (c .before .before .before .before .before .before .loop .inv .0) (facing-of _ _ (c .before .before .before .before .before .place-at .ensures) (c .before .before .before .symbol2 .given .1)))
 
--- src/machine.rt:112:21
 same-length-11 : tie.Need-same-length-11 Inv-loop μ-loop
 same-length-11 c = search needs
 
--- src/machine.rt:112:21
 same-length-12 : tie.Need-same-length-12 Inv-loop μ-loop
 same-length-12 c = search needs
 
--- src/machine.rt:112:21
 returns-6 : tie.Need-returns-6 Inv-loop μ-loop
 returns-6 c = out-unserved _ (c .before .before .before .before .before .before .before .before .before .before .before .before .before .before .before .pre .0) _ (c .before .before .before .before .before .before .before .before .before .before .loop .inv .0) (c .before .before .before .before .before .before .before .before .before .before .loop .inv .1) (c .before .before .before .before .before .before .before .before .before .before .loop .inv .2) (facing-of _ _ (c .before .before .before .before .before .before .before .before .before .place-at .ensures) (c .before .before .before .before .before .before .before .symbol2 .given .1)) (c .before .before .before .before .before .if5 .left) (c .before .before .before .call .ensures) (c .if6 .taken)
 
--- src/machine.rt:114:30
 narrow-requires : tie.Need-narrow-requires Inv-loop μ-loop
 narrow-requires c κs = called-small _ _ _ _ _ _ _ (c .before .before .before .call .ensures) (c .if6 .left) (c .before .before .before .before .before .before .before .before .before .before .before .before .before .before .before .pre .0)
 
--- src/machine.rt:114:17
 mul-row : tie.Need-mul-row Inv-loop μ-loop
 mul-row c = search needs
 
--- src/machine.rt:114:17
 slice-write-row : tie.Need-slice-write-row Inv-loop μ-loop
 slice-write-row c = search needs
 
--- src/machine.rt:115:17
 add-count : tie.Need-add-count Inv-loop μ-loop
 add-count c = search needs
 
--- src/machine.rt:116:17
 add-d : tie.Need-add-d Inv-loop μ-loop
 add-d c = let z = going-frames _ (c .before .before .before .before .before .before .before .before .before .before .before .before .before .before .before .before .pre .0) _ (c .before .before .before .before .before .before .before .before .before .before .before .loop .inv .0) in omega arith
 
--- src/machine.rt:117:17
 first-requires : tie.Need-first-requires Inv-loop μ-loop
 first-requires c κs = (c .before .before .before .before .before .before .before .before .before .before .before .before .before .before .before .before .pre .0, called-named _ _ _ _ _ _ _ (c .before .before .before .before .call .ensures) (c .before .if6 .left))
 
--- src/machine.rt:81:5
 loop-less-3 : tie.Need-loop-less-3 Inv-loop μ-loop
 loop-less-3 c = simp length-set (omega arith)
 
--- src/machine.rt:81:5
 loop-again-3 : tie.Need-loop-again-3 Inv-loop μ-loop
 loop-again-3 c = (turn-pick _ (c .before .before .before .before .before .before .before .before .before .before .before .before .before .before .before .before .before .pre .0) _ (c .before .before .before .before .before .before .before .before .before .before .before .before .loop .inv .0) (facing-of _ _ (c .before .before .before .before .before .before .before .before .before .before .before .place-at .ensures) (c .before .before .before .before .before .before .before .before .before .symbol2 .given .1)) (c .before .before .before .before .before .before .before .if5 .left) (c .before .before .before .before .before .call .ensures) (c .before .before .if6 .left) (c .first .ensures) (c .before .narrow .ensures), simp length-set (c .before .before .before .before .before .before .before .before .before .before .before .before .loop .inv .1), c .before .before .before .before .before .call .ensures .kept ∙ c .before .before .before .before .before .before .before .before .before .before .before .before .loop .inv .2)
 

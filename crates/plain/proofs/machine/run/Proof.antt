@@ -1,85 +1,60 @@
+-- `plain::machine::run` meets its contract.
 use mathlib.Core.Path.{refl, sym, _∙_}
 use Prim.Native.Nat.{_+_, _*_, _≤_}
 use native.Mathlib.Omega.{arith}
 use native.Mathlib.Numerals.{add-one}
 use lib.ListN.{length, length-set}
 use borrow.Author.Needs.{needs}
-use Rattle.derivation.proofs.ReadyLaws.{ready-size}
 use Rattle.plain.proofs.CallLaws.{lent-of, lent-at, push-kept}
 use Rattle.plain.proofs.BeginLaws.{ground-is, cells-in, begin-room, begin-named, begin-full, begin-stuck, begin-alternative, begin-small, begin-going, begin-ran}
-use borrow.Author.Needs.{needs}
 use Rattle.plain.proofs.machine.run.Statement.{statement}
 use Rattle.plain.proofs.machine.run.Tie as tie
-use Rattle.plain.proofs.machine.run.Reads as reads
-use Rattle.plain.proofs.machine.run.Lts as lts
-use Rattle.base.proofs.narrow.Reads as narrow-reads
-use Rattle.plain.proofs.machine.choose.Reads as choose-reads
-use Rattle.plain.proofs.machine.first.Reads as first-reads
-use Rattle.plain.proofs.machine.go.Reads as go-reads
-use Rattle.positions.proofs.Positions.empty.Reads as empty-reads
-use Rattle.positions.proofs.Positions.with.Reads as with-reads
 
--- src/machine.rt:129:37
 add-base : tie.Need-add-base
 add-base c = search needs
 
--- src/machine.rt:129:36
 mul-base : tie.Need-mul-base
 mul-base c = let a = c .before .before .before .before .args in let z = cells-in (a .tables .now) (c .before .before .before .before .pre .0) (a .note .now) (a .ws .now) (λ k. c .slice-known2 .given k .fits) (lent-of (sym (c .before .before .before .before .pre .1)) (c .before .before .before .before .pre .2)) (c .before .before .before .before .pre .3) in let y : (length (a .note .now) + 1) * a .places ≤ length (a .ws .now) = rw (c .before .before .before .before .pre .1, add-one) z in omega arith
 
--- src/machine.rt:129:16
 mul-base-2 : tie.Need-mul-base-2
 mul-base-2 c = let a = c .before .before .before .before .args in let z = cells-in (a .tables .now) (c .before .before .before .before .pre .0) (a .note .now) (a .ws .now) (λ k. c .slice-known2 .given k .fits) (lent-of (sym (c .before .before .before .before .pre .1)) (c .before .before .before .before .pre .2)) (c .before .before .before .before .pre .3) in let y : (length (a .note .now) + 1) * a .places ≤ length (a .ws .now) = rw (c .before .before .before .before .pre .1, add-one) z in omega arith
 
--- src/machine.rt:131:9
 returns : tie.Need-returns
 returns c = begin-full _ (c .before .before .before .before .before .pre .0) _ _ _ (c .before .before .before .before .before .pre .3) (c .if1 .taken)
 
--- src/machine.rt:133:13
 empty-requires : tie.Need-empty-requires
 empty-requires c κs = search needs
 
--- src/machine.rt:133:9
 with-requires : tie.Need-with-requires
 with-requires c κs = omega (arith, c .before .before .before .before .before .before .pre .2 .short)
 
--- src/machine.rt:134:9
 choose-requires : tie.Need-choose-requires
 choose-requires c κs = let a = c .before .before .before .before .before .before .before .before .args in let l = lent-of (sym (c .before .before .before .before .before .before .before .before .pre .1)) (c .before .before .before .before .before .before .before .before .pre .2) in (c .before .before .before .before .before .before .before .before .pre .0, c .before .before .before .before .before .before .before .before .pre .1, lent-at (length (a .note .now)) 0 refl (c .before .before .before .before .before .before .before .before .pre .2) (omega arith), begin-named (a .tables .now) (c .before .before .before .before .before .before .before .before .pre .0) (a .note .now) (a .ws .now) (λ k. c .before .before .before .before .slice-known2 .given k .fits) l (c .before .before .before .before .before .before .before .before .pre .3), (λ b f e. rw (ground-is (a .tables .now) (a .note .now) (c .before .before .before .before .before .before .before .before .pre .1)) (begin-room (a .tables .now) (c .before .before .before .before .before .before .before .before .pre .0) (a .note .now) (a .ws .now) (λ k. c .before .before .before .before .slice-known2 .given k .fits) l (c .before .before .before .before .before .before .before .before .pre .3))), omega arith)
 
--- src/machine.rt:136:9
 same-length : tie.Need-same-length
 same-length c = search needs
 
--- src/machine.rt:136:9
 returns-2 : tie.Need-returns-2
 returns-2 c = let a = c .before .before .before .before .before .before .before .before .before .before .before .before .args in begin-stuck (a .tables .now) (c .before .before .before .before .before .before .before .before .before .before .before .before .pre .0) (a .note .now) (a .ws .now) (λ k. c .before .before .before .before .before .before .before .before .slice-known2 .given k .fits) (lent-of (sym (c .before .before .before .before .before .before .before .before .before .before .before .before .pre .1)) (c .before .before .before .before .before .before .before .before .before .before .before .before .pre .2)) (c .before .before .before .before .before .before .before .before .before .before .before .before .pre .3) (c .before .before .before .before .before .before .empty .ensures) (c .before .before .before .before .before .with .ensures) (c .before .before .before .choose .ensures .0) (c .before .before .before .before .before .before .before .if1 .left) (c .if2 .taken) (rw (ground-is (a .tables .now) (a .note .now) (c .before .before .before .before .before .before .before .before .before .before .before .before .pre .1)) at (c .before .before .before .choose .ensures .1))
 
--- src/machine.rt:138:14
 narrow-requires : tie.Need-narrow-requires
 narrow-requires c κs = let a = c .before .before .before .before .before .before .before .before .before .before .before .before .args in begin-small (a .tables .now) (c .before .before .before .before .before .before .before .before .before .before .before .before .pre .0) (a .note .now) (a .ws .now) (λ k. c .before .before .before .before .before .before .before .before .slice-known2 .given k .fits) (lent-of (sym (c .before .before .before .before .before .before .before .before .before .before .before .before .pre .1)) (c .before .before .before .before .before .before .before .before .before .before .before .before .pre .2)) (c .before .before .before .before .before .before .before .before .before .before .before .before .pre .3) (c .before .before .before .before .before .before .empty .ensures) (c .before .before .before .before .before .with .ensures) (c .before .before .before .choose .ensures .0) (c .if2 .left)
 
--- src/machine.rt:138:5
 slice-write-row : tie.Need-slice-write-row
 slice-write-row c = search needs
 
--- src/machine.rt:139:9
 first-requires : tie.Need-first-requires
 first-requires c κs = let a = c .before .before .before .before .before .before .before .before .before .before .before .before .before .args in (c .before .before .before .before .before .before .before .before .before .before .before .before .before .pre .0, begin-alternative (a .tables .now) (c .before .before .before .before .before .before .before .before .before .before .before .before .before .pre .0) (a .note .now) (a .ws .now) (λ k. c .before .before .before .before .before .before .before .before .before .slice-known2 .given k .fits) (lent-of (sym (c .before .before .before .before .before .before .before .before .before .before .before .before .before .pre .1)) (c .before .before .before .before .before .before .before .before .before .before .before .before .before .pre .2)) (c .before .before .before .before .before .before .before .before .before .before .before .before .before .pre .3) (c .before .before .before .before .before .before .before .empty .ensures) (c .before .before .before .before .before .before .with .ensures) (c .before .before .before .before .choose .ensures .0) (c .before .if2 .left))
 
--- src/machine.rt:140:5
 go-requires : tie.Need-go-requires
 go-requires c κs = let a = c .before .before .before .before .before .before .before .before .before .before .before .before .before .before .before .before .args in (c .before .before .before .before .before .before .before .before .before .before .before .before .before .before .before .before .pre .0, c .before .before .before .before .before .before .before .before .before .before .before .before .before .before .before .before .pre .1, ground-is (a .tables .now) (a .note .now) (c .before .before .before .before .before .before .before .before .before .before .before .before .before .before .before .before .pre .1), begin-going (a .tables .now) (c .before .before .before .before .before .before .before .before .before .before .before .before .before .before .before .before .pre .0) (a .note .now) (a .ws .now) (λ k. c .before .before .before .before .before .before .before .before .before .before .before .before .slice-known2 .given k .fits) (lent-of (sym (c .before .before .before .before .before .before .before .before .before .before .before .before .before .before .before .before .pre .1)) (c .before .before .before .before .before .before .before .before .before .before .before .before .before .before .before .before .pre .2)) (c .before .before .before .before .before .before .before .before .before .before .before .before .before .before .before .before .pre .3) (c .before .before .before .before .before .before .before .before .before .before .empty .ensures) (c .before .before .before .before .before .before .before .before .before .with .ensures) (c .before .before .before .before .before .before .before .choose .ensures .0) (c .before .before .before .before .if2 .left) (a .row .now) (c .before .before .before .before .before .before .before .before .before .before .before .if1 .left) (rw (ground-is (a .tables .now) (a .note .now) (c .before .before .before .before .before .before .before .before .before .before .before .before .before .before .before .before .pre .1)) at (c .before .before .before .before .before .before .before .choose .ensures .1)) (c .before .before .before .narrow .ensures) (c .before .before .first .ensures))
 
--- src/machine.rt:124:1
 same-length-2 : tie.Need-same-length-2
 same-length-2 c = let a = c .before .before .before .before .before .before .before .before .before .before .before .before .before .before .before .before .before .before .before .before .before .args in c .before .before .before .before .go .ensures .row-kept ∙ length-set (a .row .now) 0 (c .before .before .before .before .before .before .before .before .narrow .result)
 
--- src/machine.rt:124:1
 same-length-3 : tie.Need-same-length-3
 same-length-3 c = search needs
 
--- src/machine.rt:124:1
 returns-3 : tie.Need-returns-3
 returns-3 c = let a = c .before .before .before .before .before .before .before .before .before .before .before .before .before .before .before .before .before .before .before .before .before .args in begin-ran (a .tables .now) (a .note .now) (a .row .now) (a .ws .now) 0 (c .before .before .before .before .before .before .before .before .narrow .result) (push-kept (c .before .before .before .before .before .before .before .before .before .before .before .before .choose .result) (a .ws .now) (5 * ((length (a .note .now) + 1) * a .places)) 0 255 (c .before .before .before .before .before .before .before .before .before .before .before .before .before .before .with .result .words) (c .before .before .before .before .before .before .before .before .before .before .before .before .choose .ensures .1)) (c .before .before .before .before .go .ensures)
 

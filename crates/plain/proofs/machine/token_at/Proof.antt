@@ -1,30 +1,22 @@
+-- `plain::machine::token_at` meets its contract.
 use native.Mathlib.Omega.{arith}
 use borrow.Author.Needs.{needs}
 use Rattle.plain.proofs.CallLaws.{token-mark, token-note}
-use borrow.Author.Needs.{needs}
 use Rattle.plain.proofs.machine.token_at.Statement.{statement}
 use Rattle.plain.proofs.machine.token_at.Tie as tie
-use Rattle.plain.proofs.machine.token_at.Reads as reads
-use Rattle.plain.proofs.machine.token_at.Lts as lts
-use Rattle.base.proofs.index.Reads as index-reads
 
--- src/machine.rt:42:9
 returns : tie.Need-returns
 returns c = let a = c .before .before .args in token-mark (a .note .now) (a .i) (c .if1 .taken)
 
--- src/machine.rt:44:17
 mul-index : tie.Need-mul-index
 mul-index c = search needs
 
--- src/machine.rt:44:17
 shared-slice-read-index : tie.Need-shared-slice-read-index
 shared-slice-read-index c = omega arith
 
--- src/machine.rt:44:5
 index-requires : tie.Need-index-requires
 index-requires c κs = search needs
 
--- src/machine.rt:37:1
 returns-2 : tie.Need-returns-2
 returns-2 c = let a = c .before .before .before .before .args in token-note (a .note .now) (a .i) (omega arith) (c .index .ensures)
 

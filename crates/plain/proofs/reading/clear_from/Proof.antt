@@ -1,3 +1,4 @@
+-- `plain::reading::clear_from` meets its contract.
 use mathlib.Core.Path.{_≡_, refl}
 use Prim.Native.Nat.{_-_}
 use native.Mathlib.Omega.{arith}
@@ -6,8 +7,6 @@ use borrow.Author.Needs.{needs}
 use Rattle.plain.proofs.TokenLaws.{zeros, zeros-next, zeros-end}
 use Rattle.plain.proofs.reading.clear_from.Statement.{statement}
 use Rattle.plain.proofs.reading.clear_from.Tie as tie
-use Rattle.plain.proofs.reading.clear_from.Reads as reads
-use Rattle.plain.proofs.reading.clear_from.Lts as lts
 
 abbrev Inv-loop : tie.InvT-loop
 Inv-loop row₀ from n k₀ row k = (zeros (n - k) k row ≡ zeros (n - from) from row₀) × (length row ≡ length row₀)
@@ -15,35 +14,27 @@ Inv-loop row₀ from n k₀ row k = (zeros (n - k) k row ≡ zeros (n - from) fr
 abbrev μ-loop : tie.MeasureT-loop
 μ-loop row₀ from n k₀ row k = n - k
 
--- src/reading.rt:91:5
 loop-holds : tie.Need-loop-holds Inv-loop μ-loop
 loop-holds c = (refl, refl)
 
--- src/reading.rt:92:9
 mul-row : tie.Need-mul-row Inv-loop μ-loop
 mul-row c = search needs
 
--- src/reading.rt:92:9
 slice-write-row : tie.Need-slice-write-row Inv-loop μ-loop
 slice-write-row c = omega (arith, c .before .loop .inv .1)
 
--- src/reading.rt:93:9
 add-k : tie.Need-add-k Inv-loop μ-loop
 add-k c = search needs
 
--- src/reading.rt:91:5
 loop-less : tie.Need-loop-less Inv-loop μ-loop
 loop-less c = search needs
 
--- src/reading.rt:91:5
 loop-again : tie.Need-loop-again Inv-loop μ-loop
 loop-again c = (zeros-next _ _ _ (c .before .loop .inv .0) (c .loop-test .taken) refl, simp length-set (c .before .loop .inv .1))
 
--- src/reading.rt:85:1
 same-length : tie.Need-same-length Inv-loop μ-loop
 same-length c = search needs
 
--- src/reading.rt:85:1
 returns : tie.Need-returns Inv-loop μ-loop
 returns c = zeros-end _ _ _ _ _ (c .before .loop .inv .0) (omega arith) refl (omega arith)
 

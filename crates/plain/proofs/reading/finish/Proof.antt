@@ -1,76 +1,55 @@
+-- `plain::reading::finish` meets its contract.
 use native.Mathlib.Omega.{arith}
 use borrow.Author.Needs.{needs}
 use Rattle.plain.proofs.FinishLaws.{end-accepted, end-stuck, end-short, end-wrong, by-outcome}
-use borrow.Author.Needs.{needs}
 use Rattle.plain.proofs.reading.finish.Statement.{statement}
 use Rattle.plain.proofs.reading.finish.Tie as tie
-use Rattle.plain.proofs.reading.finish.Reads as reads
-use Rattle.plain.proofs.reading.finish.Lts as lts
-use Rattle.plain.proofs.reading.clear_from.Reads as clear-from-reads
-use Rattle.plain.proofs.reading.is_sentence.Reads as is-sentence-reads
-use Rattle.plain.proofs.reading.no_sentence.Reads as no-sentence-reads
 
--- src/reading.rt:122:27
 enum-known-outcome : tie.Need-enum-known-outcome
 enum-known-outcome c = search needs
 
--- src/reading.rt:123:13
 clear-from-requires : tie.Need-clear-from-requires
 clear-from-requires c κs = c .before .before .before .before .before .before .before .before .pre .4 _ (c .before .before .outcome .given .1)
 
--- src/reading.rt:126:53
 enum-told : tie.Need-enum-told
 enum-told c = search needs
 
--- src/reading.rt:126:27
 no-sentence-requires : tie.Need-no-sentence-requires
 no-sentence-requires c κs = (c .before .before .before .before .before .before .before .pre .0, c .before .before .before .before .before .before .before .pre .1, c .before .before .before .before .before .before .before .pre .2, c .before .before .before .before .before .before .before .pre .3)
 
--- src/reading.rt:128:16
 enum-told-2 : tie.Need-enum-told-2
 enum-told-2 c = search needs
 
--- src/reading.rt:128:16
 is-sentence-requires : tie.Need-is-sentence-requires
 is-sentence-requires c κs = (c .before .before .before .before .before .before .pre .0, c .before .before .before .before .before .before .pre .1, c .before .before .before .before .before .before .pre .2, c .before .before .before .before .before .before .pre .3)
 
--- src/reading.rt:129:17
 clear-from-requires-2 : tie.Need-clear-from-requires-2
 clear-from-requires-2 c κs = omega arith
 
--- src/reading.rt:130:17
 same-length : tie.Need-same-length
 same-length c = search needs
 
--- src/reading.rt:130:17
 returns : tie.Need-returns
 returns c = by-outcome _ _ _ (c .before .before .before .before .before .before .enum-told2 .given .1) (end-short _ _ _ (c .before .before .before .before .before .is-sentence .ensures) (c .before .before .before .before .if1 .taken) (c .before .before .clear-from2 .ensures))
 
--- src/reading.rt:132:13
 no-sentence-requires-2 : tie.Need-no-sentence-requires-2
 no-sentence-requires-2 c κs = (c .before .before .before .before .before .before .before .before .before .pre .0, c .before .before .before .before .before .before .before .before .before .pre .1, c .before .before .before .before .before .before .before .before .before .pre .2, c .before .before .before .before .before .before .before .before .before .pre .3)
 
--- src/reading.rt:117:1
 same-length-2 : tie.Need-same-length-2
 same-length-2 c = search needs
 
--- src/reading.rt:117:1
 returns-2 : tie.Need-returns-2
 returns-2 c = by-outcome _ _ _ (c .before .before .before .before .before .outcome .given .1) (end-accepted _ _ _ _ (c .before .before .before .before .before .before .before .before .before .before .before .pre .4 _ (c .before .before .before .before .before .outcome .given .1)) (c .before .before .clear-from .ensures))
 
--- src/reading.rt:117:1
 same-length-3 : tie.Need-same-length-3
 same-length-3 c = search needs
 
--- src/reading.rt:117:1
 returns-3 : tie.Need-returns-3
 returns-3 c = by-outcome _ _ _ (c .before .before .before .before .enum-told .given .1) (end-stuck _ _ _ (c .before .before .no-sentence .ensures))
 
--- src/reading.rt:117:1
 same-length-4 : tie.Need-same-length-4
 same-length-4 c = search needs
 
--- src/reading.rt:117:1
 returns-4 : tie.Need-returns-4
 returns-4 c = by-outcome _ _ _ (c .before .before .before .before .before .before .enum-told2 .given .1) (end-wrong _ _ _ (c .before .before .before .before .before .is-sentence .ensures) (c .before .before .before .before .if1 .left) (c .before .before .no-sentence2 .ensures))
 

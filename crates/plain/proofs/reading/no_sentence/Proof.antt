@@ -1,27 +1,19 @@
+-- `plain::reading::no_sentence` meets its contract.
 use native.Mathlib.Omega.{arith}
 use borrow.Author.Needs.{needs}
 use Rattle.plain.proofs.FinishLaws.{end-clear}
-use borrow.Author.Needs.{needs}
 use Rattle.plain.proofs.reading.no_sentence.Statement.{statement}
 use Rattle.plain.proofs.reading.no_sentence.Tie as tie
-use Rattle.plain.proofs.reading.no_sentence.Reads as reads
-use Rattle.plain.proofs.reading.no_sentence.Lts as lts
-use Rattle.plain.proofs.reading.clear_from.Reads as clear-from-reads
-use Rattle.reach.proofs.wrong_place.Reads as wrong-place-reads
 
--- src/reading.rt:111:5
 clear-from-requires : tie.Need-clear-from-requires
 clear-from-requires c κs = omega arith
 
--- src/reading.rt:112:9
 wrong-place-requires : tie.Need-wrong-place-requires
 wrong-place-requires c κs = (c .before .before .before .before .before .before .before .before .pre .0, c .before .before .before .before .before .before .before .before .pre .1, c .before .before .before .before .before .before .before .before .pre .2, c .before .before .before .before .before .before .before .before .pre .3)
 
--- src/reading.rt:107:1
 same-length : tie.Need-same-length
 same-length c = search needs
 
--- src/reading.rt:107:1
 returns : tie.Need-returns
 returns c = let a = c .before .before .before .before .before .before .before .before .before .args in end-clear (a .row .now) _ _ (c .wrong-place .ensures) (c .before .before .before .clear-from .ensures)
 

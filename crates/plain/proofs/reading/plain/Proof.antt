@@ -1,52 +1,36 @@
-use mathlib.Core.Path.{refl}
-use native.Mathlib.Omega.{arith}
+-- `plain::reading::plain` meets its contract.
 use borrow.Author.Needs.{needs}
 use Rattle.plain.proofs.FinishLaws.{refused-is, sound-ready, sound-is}
-use borrow.Author.Needs.{needs}
 use Rattle.plain.proofs.reading.plain.Statement.{statement}
 use Rattle.plain.proofs.reading.plain.Tie as tie
-use Rattle.plain.proofs.reading.plain.Reads as reads
-use Rattle.plain.proofs.reading.plain.Lts as lts
-use Rattle.plain.proofs.reading.judged.Reads as judged-reads
-use Rattle.soundness.proofs.compile.Reads as compile-reads
 
--- src/reading.rt:179:47
 slice-aggregate-compile : tie.Need-slice-aggregate-compile
 slice-aggregate-compile c = search needs
 
--- src/reading.rt:179:9
 compile-requires : tie.Need-compile-requires
 compile-requires c κs = search needs
 
--- src/reading.rt:181:26
 enum-known-verdict : tie.Need-enum-known-verdict
 enum-known-verdict c = search needs
 
--- src/reading.rt:182:34
 enum-told : tie.Need-enum-told
 enum-told c = search needs
 
--- src/reading.rt:182:34
 slice-aggregate-judged : tie.Need-slice-aggregate-judged
 slice-aggregate-judged c = search needs
 
--- src/reading.rt:182:27
 judged-requires : tie.Need-judged-requires
 judged-requires c κs = let a = c .before .before .before .before .before .before .before .before .before .before .before .before .args in sound-ready (a .grammar .now) (a .note .now) (a .row .now) 0 (c .before .before .before .before .before .before .compile .ensures) (c .before .before .before .enum-told .given .1)
 
--- src/reading.rt:175:1
 returns : tie.Need-returns
 returns c = refused-is _ _ _ _ (c .before .before .before .before .compile .ensures) (c .before .verdict .given .1)
 
--- src/reading.rt:175:1
 same-length : tie.Need-same-length
 same-length c = search needs
 
--- src/reading.rt:175:1
 same-length-2 : tie.Need-same-length-2
 same-length-2 c = search needs
 
--- src/reading.rt:175:1
 returns-2 : tie.Need-returns-2
 returns-2 c = sound-is _ _ _ _ (c .before .before .before .before .before .before .before .before .before .before .before .compile .ensures) (c .before .before .before .before .before .before .before .before .enum-told .given .1) (c .before .before .before .before .judged .ensures)
 
