@@ -109,8 +109,8 @@ fn no_sentence(tables: &[u16], note: &[u16], row: &mut [u16], ws: &[u32], places
     ensures { λ r. ⌜ answered r (now (row .exit)) ≡ clear 10 (wrongPlace (grammarIn (now (tables .entry))) (now (note .entry))) (now (row .entry)) ⌝ }
 {
     clear_from(row, 0);
-    let at = reach::wrong_place(tables, note, ws, places);
-    Reading::NoSentence(at)
+    let wrong = reach::wrong_place(tables, note, ws, places);
+    Reading::NoSentence(wrong)
 }
 
 // What follows from how the machine stopped: where the row was full, the note alone decides between 10 and 14.
@@ -126,9 +126,9 @@ fn finish(
     ensures { λ r. ⌜ answered r (now (row .exit)) ≡ onOutcome (grammarIn (now (tables .entry))) (now (note .entry)) (now (row .entry)) (outcomeIn outcome (now (row .entry))) ⌝ }
 {
     match outcome {
-        Outcome::Accepted(count) => {
-            clear_from(row, count);
-            Reading::Accepted(count)
+        Outcome::Accepted(entries) => {
+            clear_from(row, entries);
+            Reading::Accepted(entries)
         }
         Outcome::Stuck => no_sentence(tables, note, row, ws, places),
         Outcome::Full => {

@@ -121,7 +121,7 @@ returns-6 : tie.Need-returns-6 Inv-loop μ-loop
 returns-6 c = out-unserved _ (c .before .before .before .before .before .before .before .before .before .before .before .before .before .before .before .pre .0) _ (c .before .before .before .before .before .before .before .before .before .before .loop .inv .0) (c .before .before .before .before .before .before .before .before .before .before .loop .inv .1) (c .before .before .before .before .before .before .before .before .before .before .loop .inv .2) (facing-of _ _ (c .before .before .before .before .before .before .before .before .before .place-at .ensures) (c .before .before .before .before .before .before .before .symbol2 .given .1)) (c .before .before .before .before .before .if5 .left) (c .before .before .before .call .ensures) (c .if6 .taken)
 
 narrow-requires : tie.Need-narrow-requires Inv-loop μ-loop
-narrow-requires c κs = called-small _ _ _ _ _ _ _ (c .before .before .before .call .ensures) (c .if6 .left) (c .before .before .before .before .before .before .before .before .before .before .before .before .before .before .before .pre .0)
+narrow-requires c κs = omega (arith, called-small _ _ _ _ _ _ _ (c .before .before .before .call .ensures) (c .if6 .left) (c .before .before .before .before .before .before .before .before .before .before .before .before .before .before .before .pre .0))
 
 mul-row : tie.Need-mul-row Inv-loop μ-loop
 mul-row c = search needs

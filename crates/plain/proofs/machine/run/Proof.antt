@@ -38,7 +38,7 @@ returns-2 : tie.Need-returns-2
 returns-2 c = let a = c .before .before .before .before .before .before .before .before .before .before .before .before .args in begin-stuck (a .tables .now) (c .before .before .before .before .before .before .before .before .before .before .before .before .pre .0) (a .note .now) (a .ws .now) (λ k. c .before .before .before .before .before .before .before .before .slice-known2 .given k .fits) (lent-of (sym (c .before .before .before .before .before .before .before .before .before .before .before .before .pre .1)) (c .before .before .before .before .before .before .before .before .before .before .before .before .pre .2)) (c .before .before .before .before .before .before .before .before .before .before .before .before .pre .3) (c .before .before .before .before .before .before .empty .ensures) (c .before .before .before .before .before .with .ensures) (c .before .before .before .choose .ensures .0) (c .before .before .before .before .before .before .before .if1 .left) (c .if2 .taken) (rw (ground-is (a .tables .now) (a .note .now) (c .before .before .before .before .before .before .before .before .before .before .before .before .pre .1)) at (c .before .before .before .choose .ensures .1))
 
 narrow-requires : tie.Need-narrow-requires
-narrow-requires c κs = let a = c .before .before .before .before .before .before .before .before .before .before .before .before .args in begin-small (a .tables .now) (c .before .before .before .before .before .before .before .before .before .before .before .before .pre .0) (a .note .now) (a .ws .now) (λ k. c .before .before .before .before .before .before .before .before .slice-known2 .given k .fits) (lent-of (sym (c .before .before .before .before .before .before .before .before .before .before .before .before .pre .1)) (c .before .before .before .before .before .before .before .before .before .before .before .before .pre .2)) (c .before .before .before .before .before .before .before .before .before .before .before .before .pre .3) (c .before .before .before .before .before .before .empty .ensures) (c .before .before .before .before .before .with .ensures) (c .before .before .before .choose .ensures .0) (c .if2 .left)
+narrow-requires c κs = let a = c .before .before .before .before .before .before .before .before .before .before .before .before .args in omega (arith, begin-small (a .tables .now) (c .before .before .before .before .before .before .before .before .before .before .before .before .pre .0) (a .note .now) (a .ws .now) (λ k. c .before .before .before .before .before .before .before .before .slice-known2 .given k .fits) (lent-of (sym (c .before .before .before .before .before .before .before .before .before .before .before .before .pre .1)) (c .before .before .before .before .before .before .before .before .before .before .before .before .pre .2)) (c .before .before .before .before .before .before .before .before .before .before .before .before .pre .3) (c .before .before .before .before .before .before .empty .ensures) (c .before .before .before .before .before .with .ensures) (c .before .before .before .choose .ensures .0) (c .if2 .left))
 
 slice-write-row : tie.Need-slice-write-row
 slice-write-row c = search needs
