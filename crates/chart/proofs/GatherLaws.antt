@@ -1,14 +1,15 @@
 -- The loop over the productions of a nonterminal: the union of a set for each of them.
-use mathlib.Core.Path.{_≡_, refl, sym, ap, _∙_}
+use mathlib.Core.Path.{_≡_, refl, sym, ap}
 use mathlib.Core.Bool.{Bool, _||_}
 use mathlib.Core.Option.{some}
 use mathlib.Core.List.{List, [], _∷_}
 use Prim.Native.Nat.{ℕ, zero, suc, _+_, _-_, _≤_, _<_}
 use native.Mathlib.Numerals.{add-one}
 use native.Mathlib.Omega.{arith}
-use lib.ListN.{length, getD, getElem?, take, drop, length-take, drop-of-length-le}
-use lib.Seq.{slice, slice-cons, getD-take, getD-drop, length-slice}
+use lib.ListN.{length, getD, getElem?, take, length-take, drop-of-length-le}
+use lib.Seq.{slice, slice-cons}
 use Rattle.base.specs.Rounds.{anyOf}
+use Rattle.base.proofs.Lists.{slice-get}
 use Rattle.base.proofs.Booleans.{or-assoc, or-none}
 use Rattle.grammar.specs.Grammar.{alternatives, first}
 use Rattle.grammar.specs.Tables.{grammarIn, nonterminalsIn, ruleAt}
@@ -25,12 +26,6 @@ get-some [] k h = absurd (omega arith)
 get-some (x ∷ l) zero h = refl
 get-some (x ∷ l) (suc k) h = get-some l k (omega arith)
 
-get-slice : (l : List ℕ) (s e k : ℕ) → e ≤ length l → s ≤ k → k < e → getElem? (slice s e l) (k - s) ≡ some (getD l k 0)
-get-slice l s e k h m n =
-    let q : s + (k - s) ≡ k = omega arith in
-    let d : getD (drop s (take e l)) (k - s) 0 ≡ getD l k 0 = getD-drop s (take e l) (k - s) 0 ∙ (ap (λ (x : ℕ). getD (take e l) x 0) q ∙ getD-take e l k 0 n) in
-    get-some (drop s (take e l)) (k - s) (omega (arith, length-slice s e l h)) ∙ ap some d
-
 module _ (t : List ℕ) (ready : Ready t) (a : ℕ) (h : a < nonterminalsIn t) {s e : ℕ} (p : s ≡ ruleAt t a) (q : e ≡ ruleAt t (a + 1)) where
   pub rule-within : e ≤ length t
   rule-within = rw (q, add-one) (omega (arith, ready .fits .long, ready .fits .within a h))
@@ -41,7 +36,7 @@ module _ (t : List ℕ) (ready : Ready t) (a : ℕ) (h : a < nonterminalsIn t) {
 
   -- they are its alternatives in order
   pub first-at : (k : ℕ) {f : ℕ} → s ≤ k → k < e → f ≡ getD t k 0 → first (grammarIn t) a (suc (k - s)) ≡ some f
-  first-at k m l d = rw (rules-are, d) (get-slice t s e k rule-within m l)
+  first-at k m l d = let z : s + (k - s) ≡ k = omega arith in rw (rules-are, d) (rw z at (slice-get t e (k - s) s (omega arith) rule-within))
 
   -- a first place is a place of the grammar
   pub first-in : (k : ℕ) {f : ℕ} → s ≤ k → k < e → f ≡ getD t k 0 → f < grammarIn t .size

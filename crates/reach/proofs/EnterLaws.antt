@@ -5,21 +5,19 @@ use mathlib.Core.Bool.{Bool, true, false, _||_}
 use mathlib.Core.Option.{some}
 use mathlib.Core.List.{List, [], _∷_}
 use Prim.Native.Nat.{ℕ, zero, suc, _+_, _-_, _≤_, _<_}
-use native.Mathlib.Numerals.{add-one}
 use native.Mathlib.Omega.{arith}
 use native.Mathlib.Decide.{decLt}
-use lib.ListN.{length, getD, getElem?, take}
-use lib.Seq.{slice, length-slice, getD-take, getD-drop}
+use lib.ListN.{length, getD, getElem?}
 use Rattle.base.proofs.Booleans.{clash}
+use Rattle.base.proofs.Lists.{slice-from}
 use Rattle.grammar.specs.Limits.{maxPlaces}
-use Rattle.grammar.specs.Grammar.{Grammar, first, alternatives, compile}
+use Rattle.grammar.specs.Grammar.{Grammar, first, compile}
 use Rattle.grammar.specs.Tables.{grammarIn, nonterminalsIn, ruleAt}
-use Rattle.grammar.proofs.WordLaws.{alternatives-in, length-starts-in}
+use Rattle.grammar.proofs.WordLaws.{length-starts-in}
 use Rattle.grammar.proofs.PlaceLaws.{length-startsAll}
 use Rattle.derivation.specs.Ready.{Ready}
-use Rattle.derivation.proofs.Notes.{get-lt}
 use Rattle.derivation.proofs.ReadyLaws.{ready-size}
-use Rattle.chart.proofs.GatherLaws.{get-some, rule-within, first-in}
+use Rattle.chart.proofs.GatherLaws.{rule-within, rules-are, first-at, first-in}
 use Rattle.reach.specs.Sets.{Added, PointOf}
 use Rattle.reach.specs.Passes.{Opening}
 use Rattle.reach.proofs.AddLaws.{added-as, none-added, both-added, or-first, or-second}
@@ -30,29 +28,16 @@ get-is [] n e = clash (cc)
 get-is (y ∷ l) zero e = cc
 get-is (y ∷ l) (suc n) e = get-is l n e
 
-get-slice : (t : List ℕ) (s e m : ℕ) → s + m < e → getD (slice s e t) m 0 ≡ getD t (s + m) 0
-get-slice t s e m h = getD-drop s (take e t) m 0 ∙ getD-take e t (s + m) 0 h
-
 -- ---- the productions of nonterminal a
 module _ (t : List ℕ) (ready : Ready t) (a : ℕ) {s e : ℕ} (l : a < nonterminalsIn t) (ps : s ≡ ruleAt t a) (pe : e ≡ ruleAt t (a + 1)) where
   long : e ≤ length t
   long = rule-within t ready a l ps pe
 
-  alternatives-are : alternatives (grammarIn t) a ≡ slice s e t
-  alternatives-are = rw (ps, pe, add-one) (alternatives-in t a l)
-
-  first-at : (k : ℕ) → s ≤ k → k < e → first (grammarIn t) a (suc (k - s)) ≡ some (getD t k 0)
-  first-at k h m =
-      let z : s + (k - s) ≡ k = omega arith in
-      let y : getD (slice s e t) (k - s) 0 ≡ getD t k 0 = rw z at (get-slice t s e (k - s) (omega arith)) in
-      rw (alternatives-are, ← y) (get-some (slice s e t) (k - s) (omega (arith, length-slice s e t long)))
-
   at-first : (b : ℕ) {p : ℕ} → first (grammarIn t) a b ≡ some p → (k : ℕ) × (s ≤ k) × (k < e) × (p ≡ getD t k 0)
   at-first zero x = clash (cc)
   at-first (suc m) {p} x =
-      let y : getElem? (slice s e t) m ≡ some p = rw alternatives-are at x in
-      let h : m < e - s = omega (arith, get-lt (slice s e t) m y, length-slice s e t long) in
-      (s + m, omega arith, omega arith, get-is (slice s e t) m y ∙ get-slice t s e m (omega arith))
+      let (h, q) = slice-from t e m s p long (rw (rules-are t ready a l ps pe) at x) in
+      (s + m, omega arith, h, q)
 
   pub first-small : (k : ℕ) {f : ℕ} → f ≡ getD t k 0 → s ≤ k → k < e → f < maxPlaces
   first-small k q h m = omega (arith, first-in t ready a l ps pe k h m q, ready-size t ready)
@@ -92,7 +77,7 @@ pub enter-end : (t : List ℕ) → Ready t → (a : ℕ) {s e : ℕ} (k i : ℕ)
 enter-end t ready a {s} {e} k i l ps pe m h = added-as (λ p j _ x. to p j x) (λ p j _ x. from p j x) h
   where
     to : (p j : ℕ) → Opened t s e k i p j → Opening (grammarIn t) a i p j
-    to p j (n, h₁, h₂, h₃, h₄, h₅) = (suc (n - s), rw h₄ (first-at t ready a l ps pe n h₁ h₃), h₅)
+    to p j (n, h₁, h₂, h₃, h₄, h₅) = (suc (n - s), first-at t ready a l ps pe n h₁ h₃ h₄, h₅)
 
     from : (p j : ℕ) → Opening (grammarIn t) a i p j → Opened t s e k i p j
     from p j (b, x, y) = go (at-first t ready a l ps pe b x)
