@@ -2,7 +2,7 @@
 // the bits of a word. Passes go from the last nonterminal to the first, which is mostly the order in which grammars build on each other.
 use grammar::Symbol;
 ghost use mathlib.Core.Path.{_≡_};
-ghost use Prim.Native.Nat.{ℕ, _<_};
+ghost use Prim.Native.Nat.{_<_};
 ghost use Rattle.base.specs.Bits.{testBit};
 ghost use Rattle.grammar.specs.Grammar.{suffix};
 ghost use Rattle.grammar.specs.Tables.{grammarIn, nonterminalsIn, Fits};

@@ -1,14 +1,12 @@
 // Left recursion: for each nonterminal the set of those that one or more moves lead to, as one row of bits each.
 use grammar::Symbol;
 ghost use mathlib.Core.Path.{_≡_};
-ghost use mathlib.Core.Bool.{_||_};
-ghost use Prim.Native.Nat.{ℕ, _≤_, _<_};
+ghost use Prim.Native.Nat.{_≤_, _<_};
 ghost use lib.ListN.{length};
-ghost use Rattle.base.specs.Bits.{testBit};
-ghost use Rattle.grammar.specs.Grammar.{suffix, alternatives};
+ghost use Rattle.grammar.specs.Grammar.{suffix};
 ghost use Rattle.grammar.specs.Limits.{maxNonterminals};
 ghost use Rattle.grammar.specs.Tables.{grammarIn, nonterminalsIn, Fits};
-ghost use Rattle.soundness.specs.Closures.{leads};
+ghost use Rattle.soundness.specs.Closures.{Corners};
 ghost use Rattle.soundness.specs.Steps.{Leads, Moves, Rows, throughOf, reachOf};
 
 // The set `from` with every nonterminal that stands from place `first` on behind only nullable ones.
@@ -53,8 +51,8 @@ fn moves(tables: &[u16], nullable: u32, a: usize) -> u32
     set
 }
 
-// A row for each nonterminal: where one move leads.
-pub fn begin(tables: &[u16], nullable: u32, rows: &mut [u32])
+// A row for each nonterminal: where one move leads, by the set of those that are nullable.
+fn begin(tables: &[u16], nullable: u32, rows: &mut [u32])
     requires { ⌜ Fits (now tables) × (length (now rows) ≡ maxNonterminals) ⌝ }
     ensures { λ r. ⌜ Rows nullable (grammarIn (now (tables .entry))) (nonterminalsIn (now (tables .entry))) (now (rows .exit)) ⌝ }
 {
@@ -64,6 +62,15 @@ pub fn begin(tables: &[u16], nullable: u32, rows: &mut [u32])
         rows[a] = moves(tables, nullable, a);
         a += 1;
     }
+}
+
+// The left corners of each nonterminal: where one move leads from it.
+pub fn corners(tables: &[u16], rows: &mut [u32])
+    requires { ⌜ Fits (now tables) × (length (now rows) ≡ maxNonterminals) ⌝ }
+    ensures { λ r. ⌜ Corners (grammarIn (now (tables .entry))) (nonterminalsIn (now (tables .entry))) (now (rows .exit)) ⌝ }
+{
+    let nullable = crate::closure::derivers(tables, false);
+    begin(tables, nullable, rows);
 }
 
 // Every row that holds b is joined by the row of b, `row`.

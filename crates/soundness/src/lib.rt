@@ -6,3 +6,4 @@ mod left;
 pub use judgement::Verdict;
 pub use judgement::check;
 pub use judgement::compile;
+pub use left::corners;
