@@ -25,6 +25,7 @@ use Rattle.derivation.proofs.ReadyLaws.{ready-kept}
 use Rattle.chart.specs.Chart.{cellHas, ChartedFrom}
 use Rattle.chart.specs.Ends.{endWords, endHas, lead, endsAt, SoundEnds, RightEnds}
 use Rattle.chart.specs.Row.{Row, ClosedAt, Grown}
+use Rattle.chart.specs.Order.{Looked}
 use Rattle.chart.proofs.LeadLaws.{Known, lead-sound, ends-in, ends-exact}
 use Rattle.chart.proofs.InRange.{row-short}
 
@@ -94,6 +95,9 @@ module _ (t w : List ℕ) (P i : ℕ) (ws : List ℕ) (row : Row t w P i ws) whe
         let q : after ≡ ends = joined .same e in
         rw (at-a j l) (T-or-r (endHas ends a j) (member s j) (rw (gathered j l) (rw q at x)))
 
+    pub looked-one : Looked t w P ws i a ends after
+    looked-one = record { others = beside; added = λ j l x. rw (at-a j l) (T-or-r (endHas ends a j) (member s j) (rw (gathered j l) x)) }
+
     pub grown-one : Grown t w P ws i r a (suc a) ends after
     grown-one =
         record {
@@ -140,13 +144,17 @@ module _ (t w : List ℕ) (P i : ℕ) (ws : List ℕ) (row : Row t w P i ws) whe
             more = λ z. rw q (inv .more z);
           }
 
-  -- ---- after a pass that changed nothing the sets are right
-  pub grown-right : (ends after : List ℕ) {r : Bool} → SoundEnds t w i ends → Grown t w P ws i r 0 (nonterminalsIn t) ends after → r ≡ false → RightEnds t w i after
+  -- ---- sets that are sound and closed are right
+  pub closed-right : (ends : List ℕ) → SoundEnds t w i ends → ((a : ℕ) → a < nonterminalsIn t → ClosedAt t w P ws i ends a) → RightEnds t w i ends
   unfolding RightEnds SoundEnds ClosedAt
-  grown-right ends after sound g e =
-      ends-exact (grammarIn t) (nonterminalsIn t) w (cellHas P ws) i row-known (endHas after) (g .sound sound) closed
+  closed-right ends sound all =
+      ends-exact (grammarIn t) (nonterminalsIn t) w (cellHas P ws) i row-known (endHas ends) sound closed
     where
-      closed : (a b f j : ℕ) → first (grammarIn t) a b ≡ some f → j < positionCount → T (lead (grammarIn t) w (endHas after) (cellHas P ws) i j f) → T (endHas after a j)
+      closed : (a b f j : ℕ) → first (grammarIn t) a b ≡ some f → j < positionCount → T (lead (grammarIn t) w (endHas ends) (cellHas P ws) i j f) → T (endHas ends a j)
       closed a b f j d l x =
           let (n, q) = first-pos (grammarIn t) a b f d in
-          g .closed e a (omega arith) (row-known .called a b f d) j l (T-anyOf (λ f. lead (grammarIn t) w (endHas after) (cellHas P ws) i j f) (alternatives (grammarIn t) a) n q x)
+          all a (row-known .called a b f d) j l (T-anyOf (λ f. lead (grammarIn t) w (endHas ends) (cellHas P ws) i j f) (alternatives (grammarIn t) a) n q x)
+
+  -- so they are after a pass that changed nothing
+  pub grown-right : (ends after : List ℕ) {r : Bool} → SoundEnds t w i ends → Grown t w P ws i r 0 (nonterminalsIn t) ends after → r ≡ false → RightEnds t w i after
+  grown-right ends after sound g e = closed-right after (g .sound sound) (λ a h. g .closed e a (omega arith) h)

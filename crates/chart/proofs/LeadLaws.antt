@@ -45,7 +45,7 @@ module _ (S : ℕ → Bool) (C : ℕ → ℕ → ℕ → Bool) (q j from n : ℕ
           (m, l .0, omega arith, h .0, h .1)
 
 -- ---- one place, in facts
-data Led (g : Grammar) (w : List ℕ) (E : ℕ → ℕ → Bool) (C : ℕ → ℕ → ℕ → Bool) (i j p : ℕ) (rest : Bool) : Type 0 where
+pub data Led (g : Grammar) (w : List ℕ) (E : ℕ → ℕ → Bool) (C : ℕ → ℕ → ℕ → Bool) (i j p : ℕ) (rest : Bool) : Type 0 where
   end : facing g p ≡ End → i ≡ j → Led g w E C i j p rest
   token : {k t : ℕ} → facing g p ≡ Token k → getElem? w i ≡ some t → T (admits g k t) → T (C (suc p) (suc i) j) → Led g w E C i j p rest
   later : {b : ℕ} (m : ℕ) → facing g p ≡ Nonterminal b → i < m → m ≤ length w → T (E b m) → T (C (suc p) m j) → Led g w E C i j p rest
@@ -63,7 +63,7 @@ module _ (g : Grammar) (w : List ℕ) (E : ℕ → ℕ → Bool) (C : ℕ → �
       go End = refl
 
   module _ (p : ℕ) (rest : Bool) where
-    led-in : Led g w E C i j p rest → T (leadBy g w E C i j p (facing g p) rest)
+    pub led-in : Led g w E C i j p rest → T (leadBy g w E C i j p (facing g p) rest)
     unfolding leadBy leadToken
     led-in (end e q) = rw (e, q) (eqb-refl j)
     led-in (token {k = k} {t = t} e d a x) = rw (e, d) (T-and (admits g k t) (C (suc p) (suc i) j) a x)
@@ -83,7 +83,7 @@ module _ (g : Grammar) (w : List ℕ) (E : ℕ → ℕ → Bool) (C : ℕ → �
         go (m, l, h, x, y) = later m e l h x y
     led-call b e (inr t) = let h = and-T (E b i) rest t in here e (h .0) (h .1)
 
-    led-out : T (leadBy g w E C i j p (facing g p) rest) → Led g w E C i j p rest
+    pub led-out : T (leadBy g w E C i j p (facing g p) rest) → Led g w E C i j p rest
     unfolding leadBy
     led-out t = go (facing g p) refl t
       where

@@ -6,4 +6,5 @@ pub mod ThroughLaws
 pub mod GatherLaws
 pub mod BegunLaws
 pub mod GrownLaws
+pub mod OrderLaws
 pub mod RowLaws

@@ -2,3 +2,4 @@
 pub mod Chart
 pub mod Ends
 pub mod Row
+pub mod Order

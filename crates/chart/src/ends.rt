@@ -2,11 +2,15 @@
 use grammar::Symbol;
 use positions::Positions;
 ghost use mathlib.Core.Path.{_≡_};
-ghost use Prim.Native.Nat.{suc, _<_};
+ghost use mathlib.Core.Bool.{true};
+ghost use Prim.Native.Nat.{suc, _≤_, _<_};
 ghost use lib.ListN.{length};
-ghost use Rattle.grammar.specs.Tables.{nonterminalsIn};
+ghost use Rattle.grammar.specs.Limits.{maxNonterminals};
+ghost use Rattle.grammar.specs.Tables.{grammarIn, nonterminalsIn};
+ghost use Rattle.soundness.specs.Closures.{Corners};
 ghost use Rattle.chart.specs.Ends.{endWords, SoundEnds, RightEnds};
 ghost use Rattle.chart.specs.Row.{Row, Begun, Grown};
+ghost use Rattle.chart.specs.Order.{Looked, Ripe, All, Judged};
 
 // Where the production from place f on ends when it begins at i, as far as `ends` and the cells of the later positions tell.
 fn begun(
@@ -63,7 +67,7 @@ fn grow(
     a: usize,
 ) -> bool
     requires { ⌜ Row (now tables) (now note) places i (now ws) × (length (now ends) ≡ endWords) × (a < nonterminalsIn (now tables)) ⌝ }
-    ensures { λ r. ⌜ Grown (now (tables .entry)) (now (note .entry)) places (now (ws .entry)) i r a (suc a) (now (ends .entry)) (now (ends .exit)) ⌝ }
+    ensures { λ r. ⌜ Grown (now (tables .entry)) (now (note .entry)) places (now (ws .entry)) i r a (suc a) (now (ends .entry)) (now (ends .exit)) × Looked (now (tables .entry)) (now (note .entry)) places (now (ws .entry)) i a (now (ends .entry)) (now (ends .exit)) ⌝ }
 {
     let start = grammar::rule_at(tables, a);
     let end = grammar::rule_at(tables, a + 1);
@@ -94,11 +98,102 @@ fn pass(tables: &[u16], note: &[u16], ws: &[u32], ends: &mut [u32], places: usiz
     grown
 }
 
-// Passes until nothing changes.
-pub fn settle(tables: &[u16], note: &[u16], ws: &[u32], ends: &mut [u32], places: usize, i: usize)
-    requires { ⌜ Row (now tables) (now note) places i (now ws) × (length (now ends) ≡ endWords) × SoundEnds (now tables) (now note) i (now ends) ⌝ }
+// Whether every left corner in `row` is judged, and a is not.
+fn ripe(row: u32, done: u32, a: usize) -> bool
+    requires { ⌜ a < maxNonterminals ⌝ }
+    ensures { λ r. ⌜ Ripe r row done a ⌝ }
+{
+    if base::has(done, a) {
+        return false;
+    }
+    row | done == done
+}
+
+// Every nonterminal whose left corners are judged is judged, the last first. Those judged so far.
+fn judge(
+    tables: &[u16],
+    note: &[u16],
+    ws: &[u32],
+    ends: &mut [u32],
+    corners: &[u32],
+    places: usize,
+    i: usize,
+    from: u32,
+) -> u32
+    requires { ⌜ Row (now tables) (now note) places i (now ws) × (length (now ends) ≡ endWords) × (length (now corners) ≡ maxNonterminals) × Corners (grammarIn (now tables)) (nonterminalsIn (now tables)) (now corners) × Judged (now tables) (now note) places (now ws) i (now corners) from (now ends) ⌝ }
+    ensures { λ r. ⌜ (from ≤ r) × Judged (now (tables .entry)) (now (note .entry)) places (now (ws .entry)) i (now (corners .entry)) r (now (ends .exit)) ⌝ }
+{
+    let mut done = from;
+    let mut a = grammar::nonterminals(tables);
+    while 0 < a {
+        a -= 1;
+        if ripe(corners[a], done, a) {
+            done = base::with(done, a);
+            grow(tables, note, ws, ends, places, i, a);
+        }
+    }
+    done
+}
+
+// Whether the set holds every number below n.
+fn all(set: u32, n: usize) -> bool
+    requires { ⌜ n ≤ maxNonterminals ⌝ }
+    ensures { λ r. ⌜ All r set n ⌝ }
+{
+    let mut a = 0;
+    while a < n {
+        if !base::has(set, a) {
+            return false;
+        }
+        a += 1;
+    }
+    true
+}
+
+// Each nonterminal once, behind its left corners. Whether all have had their turn.
+fn in_order(
+    tables: &[u16],
+    note: &[u16],
+    ws: &[u32],
+    ends: &mut [u32],
+    corners: &[u32],
+    places: usize,
+    i: usize,
+) -> bool
+    requires { ⌜ Row (now tables) (now note) places i (now ws) × (length (now ends) ≡ endWords) × (length (now corners) ≡ maxNonterminals) × Corners (grammarIn (now tables)) (nonterminalsIn (now tables)) (now corners) × SoundEnds (now tables) (now note) i (now ends) ⌝ }
+    ensures { λ r. ⌜ SoundEnds (now (tables .entry)) (now (note .entry)) i (now (ends .exit)) × (r ≡ true → RightEnds (now (tables .entry)) (now (note .entry)) i (now (ends .exit))) ⌝ }
+{
+    let n = grammar::nonterminals(tables);
+    let mut done = 0;
+    loop {
+        if all(done, n) {
+            return true;
+        }
+        let next = judge(tables, note, ws, ends, corners, places, i, done);
+        if next == done {
+            return false;
+        }
+        done = next;
+    }
+}
+
+// The ends of every nonterminal. In a sound grammar some nonterminal always has its turn, so that the passes until nothing changes, which are right
+// in any order, do not begin; that they could saves the proof of it.
+pub fn settle(
+    tables: &[u16],
+    note: &[u16],
+    ws: &[u32],
+    ends: &mut [u32],
+    corners: &[u32],
+    places: usize,
+    i: usize,
+)
+    requires { ⌜ Row (now tables) (now note) places i (now ws) × (length (now ends) ≡ endWords) × (length (now corners) ≡ maxNonterminals) × Corners (grammarIn (now tables)) (nonterminalsIn (now tables)) (now corners) × SoundEnds (now tables) (now note) i (now ends) ⌝ }
     ensures { λ _. ⌜ RightEnds (now (tables .entry)) (now (note .entry)) i (now (ends .exit)) ⌝ }
 {
+    if in_order(tables, note, ws, ends, corners, places, i) {
+        return;
+    }
     loop {
         if !pass(tables, note, ws, ends, places, i) {
             return;

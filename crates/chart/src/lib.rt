@@ -2,8 +2,8 @@
 // derives the note from i on. Five words a cell, in the working space, the cells of a position side by side.
 //
 // Positions are settled from the note's end to its beginning. At each one first `ends`: for every nonterminal, where its productions that begin here
-// end, by passes until nothing changes; a pass looks only at the symbols up to the first that does not vanish here, and mostly the first pass finds
-// all, because grammars mostly build upwards. Then every cell once.
+// end. A look along a production reads only the symbols up to the first that does not vanish here, so each nonterminal is judged once, behind its left
+// corners: in a sound grammar none is its own. Then every cell once.
 mod ends;
 mod row;
 

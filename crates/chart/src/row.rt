@@ -4,7 +4,9 @@ use positions::Positions;
 ghost use mathlib.Core.Path.{_≡_};
 ghost use Prim.Native.Nat.{_+_, _≤_, _<_};
 ghost use lib.ListN.{length};
+ghost use Rattle.grammar.specs.Limits.{maxNonterminals};
 ghost use Rattle.grammar.specs.Tables.{grammarIn, nonterminalsIn};
+ghost use Rattle.soundness.specs.Closures.{Corners};
 ghost use Rattle.positions.specs.Positions.{setWords};
 ghost use Rattle.positions.specs.Words.{setAt};
 ghost use Rattle.derivation.specs.Ready.{Ready};
@@ -107,12 +109,12 @@ fn write_row(tables: &[u16], note: &[u16], ws: &mut [u32], ends: &[u32], places:
 }
 
 // The cells of position i.
-fn settle(tables: &[u16], note: &[u16], ws: &mut [u32], places: usize, i: usize)
-    requires { ⌜ Row (now tables) (now note) places i (now ws) ⌝ }
+fn settle(tables: &[u16], note: &[u16], ws: &mut [u32], corners: &[u32], places: usize, i: usize)
+    requires { ⌜ Row (now tables) (now note) places i (now ws) × (length (now corners) ≡ maxNonterminals) × Corners (grammarIn (now tables)) (nonterminalsIn (now tables)) (now corners) ⌝ }
     ensures { λ _. ⌜ ChartedFrom (now (tables .entry)) (now (note .entry)) (now (ws .exit)) i ⌝ }
 {
     let mut ends = [0u32; 160];
-    crate::ends::settle(tables, note, ws, &mut ends, places, i);
+    crate::ends::settle(tables, note, ws, &mut ends, corners, places, i);
     write_row(tables, note, ws, &ends, places, i);
 }
 
@@ -121,9 +123,11 @@ pub fn fill(tables: &[u16], note: &[u16], ws: &mut [u32], places: usize)
     requires { ⌜ Ready (now tables) × (places ≡ grammarIn (now tables) .size) × Lent places (length (now note)) (now ws) ⌝ }
     ensures { λ _. ⌜ Filled (now (tables .entry)) (now (note .entry)) (now (ws .entry)) (now (ws .exit)) ⌝ }
 {
+    let mut corners = [0u32; 32];
+    soundness::corners(tables, &mut corners);
     let mut i = note.len() + 1;
     while 0 < i {
         i -= 1;
-        settle(tables, note, ws, places, i);
+        settle(tables, note, ws, &corners, places, i);
     }
 }

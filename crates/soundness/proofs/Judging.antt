@@ -1,6 +1,6 @@
 -- From sets and rows to verdicts, and from tables to bytes: the check by cases, as the code meets them.
 use mathlib.Core.Path.{_≡_, sym, ap, _∙_}
-use mathlib.Core.Bool.{true, false, not}
+use mathlib.Core.Bool.{true, not}
 use mathlib.Core.List.{List}
 use Prim.Native.Nat.{ℕ, _<_}
 use native.Mathlib.Omega.{arith}
@@ -24,8 +24,8 @@ use Rattle.grammar.proofs.WordLaws.{length-starts-in}
 use Rattle.soundness.specs.declared.judgement.Verdict.{Verdict}
 use Rattle.soundness.specs.declared.judgement.Verdict.the-variants.{Sound, Refused}
 use Rattle.soundness.specs.Textbook.{Move}
-use Rattle.soundness.specs.Closures.{deriving?, leftRecursive?, lowestUnproductive, lowestLeftRecursive}
-use Rattle.soundness.specs.Steps.{DerivingIs, Rows, reachOf}
+use Rattle.soundness.specs.Closures.{deriving?, Corners, leftRecursive?, lowestUnproductive, lowestLeftRecursive}
+use Rattle.soundness.specs.Steps.{DerivingIs, reachOf}
 use Rattle.soundness.specs.Check.{refuseAt, unproductiveOf, leftRecursiveOf, verdictOn, judgeOf, judged, checkOf}
 use Rattle.soundness.specs.Compiled.{Compiled}
 use Rattle.soundness.proofs.LeftRecursion.{move-to}
@@ -41,18 +41,18 @@ unproductive-is t x n d e =
     ∙ ap (lowestFrom (λ a. not (deriving? true (grammarIn t) a)) 0) (e ∙ sym (length-starts-in t)))
 
 -- ---- 7
-pub recursive-is : (t : List ℕ) → Fits t → (nullable n : ℕ) (rows : List ℕ) → DerivingIs false (grammarIn t) nullable → n ≡ nonterminalsIn t → length rows ≡ maxNonterminals
-    → Rows nullable (grammarIn t) (nonterminalsIn t) rows → {after : List ℕ} → after ≡ reachOf n n rows
+pub recursive-is : (t : List ℕ) → Fits t → (n : ℕ) (rows : List ℕ) → n ≡ nonterminalsIn t → length rows ≡ maxNonterminals
+    → Corners (grammarIn t) (nonterminalsIn t) rows → {after : List ℕ} → after ≡ reachOf n n rows
     → refuseAt LeftRecursive (lowestFrom (λ a. testBit (getD after a 0) a) 0 n) ≡ leftRecursiveOf (grammarIn t)
 unfolding leftRecursiveOf lowestLeftRecursive
-recursive-is t f nullable n rows d e l h {after} q =
+recursive-is t f n rows e l h {after} q =
     let g : Grammar = grammarIn t in
     let m : n ≡ length (g .starts) = e ∙ sym (length-starts-in t) in
     let named : (a c : ℕ) → Move g a c → c < n = λ a c v. let (p, u) = move-to g v in omega (arith, e, f .named p c u) in
-    let rows-n : Rows nullable g n rows = rw e h in
+    let rows-n : Corners g n rows = rw e h in
     ap (refuseAt LeftRecursive)
     (lowest-same (λ a. testBit (getD after a 0) a) (leftRecursive? g) 0 n
-    (λ a k b. ap (λ (r : List ℕ). testBit (getD r a 0) a) q ∙ reached nullable g n rows m named (omega (arith, l, e, f .few)) d rows-n a (omega (arith, b)))
+    (λ a k b. ap (λ (r : List ℕ). testBit (getD r a 0) a) q ∙ reached g n rows m named (omega (arith, l, e, f .few)) rows-n a (omega (arith, b)))
     ∙ ap (lowestFrom (leftRecursive? g) 0) m)
 
 -- ---- 6 or 7 by its number

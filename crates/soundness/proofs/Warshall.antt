@@ -17,7 +17,7 @@ use Rattle.base.proofs.Booleans.{or-T, T-or-l, T-or-r, and-T, T-and, or-none, a
 use Rattle.base.proofs.Bits.{test-none, test-or, same?}
 use Rattle.grammar.specs.Grammar.{Grammar, suffix, alternatives}
 use Rattle.soundness.specs.Textbook.{Move, Reaches, one}
-use Rattle.soundness.specs.Closures.{leads, move?, leftRecursive?}
+use Rattle.soundness.specs.Closures.{leads, move?, Corners, leftRecursive?}
 use Rattle.soundness.specs.Steps.{DerivingIs, Moves, Rows, joinOf, throughOf, pivotOf, reachOf}
 use Rattle.soundness.proofs.LeftRecursion.{move-iff, reaches-trans, rows-exact-below, rows-recursive}
 
@@ -157,16 +157,20 @@ module _ (n : ℕ) where
       go a c l s (inl t) = s a c l t
       go a c l s (inr t) = reaches-trans (s a b l (t .0)) (s b c (omega arith) (t .1))
 
--- ---- so the rows are right
+-- ---- the rows to begin with
 moves-are : (nullable : ℕ) (g : Grammar) (a x : ℕ) → DerivingIs false g nullable → Moves nullable g a x → (c : ℕ) → testBit x c ≡ move? g a c
 unfolding Moves DerivingIs move?
 moves-are nullable g a x d m c = m c ∙ ap (λ (X : ℕ → Bool). anyOf (λ f. leads X c (suffix g f)) (alternatives g a)) (fun-ext d)
 
-module _ (nullable : ℕ) (g : Grammar) (n : ℕ) (rows : List ℕ) (e : n ≡ length (g .starts)) (named : (a c : ℕ) → Move g a c → c < n) (few : n ≤ length rows)
-    (d : DerivingIs false g nullable) (h : Rows nullable g n rows) where
+pub corners-are : (nullable : ℕ) (g : Grammar) (n : ℕ) (rows : List ℕ) → DerivingIs false g nullable → Rows nullable g n rows → Corners g n rows
+unfolding Rows Corners
+corners-are nullable g n rows d h a c l = moves-are nullable g a (getD rows a 0) d (h a l) c
+
+-- ---- so the rows are right
+module _ (g : Grammar) (n : ℕ) (rows : List ℕ) (e : n ≡ length (g .starts)) (named : (a c : ℕ) → Move g a c → c < n) (few : n ≤ length rows) (h : Corners g n rows) where
   row-is : (a : ℕ) → a < n → (c : ℕ) → holds rows a c ≡ move? g a c
-  unfolding Rows
-  row-is a l = moves-are nullable g a (getD rows a 0) d (h a l)
+  unfolding Corners
+  row-is a l c = h a c l
 
   pub reached : (a : ℕ) → a < n → holds (reachOf n n rows) a a ≡ leftRecursive? g a
   reached a l =

@@ -3,9 +3,11 @@
 use mathlib.Core.Bool.{Bool, true, false, _&&_, _||_, not}
 use mathlib.Core.Option.{Option}
 use mathlib.Core.List.{List, [], _∷_}
-use Prim.Native.Nat.{ℕ, suc}
+use mathlib.Core.Path.{_≡_}
+use Prim.Native.Nat.{ℕ, suc, _<_}
 use lib.Dec.{eqb}
-use lib.ListN.{length}
+use lib.ListN.{length, getD}
+use Rattle.base.specs.Bits.{testBit}
 use Rattle.base.specs.Rounds.{rounds, anyOf, upFrom}
 use Rattle.base.specs.Search.{lowestFrom}
 use Rattle.grammar.specs.declared.Symbol.{Symbol}
@@ -61,6 +63,11 @@ leadsBy X c End rest = false
 unfoldable pub move? : Grammar → ℕ → ℕ → Bool
 unfolding leads deriving? anyOf suffix alternatives
 move? g a c = anyOf (λ f. leads (nullable? g) c (suffix g f)) (alternatives g a)
+
+-- the rows of bits say where one move leads from each nonterminal below n
+unfoldable pub Corners : Grammar → ℕ → List ℕ → Type 0
+unfolding move?
+Corners g n rows = (a c : ℕ) → a < n → testBit (getD rows a 0) c ≡ move? g a c
 
 -- one round: a move leads from a to c, or to a nonterminal that X holds
 unfoldable pub reachRound : Grammar → ℕ → (ℕ → Bool) → ℕ → Bool

@@ -87,10 +87,9 @@ fn left_recursive(tables: &[u16]) -> Verdict
     requires { ⌜ Fits (now tables) ⌝ }
     ensures { λ r. ⌜ r ≡ leftRecursiveOf (grammarIn (now (tables .entry))) ⌝ }
 {
-    let nullable = crate::closure::derivers(tables, false);
     let n = grammar::nonterminals(tables);
     let mut rows = [0u32; 32];
-    crate::left::begin(tables, nullable, &mut rows);
+    crate::left::corners(tables, &mut rows);
     crate::left::reach(&mut rows, n);
     lowest_own(&rows, n)
 }

@@ -9,6 +9,7 @@ ghost use Rattle.base.specs.Bits.{testBit};
 ghost use Rattle.grammar.specs.Grammar.{suffix};
 ghost use Rattle.grammar.specs.Limits.{maxNonterminals};
 ghost use Rattle.grammar.specs.Tables.{grammarIn, nonterminalsIn, Fits};
+ghost use Rattle.soundness.specs.Closures.{Corners};
 ghost use Rattle.soundness.specs.Steps.{Leads, Moves, Rows, throughOf, reachOf};
 
 // The set `from` with every nonterminal that stands from place `first` on behind only nullable ones.
@@ -53,8 +54,8 @@ fn moves(tables: &[u16], nullable: u32, a: usize) -> u32
     set
 }
 
-// A row for each nonterminal: where one move leads.
-pub fn begin(tables: &[u16], nullable: u32, rows: &mut [u32])
+// A row for each nonterminal: where one move leads, by the set of those that are nullable.
+fn begin(tables: &[u16], nullable: u32, rows: &mut [u32])
     requires { ⌜ Fits (now tables) × (length (now rows) ≡ maxNonterminals) ⌝ }
     ensures { λ r. ⌜ Rows nullable (grammarIn (now (tables .entry))) (nonterminalsIn (now (tables .entry))) (now (rows .exit)) ⌝ }
 {
@@ -72,6 +73,15 @@ fn joined(held: u32, b: usize, row: u32) -> u32
     ensures { λ r. ⌜ r ≡ cond (testBit held b) (bitOr held row) held ⌝ }
 {
     if base::has(held, b) { held | row } else { held }
+}
+
+// The left corners of each nonterminal: where one move leads from it.
+pub fn corners(tables: &[u16], rows: &mut [u32])
+    requires { ⌜ Fits (now tables) × (length (now rows) ≡ maxNonterminals) ⌝ }
+    ensures { λ r. ⌜ Corners (grammarIn (now (tables .entry))) (nonterminalsIn (now (tables .entry))) (now (rows .exit)) ⌝ }
+{
+    let nullable = crate::closure::derivers(tables, false);
+    begin(tables, nullable, rows);
 }
 
 // Every row that holds b is joined by the row of b, `row`.

@@ -7,3 +7,4 @@ mod rounds;
 pub use judgement::Verdict;
 pub use judgement::check;
 pub use judgement::compile;
+pub use left::corners;

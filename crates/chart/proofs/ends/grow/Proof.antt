@@ -5,7 +5,7 @@ use borrow.Author.Needs.{needs}
 use Rattle.grammar.specs.Tables.{grammarIn}
 use Rattle.chart.specs.Chart.{cellHas}
 use Rattle.chart.specs.Ends.{endHas, lead}
-use Rattle.chart.proofs.GrownLaws.{grown-one}
+use Rattle.chart.proofs.GrownLaws.{grown-one, looked-one}
 use Rattle.chart.proofs.BegunLaws.{begun-members}
 use Rattle.chart.proofs.GatherLaws.{Gathering, gather-begins, gather-more, gather-ends, rule-within, first-in}
 use Rattle.chart.proofs.ends.grow.Statement.{statement}
@@ -60,7 +60,7 @@ same-length : tie.Need-same-length Inv-loop μ-loop
 same-length c = search needs
 
 returns : tie.Need-returns Inv-loop μ-loop
-returns c = grown-one _ _ _ _ _ (c .before .before .before .before .before .before .before .before .before .before .before .before .before .pre .0) _ _ _ _ (c .before .before .before .before .before .before .before .before .before .before .before .before .before .pre .2) (c .before .before .before .before .before .before .before .before .before .before .before .before .before .pre .1) (gather-ends _ _ _ _ _ _ (c .before .before .before .before .before .loop .inv .1) (omega arith)) (c .before .before .join .ensures)
+returns c = (grown-one _ _ _ _ _ (c .before .before .before .before .before .before .before .before .before .before .before .before .before .pre .0) _ _ _ _ (c .before .before .before .before .before .before .before .before .before .before .before .before .before .pre .2) (c .before .before .before .before .before .before .before .before .before .before .before .before .before .pre .1) (gather-ends _ _ _ _ _ _ (c .before .before .before .before .before .loop .inv .1) (omega arith)) (c .before .before .join .ensures), looked-one _ _ _ _ _ (c .before .before .before .before .before .before .before .before .before .before .before .before .before .pre .0) _ _ _ _ (c .before .before .before .before .before .before .before .before .before .before .before .before .before .pre .2) (c .before .before .before .before .before .before .before .before .before .before .before .before .before .pre .1) (gather-ends _ _ _ _ _ _ (c .before .before .before .before .before .loop .inv .1) (omega arith)) (c .before .before .join .ensures))
 
 pub grow-spec : {M : Type 1} → statement M
 grow-spec =

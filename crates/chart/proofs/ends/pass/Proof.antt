@@ -32,13 +32,13 @@ loop-less : tie.Need-loop-less Inv-loop μ-loop
 loop-less c = search needs
 
 loop-again : tie.Need-loop-again Inv-loop μ-loop
-loop-again c = (omega arith, omega arith, grown-more _ _ _ _ _ (c .before .before .before .before .before .before .before .before .before .before .before .before .pre .0) _ _ _ _ _ _ (omega arith) (c .before .before .before .before .before .before .loop .inv .2) (c .before .before .before .grow .ensures) (c .if1 .taken))
+loop-again c = (omega arith, omega arith, grown-more _ _ _ _ _ (c .before .before .before .before .before .before .before .before .before .before .before .before .pre .0) _ _ _ _ _ _ (omega arith) (c .before .before .before .before .before .before .loop .inv .2) (c .before .before .before .grow .ensures .0) (c .if1 .taken))
 
 loop-less-2 : tie.Need-loop-less-2 Inv-loop μ-loop
 loop-less-2 c = search needs
 
 loop-again-2 : tie.Need-loop-again-2 Inv-loop μ-loop
-loop-again-2 c = (omega arith, omega arith, grown-kept _ _ _ _ _ (c .before .before .before .before .before .before .before .before .before .before .before .before .pre .0) _ _ _ _ _ _ (omega arith) (c .before .before .before .before .before .before .loop .inv .2) (c .before .before .before .grow .ensures) (c .if1 .left))
+loop-again-2 c = (omega arith, omega arith, grown-kept _ _ _ _ _ (c .before .before .before .before .before .before .before .before .before .before .before .before .pre .0) _ _ _ _ _ _ (omega arith) (c .before .before .before .before .before .before .loop .inv .2) (c .before .before .before .grow .ensures .0) (c .if1 .left))
 
 same-length : tie.Need-same-length Inv-loop μ-loop
 same-length c = search needs

@@ -1,7 +1,7 @@
 -- `chart::row::settle` meets its contract.
 use mathlib.Core.Path.{refl}
-use borrow.Author.Needs.{needs}
 use Rattle.chart.proofs.GrownLaws.{sound-none}
+use borrow.Author.Needs.{needs}
 use Rattle.chart.proofs.row.settle.Statement.{statement}
 use Rattle.chart.proofs.row.settle.Tie as tie
 
@@ -9,7 +9,7 @@ slice-aggregate-settle : tie.Need-slice-aggregate-settle
 slice-aggregate-settle c = search needs
 
 settle-requires : tie.Need-settle-requires
-settle-requires c κs = (c .before .before .before .before .before .pre, refl, sound-none _ _ _ (c .before .before .before .before .before .pre .ready .fits .few))
+settle-requires c κs = (c .before .before .before .before .before .before .pre .0, refl, c .before .before .before .before .before .before .pre .1, c .before .before .before .before .before .before .pre .2, sound-none _ _ _ (c .before .before .before .before .before .before .pre .0 .ready .fits .few))
 
 slice-aggregate-write-row : tie.Need-slice-aggregate-write-row
 slice-aggregate-write-row c = search needs
