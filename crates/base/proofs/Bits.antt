@@ -2,13 +2,13 @@
 -- the same bits are equal; subsets.
 use mathlib.Core.Path.{_≡_, refl, sym, ap, _∙_}
 use mathlib.Core.Logic.{_⊎_, inl, inr, ⊎-elim, _↔_}
-use mathlib.Core.Bool.{Bool, true, false, _||_, _&&_}
+use mathlib.Core.Bool.{Bool, true, false, _||_, _&&_, not}
 use Prim.Native.Nat.{ℕ, zero, suc, _+_, _-_, _*_, _/_, _%_, _^_, _≤_, _<_, min, max}
 use native.Mathlib.Nat.{one-mul, div-one, div-self, div-eq-of-lt, pow-suc, lt-of-lt-of-le, mod-eq-of-lt, mul-mod-left}
 use native.Mathlib.Omega.{arith}
 use native.Mathlib.Decide.{decLt}
 use lib.Dec.{T, eqb, eqb→eq, eqb-refl}
-use lib.Bits.{bitOr, bitAnd, or-shr, or-step, and-shr, and-step, and-mask, or-add-and, and-le-l, and-le-r, or-lt}
+use lib.Bits.{bitOr, bitAnd, bitXor, differ, xor-shr, xor-step, or-shr, or-step, and-shr, and-step, and-mask, or-add-and, and-le-l, and-le-r, or-lt}
 use lib.Count.{trailingZeros, under}
 use lib.Pow.{pow-pos, pow-lt, pow-mono, pow-add, shl-exact, shl-shr, shr-shr}
 use lib.Arith.{digits-mod}
@@ -230,3 +230,18 @@ subset-set x k y = same (isSubset (setBit x k) y) (isSubset x y && testBit y k) 
     from t =
         let s = and-T (isSubset x y) (testBit y k) t in
         subset-iff (setBit x k) y .1 (λ j m. elim (or-T (testBit x j) (eqb j k) (rw test-set at m)) [ inl u ↦ subset-iff x y .0 (s .0) j u | inr u ↦ rw (eqb→eq j k u) (s .1) ])
+
+-- ---- the opposite of a word: every bit turned
+differ-one : (a : ℕ) → a < 2 → (differ a 1 < 2) × (eqb (differ a 1) 1 ≡ not (eqb a 1))
+differ-one zero h = (omega arith, refl)
+differ-one (suc zero) h = (omega arith, refl)
+differ-one (suc (suc a)) h = absurd (omega arith)
+
+pub test-opposite : (x k : ℕ) → k < 32 → testBit (bitXor x (2 ^ 32 - 1)) k ≡ not (testBit x k)
+unfolding testBit bit
+test-opposite x k l =
+    let b : bit (2 ^ 32 - 1) k ≡ 1 = eqb-true (bit (2 ^ 32 - 1) k) 1 (test-below 32 k l) in
+    let d : (differ (bit x k) 1 < 2) × (eqb (differ (bit x k) 1) 1 ≡ not (eqb (bit x k) 1)) = differ-one (bit x k) (bit-lt x k) in
+    let e : bit (bitXor x (2 ^ 32 - 1)) k ≡ differ (bit x k) 1
+    = rw (xor-shr, xor-step, b) (digits-mod _ (d .0)) in
+    ap (λ (y : ℕ). eqb y 1) e ∙ d .1

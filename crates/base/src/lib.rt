@@ -1,6 +1,7 @@
 // Casts, single bits of a word and words as sets, each a tiny function whose contract is arithmetic: no proof above this crate sees a shift or a mask.
 ghost use mathlib.Core.Path.{_≡_};
 ghost use Prim.Native.Nat.{_-_, _^_, _≤_, _<_};
+ghost use lib.Bits.{bitXor};
 ghost use Rattle.base.specs.Bits.{testBit, setBit, isSubset};
 
 // A byte as a number.
@@ -69,4 +70,11 @@ pub fn subset(x: u32, y: u32) -> bool
     ensures { λ r. ⌜ r ≡ isSubset x y ⌝ }
 {
     x | y == y
+}
+
+// Every bit of x turned.
+pub fn opposite(x: u32) -> u32
+    ensures { λ r. ⌜ r ≡ bitXor x (2 ^ 32 - 1) ⌝ }
+{
+    x ^ 4294967295
 }

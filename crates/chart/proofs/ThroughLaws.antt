@@ -1,5 +1,6 @@
 -- The loop over the members of a set: from each of them on by one place.
-use mathlib.Core.Path.{_≡_, sym}
+use mathlib.Core.Path.{_≡_, sym, ap, _∙_}
+use mathlib.Core.Logic.{⊎-elim}
 use mathlib.Core.Bool.{Bool, true, false, _||_, _&&_}
 use mathlib.Core.List.{List}
 use Prim.Native.Nat.{ℕ, suc, _+_, _-_, _≤_, _<_}
@@ -8,13 +9,13 @@ use native.Mathlib.Omega.{arith}
 use native.Mathlib.Decide.{decLt}
 use lib.Dec.{T}
 use Rattle.base.specs.Rounds.{anyOf, upFrom}
-use Rattle.base.proofs.Booleans.{false→¬T, same, or-assoc, or-none}
-use Rattle.positions.specs.Positions.{positionCount, emptySet, member, unionOf, NextOf}
+use Rattle.base.proofs.Booleans.{false→¬T, true→T, same, or-assoc, or-none, or-T, T-or-l}
+use Rattle.positions.specs.Positions.{positionCount, emptySet, member, unionOf, NextOf, Full}
 use Rattle.positions.specs.Words.{setAt}
 use Rattle.positions.proofs.SetLaws.{member-empty, member-union}
 use Rattle.chart.specs.Chart.{spot, cellHas}
 use Rattle.chart.specs.Ends.{throughOf}
-use Rattle.chart.specs.Row.{Through}
+use Rattle.chart.specs.Row.{Through, Onward, Ahead}
 use Rattle.chart.proofs.LeadLaws.{through-in, through-out}
 use Rattle.chart.proofs.Spots.{cell-member}
 
@@ -52,13 +53,13 @@ module _ (P : ℕ) (ws : List ℕ) (n : ℕ) (s : List ℕ) (q : ℕ) where
   abbrev on : ℕ → ℕ → Bool
   on j m = throughOf (member s) (cellHas P ws) q j m n
 
-  -- r is what the members before m lead to
-  pub Going : ℕ → ℕ → List ℕ → Type 0
-  Going from m r = (j : ℕ) → j < positionCount → (member r j || on j m) ≡ on j from
+  -- r is the set `begun` and what the members before m lead to
+  pub Going : List ℕ → ℕ → ℕ → List ℕ → Type 0
+  Going begun from m r = (j : ℕ) → j < positionCount → (member r j || on j m) ≡ (member begun j || on j from)
 
-  pub going-ends : (from m : ℕ) (r : List ℕ) → Going from m r → n < m → Through P ws n s from q r
-  unfolding Going Through
-  going-ends from m r inv h j l = rw (through-none (member s) (cellHas P ws) q j m n h, or-none) at (inv j l)
+  pub going-ends : (begun : List ℕ) (from m : ℕ) (r : List ℕ) → Going begun from m r → n < m → Onward P ws n s begun from q r
+  unfolding Going Onward
+  going-ends begun from m r inv h j l = rw (through-none (member s) (cellHas P ws) q j m n h, or-none) at (inv j l)
 
   module _ (short : n < positionCount) where
     -- what stands before the next member is none
@@ -80,15 +81,56 @@ module _ (P : ℕ) (ws : List ℕ) (n : ℕ) (s : List ℕ) (q : ℕ) where
             let l = x .above (omega arith) in
             through-in (member s) (cellHas P ws) q j from n k (omega arith) b y z
 
-    pub going-begins : (from m : ℕ) {r : List ℕ} → r ≡ emptySet → NextOf s from m → Going from m r
+    pub going-begins : (begun : List ℕ) (from m : ℕ) → NextOf s from m → Going begun from m begun
     unfolding Going
-    going-begins from m e x j l = rw (e, member-empty j) (sym (skip from m j x))
+    going-begins begun from m x j l = ap (λ (b : Bool). member begun j || b) (sym (skip from m j x))
 
-    pub going-on : (from m m′ : ℕ) (r u : List ℕ) {r′ : List ℕ} → Going from m r → m ≤ n → member s m ≡ true → u ≡ setAt ws (spot P q m) → r′ ≡ unionOf r u
-        → NextOf s (m + 1) m′ → Going from m′ r′
+    pub going-on : (begun : List ℕ) (from m m′ : ℕ) (r u : List ℕ) {r′ : List ℕ} → Going begun from m r → m ≤ n → member s m ≡ true → u ≡ setAt ws (spot P q m) → r′ ≡ unionOf r u
+        → NextOf s (m + 1) m′ → Going begun from m′ r′
     unfolding Going
-    going-on from m m′ r u {r′} inv h f e d x j l =
+    going-on begun from m m′ r u {r′} inv h f e d x j l =
         let a : on j m ≡ (cellHas P ws q m j || on j (suc m)) = rw f at (through-first (member s) (cellHas P ws) q j m n h) in
         let b : on j (suc m) ≡ on j m′ = skip (suc m) m′ j (rw add-one at x) in
         let c : member r′ j ≡ (member r j || cellHas P ws q m j) = rw (d, member-union r u j l, cell-member P ws q m j e l) in
         rw (c, or-assoc, ← b, ← a) (inv j l)
+
+    -- ---- the ways out: no member; one; one that leads everywhere; more
+    pub no-member : (from first : ℕ) {r : List ℕ} → NextOf s from first → n < first → r ≡ emptySet → Through P ws n s from q r
+    unfolding Through
+    no-member from first x h e j l =
+        (ap (λ (r : List ℕ). member r j) e ∙ member-empty j) ∙ (sym (through-none (member s) (cellHas P ws) q j first n h) ∙ sym (skip from first j x))
+
+    module _ (from first second : ℕ) {r : List ℕ} (x : NextOf s from first) (h : first ≤ n) (e : r ≡ setAt ws (spot P q first)) (y : NextOf s (first + 1) second) where
+      -- what the first member leads to, and the others
+      first-then : (j : ℕ) → j < positionCount → on j from ≡ (member r j || on j second)
+      first-then j l =
+          let a : on j first ≡ (cellHas P ws q first j || on j (suc first))
+          = rw (x .found (omega arith)) at (through-first (member s) (cellHas P ws) q j first n h) in
+          let b : on j (suc first) ≡ on j second = skip (suc first) second j (rw add-one at y) in
+          skip from first j x ∙ (a ∙ rw (← cell-member P ws q first j e l, b))
+
+      pub one-member : n < second → Through P ws n s from q r
+      unfolding Through
+      one-member k j l = sym (first-then j l ∙ (ap (λ (b : Bool). member r j || b) (through-none (member s) (cellHas P ws) q j second n k) ∙ or-none (member r j)))
+
+      pub everywhere : {b : Bool} → Ahead P ws n from q → Full b r first n → b ≡ true → Through P ws n s from q r
+      unfolding Through Ahead
+      everywhere ahead f t j l = same (member r j) (on j from) to back
+        where
+          to : T (member r j) → T (on j from)
+          to u = rw (first-then j l) (T-or-l (member r j) (on j second) u)
+
+          behind : T (on j second) → T (member r j)
+          behind u =
+              let (k, a, b, v, z) = through-out (member s) (cellHas P ws) q j second n u in
+              let c = next-behind s first second y (omega arith) in
+              let d = x .above (omega arith) in
+              let g = ahead k j (omega arith) b l z in
+              true→T (member r j) (f .all t j (omega arith) (g .1))
+
+          back : T (on j from) → T (member r j)
+          back u = ⊎-elim (λ v. v) behind (or-T (member r j) (on j second) (rw (first-then j l) at u))
+
+      pub more-members : (r′ : List ℕ) → Onward P ws n s r second q r′ → Through P ws n s from q r′
+      unfolding Through Onward
+      more-members r′ f j l = f j l ∙ sym (first-then j l)

@@ -1,6 +1,6 @@
 -- What the functions on the cells of one position may rely on, and what they give.
 use mathlib.Core.Path.{_≡_}
-use mathlib.Core.Bool.{Bool, true, false}
+use mathlib.Core.Bool.{Bool, true, false, _||_}
 use mathlib.Core.List.{List}
 use Prim.Native.Nat.{ℕ, suc, _≤_, _<_}
 use lib.Dec.{T}
@@ -26,6 +26,16 @@ pub record Row (t w : List ℕ) (P i : ℕ) (ws : List ℕ) : Type 0 where
 unfoldable pub Through : ℕ → List ℕ → ℕ → List ℕ → ℕ → ℕ → List ℕ → Type 0
 unfolding throughOf cellHas
 Through P ws n s from q r = (j : ℕ) → j < positionCount → member r j ≡ throughOf (member s) (cellHas P ws) q j from n
+
+-- r is the set `begun` with that
+unfoldable pub Onward : ℕ → List ℕ → ℕ → List ℕ → List ℕ → ℕ → ℕ → List ℕ → Type 0
+unfolding throughOf cellHas
+Onward P ws n s begun from q r = (j : ℕ) → j < positionCount → member r j ≡ (member begun j || throughOf (member s) (cellHas P ws) q j from n)
+
+-- from positions behind `from` place q leads ahead, and no further than n
+unfoldable pub Ahead : ℕ → List ℕ → ℕ → ℕ → ℕ → Type 0
+unfolding cellHas
+Ahead P ws n from q = (m j : ℕ) → from < m → m ≤ n → j < positionCount → T (cellHas P ws q m j) → (m ≤ j) × (j ≤ n)
 
 module _ (t w : List ℕ) (P : ℕ) (ws : List ℕ) (i : ℕ) where
   -- r is where the production from place f on leads to

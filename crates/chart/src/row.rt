@@ -12,7 +12,7 @@ ghost use Rattle.positions.specs.Words.{setAt};
 ghost use Rattle.derivation.specs.Ready.{Ready};
 ghost use Rattle.chart.specs.Chart.{spot, Lent, LentAt, ChartedFrom, EndsOf, Filled};
 ghost use Rattle.chart.specs.Ends.{endWords, RightEnds};
-ghost use Rattle.chart.specs.Row.{Row, Through, Derived};
+ghost use Rattle.chart.specs.Row.{Row, Through, Onward, Ahead, Derived};
 
 // The cell of place p at position i, of `places` places.
 pub fn cell(ws: &[u32], places: usize, p: usize, i: usize) -> Positions
@@ -22,7 +22,31 @@ pub fn cell(ws: &[u32], places: usize, p: usize, i: usize) -> Positions
     positions::read(ws, positions::WORDS * (i * places + p))
 }
 
-// From each member of s, from `from` up to the note's end at n, on by place q.
+// The set `begun`, and where place q leads to from each member of s, from `from` up to the note's end at n.
+fn join_cells(
+    ws: &[u32],
+    places: usize,
+    n: usize,
+    s: Positions,
+    begun: Positions,
+    from: usize,
+    q: usize,
+) -> Positions
+    requires { ⌜ Lent places n (now ws) × (q < places) ⌝ }
+    ensures { λ r. ⌜ Onward places (now (ws .entry)) n (s .words) (begun .words) from q (r .words) ⌝ }
+{
+    let mut r = begun;
+    let mut m = positions::next(s, from);
+    while m <= n {
+        let t = cell(ws, places, q, m);
+        r = r.union(t);
+        m = positions::next(s, m + 1);
+    }
+    r
+}
+
+// From each member of s, from `from` up to the note's end at n, on by place q. Where the first one leads everywhere up to the end, the others add nothing:
+// dense grammars would be slow without this.
 pub fn through(
     ws: &[u32],
     places: usize,
@@ -31,17 +55,22 @@ pub fn through(
     from: usize,
     q: usize,
 ) -> Positions
-    requires { ⌜ Lent places n (now ws) × (q < places) ⌝ }
+    requires { ⌜ Lent places n (now ws) × (q < places) × Ahead places (now ws) n from q ⌝ }
     ensures { λ r. ⌜ Through places (now (ws .entry)) n (s .words) from q (r .words) ⌝ }
 {
-    let mut r = Positions::empty();
-    let mut m = positions::next(s, from);
-    while m <= n {
-        let t = cell(ws, places, q, m);
-        r = r.union(t);
-        m = positions::next(s, m + 1);
+    let first = positions::next(s, from);
+    if n < first {
+        return Positions::empty();
     }
-    r
+    let r = cell(ws, places, q, first);
+    let second = positions::next(s, first + 1);
+    if n < second {
+        return r;
+    }
+    if positions::full(r, first, n) {
+        return r;
+    }
+    join_cells(ws, places, n, s, r, second, q)
 }
 
 // Where the productions of nonterminal a that begin at i end.

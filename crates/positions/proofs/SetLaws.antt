@@ -1,21 +1,21 @@
 -- Laws of sets of positions by value: what the empty set, a set with one member more and a union hold; when two sets meet.
-use mathlib.Core.Path.{_≡_, refl, sym, ap}
+use mathlib.Core.Path.{_≡_, refl, sym, ap, _∙_}
 use mathlib.Core.Logic.{_⊎_, inl, inr, ⊎-elim}
-use mathlib.Core.Bool.{false, _||_}
+use mathlib.Core.Bool.{Bool, true, false, _||_, not}
 use mathlib.Core.List.{List, [], _∷_}
-use Prim.Native.Nat.{ℕ, zero, suc, _+_, _*_, _/_, _%_, _^_, _≤_, _<_}
+use Prim.Native.Nat.{ℕ, zero, suc, _+_, _-_, _*_, _/_, _%_, _^_, _≤_, _<_}
 use native.Mathlib.Omega.{arith}
 use native.Mathlib.Decide.{decLt}
 use lib.ListN.{length, getD, set, length-set}
 use lib.Seq.{getD-set-same, getD-set-other}
-use lib.Bits.{bitOr, and-le-l, or-lt}
+use lib.Bits.{bitOr, bitXor, and-le-l, or-lt}
 use lib.Count.{trailingZeros}
 use lib.Dec.{T, eqb}
-use borrow.Author.Tests.{ne-eqb, eqb-false, not-true}
+use borrow.Author.Tests.{ne-eqb, eqb-false, not-true, not-false}
 use Rattle.base.specs.Bits.{testBit}
-use Rattle.base.proofs.Bits.{same?, eqb-iff, test-or, test-and, test-set, test-none, test-high, or-ge, or-ge-r, or-pos, set-fits, trailing-found}
+use Rattle.base.proofs.Bits.{same?, eqb-iff, test-or, test-and, test-set, test-none, test-high, or-ge, or-ge-r, or-pos, set-fits, trailing-found, test-opposite}
 use Rattle.base.proofs.Booleans.{T→true, true→T, and-T, T-and, or-none}
-use Rattle.positions.specs.Positions.{positionCount, setWords, emptySet, member, withOf, unionOf, meetsOf, allWords, common}
+use Rattle.positions.specs.Positions.{positionCount, setWords, emptySet, member, withOf, unionOf, meetsOf, allWords, common, oppositeOf, Full, NextOf}
 
 -- every word of s has 32 bits
 abbrev pub Fit : List ℕ → Type 0
@@ -185,3 +185,21 @@ fit-union a b f g (suc (suc zero)) = or-lt 32 _ _ (f 2) (g 2)
 fit-union a b f g (suc (suc (suc zero))) = or-lt 32 _ _ (f 3) (g 3)
 fit-union a b f g (suc (suc (suc (suc zero)))) = or-lt 32 _ _ (f 4) (g 4)
 fit-union a b f g (suc (suc (suc (suc (suc k))))) = omega arith
+
+-- ---- what a set does not hold
+opposite-word : (s : List ℕ) (i : ℕ) → i < setWords → getD (oppositeOf s) i 0 ≡ bitXor (getD s i 0) (2 ^ 32 - 1)
+unfolding oppositeOf
+opposite-word s zero l = refl
+opposite-word s (suc zero) l = refl
+opposite-word s (suc (suc zero)) l = refl
+opposite-word s (suc (suc (suc zero))) l = refl
+opposite-word s (suc (suc (suc (suc zero)))) l = refl
+opposite-word s (suc (suc (suc (suc (suc i))))) l = absurd (omega arith)
+
+pub member-opposite : (s : List ℕ) (j : ℕ) → j < positionCount → member (oppositeOf s) j ≡ not (member s j)
+unfolding member
+member-opposite s j l = ap (λ (x : ℕ). testBit x (j % 32)) (opposite-word s (j / 32) (omega arith)) ∙ test-opposite (getD s (j / 32) 0) (j % 32) (omega arith)
+
+-- what stands before the first position that is missing is held
+pub full-is : (s c : List ℕ) (from n m : ℕ) {r : Bool} → n < positionCount → c ≡ oppositeOf s → NextOf c from m → (r ≡ true → n < m) → Full r s from n
+full-is s c from n m h e x t = record { all = λ q k a b. not-false (member s k) (sym (member-opposite s k (omega arith)) ∙ (ap (λ (l : List ℕ). member l k) (sym e) ∙ x .none k a (let z = t q in omega arith))) }

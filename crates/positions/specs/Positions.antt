@@ -2,7 +2,7 @@
 use mathlib.Core.Bool.{Bool, true, false, not}
 use mathlib.Core.Path.{_≡_}
 use mathlib.Core.List.{List, [], _∷_}
-use Prim.Native.Nat.{ℕ, _/_, _%_, _≤_, _<_}
+use Prim.Native.Nat.{ℕ, _-_, _/_, _%_, _^_, _≤_, _<_}
 use lib.ListN.{getD, set}
 use lib.Bits.{bitOr, bitAnd, bitXor}
 use lib.Dec.{eqb}
@@ -72,3 +72,16 @@ pub record NextOf (s : List ℕ) (from r : ℕ) : Type 0 where
   pub above : r < positionCount → from ≤ r
   pub found : r < positionCount → member s r ≡ true
   pub none : (k : ℕ) → from ≤ k → k < r → member s k ≡ false
+
+-- the positions that a set does not hold
+unfoldable pub oppositeOf : List ℕ → List ℕ
+oppositeOf s =
+    bitXor (getD s 0 0) (2 ^ 32 - 1) ∷
+    bitXor (getD s 1 0) (2 ^ 32 - 1) ∷
+    bitXor (getD s 2 0) (2 ^ 32 - 1) ∷
+    bitXor (getD s 3 0) (2 ^ 32 - 1) ∷
+    bitXor (getD s 4 0) (2 ^ 32 - 1) ∷ []
+
+-- r, if it is true, says that s holds every position from `from` up to n
+pub record Full (r : Bool) (s : List ℕ) (from n : ℕ) : Type 0 where
+  pub all : r ≡ true → (k : ℕ) → from ≤ k → k ≤ n → member s k ≡ true

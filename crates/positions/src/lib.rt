@@ -2,7 +2,7 @@
 ghost use mathlib.Core.Path.{_≡_};
 ghost use Prim.Native.Nat.{_+_, _≤_, _<_};
 ghost use lib.ListN.{length};
-ghost use Rattle.positions.specs.Positions.{positionCount, setWords, emptySet, member, withOf, unionOf, meetsOf, sameOf, FromBit, NextOf};
+ghost use Rattle.positions.specs.Positions.{positionCount, setWords, emptySet, member, withOf, unionOf, meetsOf, oppositeOf, Full, sameOf, FromBit, NextOf};
 ghost use Rattle.positions.specs.Words.{setAt, putAt, Joined};
 
 // Positions that a set can hold: no note has more.
@@ -112,6 +112,30 @@ pub fn next(s: Positions, from: usize) -> usize
         w += 1;
     }
     COUNT
+}
+
+// The positions that s does not hold.
+fn opposite(s: Positions) -> Positions
+    ensures { λ r. ⌜ r .words ≡ oppositeOf (s .words) ⌝ }
+{
+    Positions {
+        words: [
+            base::opposite(s.words[0]),
+            base::opposite(s.words[1]),
+            base::opposite(s.words[2]),
+            base::opposite(s.words[3]),
+            base::opposite(s.words[4]),
+        ],
+    }
+}
+
+// Whether s holds every position from `from` up to n.
+pub fn full(s: Positions, from: usize, n: usize) -> bool
+    requires { ⌜ n < positionCount ⌝ }
+    ensures { λ r. ⌜ Full r (s .words) from n ⌝ }
+{
+    let missing = next(opposite(s), from);
+    n < missing
 }
 
 // The set that stands at `at`.

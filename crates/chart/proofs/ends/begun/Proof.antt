@@ -8,7 +8,7 @@ use Rattle.grammar.proofs.WordLaws.{facing-of}
 use Rattle.grammar.specs.Tables.{placeWords}
 use Rattle.positions.proofs.SetLaws.{length-union}
 use Rattle.positions.specs.Positions.{setWords}
-use Rattle.chart.proofs.InRange.{row-short, row-position, row-places, row-token, row-call, row-named}
+use Rattle.chart.proofs.InRange.{row-ahead, row-short, row-position, row-places, row-token, row-call, row-named}
 use Rattle.chart.proofs.Spots.{spot-in}
 use Rattle.chart.proofs.BegunLaws.{Leading, leading-begins, leading-end, leading-out, leading-other, leading-token, leading-stops, leading-goes}
 use Rattle.chart.proofs.ends.begun.Statement.{statement}
@@ -84,7 +84,7 @@ add-through : tie.Need-add-through Inv-loop μ-loop
 add-through c = search needs
 
 through-requires : tie.Need-through-requires Inv-loop μ-loop
-through-requires c κs = (c .before .before .before .before .before .before .before .before .before .before .before .before .pre .0 .lent, row-call (c .before .before .before .before .before .before .before .before .before .before .before .before .pre .0) _ (c .before .before .before .before .before .before .loop .inv .0) (facing-of _ _ (c .before .before .before .before .place-at .ensures) (c .before .before .symbol2 .given .1)))
+through-requires c κs = (c .before .before .before .before .before .before .before .before .before .before .before .before .pre .0 .lent, row-call (c .before .before .before .before .before .before .before .before .before .before .before .before .pre .0) _ (c .before .before .before .before .before .before .loop .inv .0) (facing-of _ _ (c .before .before .before .before .place-at .ensures) (c .before .before .symbol2 .given .1)), row-ahead (c .before .before .before .before .before .before .before .before .before .before .before .before .pre .0) _ _ (row-call (c .before .before .before .before .before .before .before .before .before .before .before .before .pre .0) _ (c .before .before .before .before .before .before .loop .inv .0) (facing-of _ _ (c .before .before .before .before .place-at .ensures) (c .before .before .symbol2 .given .1))) (omega arith))
 
 union-requires-2 : tie.Need-union-requires-2 Inv-loop μ-loop
 union-requires-2 c κs = search needs

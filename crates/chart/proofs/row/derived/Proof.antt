@@ -3,7 +3,7 @@ use native.Mathlib.Omega.{arith}
 use borrow.Author.Needs.{needs}
 use Rattle.grammar.proofs.WordLaws.{facing-of}
 use Rattle.chart.proofs.BegunLaws.{derived-end, derived-out, derived-other, derived-token, derived-call}
-use Rattle.chart.proofs.InRange.{row-short, row-position, row-token, row-call, row-named}
+use Rattle.chart.proofs.InRange.{row-ahead, row-short, row-position, row-token, row-call, row-named}
 use Rattle.chart.proofs.Spots.{spot-in}
 use Rattle.chart.proofs.row.derived.Statement.{statement}
 use Rattle.chart.proofs.row.derived.Tie as tie
@@ -66,7 +66,7 @@ add-through : tie.Need-add-through
 add-through c = search needs
 
 through-requires : tie.Need-through-requires
-through-requires c κs = (c .before .before .before .before .before .before .before .before .before .pre .0 .lent, row-call (c .before .before .before .before .before .before .before .before .before .pre .0) _ (c .before .before .before .before .before .before .before .before .before .pre .2) (facing-of _ _ (c .before .before .before .before .place-at .ensures) (c .before .before .symbol2 .given .1)))
+through-requires c κs = (c .before .before .before .before .before .before .before .before .before .pre .0 .lent, row-call (c .before .before .before .before .before .before .before .before .before .pre .0) _ (c .before .before .before .before .before .before .before .before .before .pre .2) (facing-of _ _ (c .before .before .before .before .place-at .ensures) (c .before .before .symbol2 .given .1)), row-ahead (c .before .before .before .before .before .before .before .before .before .pre .0) _ _ (row-call (c .before .before .before .before .before .before .before .before .before .pre .0) _ (c .before .before .before .before .before .before .before .before .before .pre .2) (facing-of _ _ (c .before .before .before .before .place-at .ensures) (c .before .before .symbol2 .given .1))) (omega arith))
 
 returns-3 : tie.Need-returns-3
 returns-3 c = derived-end _ _ _ _ _ _ _ (facing-of _ _ (c .before .before .before .before .place-at .ensures) (c .before .before .enum-told .given .1)) (row-position (c .before .before .before .before .before .before .before .before .before .pre .0)) (c .before .empty .ensures) (c .with .ensures)

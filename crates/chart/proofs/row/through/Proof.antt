@@ -1,64 +1,56 @@
 -- `chart::row::through` meets its contract.
-use mathlib.Core.Path.{_≡_}
-use mathlib.Core.Bool.{true}
-use Prim.Native.Nat.{_-_, _≤_, _<_}
 use native.Mathlib.Omega.{arith}
 use borrow.Author.Needs.{needs}
-use Rattle.positions.specs.Positions.{positionCount, member}
 use Rattle.chart.proofs.Spots.{spot-in}
-use Rattle.chart.proofs.ThroughLaws.{Going, going-begins, going-on, going-ends, next-behind}
+use Rattle.chart.proofs.ThroughLaws.{no-member, one-member, everywhere, more-members}
 use Rattle.chart.proofs.row.through.Statement.{statement}
 use Rattle.chart.proofs.row.through.Tie as tie
 
-abbrev Inv-loop : tie.InvT-loop
-Inv-loop ws places n s from q r₀ m₀ r m = (m ≤ positionCount) × (m < positionCount → member (s .words) m ≡ true) × Going places ws n (s .words) q from m (r .words)
-
-abbrev μ-loop : tie.MeasureT-loop
-μ-loop ws places n s from q r₀ m₀ r m = positionCount - m
-
-empty-requires : tie.Need-empty-requires Inv-loop μ-loop
-empty-requires c κs = search needs
-
-next-requires : tie.Need-next-requires Inv-loop μ-loop
+next-requires : tie.Need-next-requires
 next-requires c κs = search needs
 
-loop-holds : tie.Need-loop-holds Inv-loop μ-loop
-loop-holds c = (c .next .ensures .most, c .next .ensures .found, going-begins _ _ _ _ _ (omega (arith, c .before .before .before .pre .0 .short)) _ _ (c .before .empty .ensures) (c .next .ensures))
+empty-requires : tie.Need-empty-requires
+empty-requires c κs = search needs
 
-cell-requires : tie.Need-cell-requires Inv-loop μ-loop
-cell-requires c κs = spot-in _ _ _ _ _ (c .before .before .before .before .before .pre .0) (c .before .before .before .before .before .pre .1) (c .loop-test .taken)
+returns : tie.Need-returns
+returns c = no-member _ _ _ _ _ (omega (arith, c .before .before .before .before .pre .0 .short)) _ _ (c .before .before .next .ensures) (c .before .if1 .taken) (c .empty .ensures)
 
-union-requires : tie.Need-union-requires Inv-loop μ-loop
-union-requires c κs = search needs
+cell-requires : tie.Need-cell-requires
+cell-requires c κs = spot-in _ _ _ _ _ (c .before .before .before .pre .0) (c .before .before .before .pre .1) (omega arith)
 
-add-next : tie.Need-add-next Inv-loop μ-loop
-add-next c = search needs
+add-next : tie.Need-add-next
+add-next c = omega (arith, c .before .before .before .before .pre .0 .short)
 
-next-requires-2 : tie.Need-next-requires-2 Inv-loop μ-loop
+next-requires-2 : tie.Need-next-requires-2
 next-requires-2 c κs = search needs
 
-loop-less : tie.Need-loop-less Inv-loop μ-loop
-loop-less c = let h = next-behind _ _ _ (c .next2 .ensures) (omega (arith, c .before .before .before .before .before .before .before .before .pre .0 .short)) in omega (arith, c .next2 .ensures .most)
+returns-2 : tie.Need-returns-2
+returns-2 c = one-member _ _ _ _ _ (omega (arith, c .before .before .before .before .before .before .pre .0 .short)) _ _ _ (c .before .before .before .before .next .ensures) (omega arith) (c .before .before .cell .ensures) (c .before .next2 .ensures) (c .if2 .taken)
 
-loop-again : tie.Need-loop-again Inv-loop μ-loop
-loop-again c = (c .next2 .ensures .most, c .next2 .ensures .found, going-on _ _ _ _ _ (omega (arith, c .before .before .before .before .before .before .before .before .pre .0 .short)) _ _ _ _ _ (c .before .before .before .before .loop .inv .2) (c .before .before .before .loop-test .taken) (c .before .before .before .before .loop .inv .1 (omega (arith, c .before .before .before .before .before .before .before .before .pre .0 .short))) (c .before .before .cell .ensures) (c .before .union .ensures) (c .next2 .ensures))
+full-requires : tie.Need-full-requires
+full-requires c κs = omega (arith, c .before .before .before .before .before .before .pre .0 .short)
 
-returns : tie.Need-returns Inv-loop μ-loop
-returns c = going-ends _ _ _ _ _ _ _ _ (c .before .loop .inv .2) (omega arith)
+returns-3 : tie.Need-returns-3
+returns-3 c = everywhere _ _ _ _ _ (omega (arith, c .before .before .before .before .before .before .before .before .pre .0 .short)) _ _ _ (c .before .before .before .before .before .before .next .ensures) (omega arith) (c .before .before .before .before .cell .ensures) (c .before .before .before .next2 .ensures) (c .before .before .before .before .before .before .before .before .pre .2) (c .before .full .ensures) (c .if3 .taken)
+
+join-cells-requires : tie.Need-join-cells-requires
+join-cells-requires c κs = (c .before .before .before .before .before .before .before .before .pre .0, c .before .before .before .before .before .before .before .before .pre .1)
+
+returns-4 : tie.Need-returns-4
+returns-4 c = more-members _ _ _ _ _ (omega (arith, c .before .before .before .before .before .before .before .before .before .pre .0 .short)) _ _ _ (c .before .before .before .before .before .before .before .next .ensures) (omega arith) (c .before .before .before .before .before .cell .ensures) (c .before .before .before .before .next2 .ensures) _ (c .join-cells .ensures)
 
 pub through-spec : {M : Type 1} → statement M
 through-spec =
     tie.close
     (tie.spec
-    Inv-loop
-    μ-loop
-    empty-requires
     next-requires
-    loop-holds
+    empty-requires
+    returns
     cell-requires
-    union-requires
     add-next
     next-requires-2
-    loop-less
-    loop-again
-    returns)
+    returns-2
+    full-requires
+    returns-3
+    join-cells-requires
+    returns-4)
