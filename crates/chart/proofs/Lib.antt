@@ -8,3 +8,4 @@ pub mod BegunLaws
 pub mod GrownLaws
 pub mod OrderLaws
 pub mod RowLaws
+pub mod LastLaws

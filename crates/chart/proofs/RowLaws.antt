@@ -20,7 +20,7 @@ use Rattle.derivation.specs.Ready.{Ready}
 use Rattle.derivation.proofs.ReadyLaws.{ready-next}
 use Rattle.chart.specs.Chart.{spot, cellHas, Lent, ChartedFrom, Filled}
 use Rattle.chart.specs.Ends.{endHas, leadBy, RightEnds}
-use Rattle.chart.specs.Row.{Row, Derived}
+use Rattle.chart.specs.Row.{Row, Derived, Behind}
 use Rattle.chart.proofs.LeadLaws.{cell-exact}
 use Rattle.chart.proofs.Spots.{spot-in, lent-kept, sized, put-here, put-beside, put-before}
 use Rattle.chart.proofs.GrownLaws.{row-known}
@@ -109,3 +109,8 @@ row-next t w P i ws us r s n e h l c =
 
 pub filled : (t w ws us : List ℕ) (i : ℕ) → i ≡ 0 → ChartedFrom t w us i → length us ≡ length ws → Filled t w ws us
 filled t w ws us i z c e = record { charted = rw z at c; kept = e }
+
+-- the cell behind the next one to be written is right
+pub written-behind : (t w : List ℕ) (P i p : ℕ) (ws : List ℕ) → 0 < p → Written t w P i p ws → Behind t w P ws i (p - 1)
+unfolding Behind
+written-behind t w P i p ws h x l j k = x .right (suc (p - 1)) j (omega arith) l k

@@ -6,10 +6,12 @@ use Prim.Native.Nat.{ℕ, suc, _≤_, _<_}
 use lib.Dec.{T}
 use lib.ListN.{length}
 use Rattle.base.specs.Rounds.{anyOf}
+use Rattle.grammar.specs.declared.Symbol.the-variants.{End}
 use Rattle.grammar.specs.Grammar.{facing, alternatives}
 use Rattle.grammar.specs.Tables.{grammarIn}
 use Rattle.positions.specs.Positions.{positionCount, member}
 use Rattle.positions.specs.Words.{total}
+use Rattle.derivation.specs.Cells.{derives?}
 use Rattle.derivation.specs.Ready.{Ready}
 use Rattle.chart.specs.Chart.{cellHas, Lent, ChartedFrom}
 use Rattle.chart.specs.Ends.{endHas, throughOf, leadBy, lead, SoundEnds}
@@ -21,6 +23,10 @@ pub record Row (t w : List ℕ) (P i : ℕ) (ws : List ℕ) : Type 0 where
   pub lent : Lent P (length w) ws
   pub here : i ≤ length w
   pub later : ChartedFrom t w ws (suc i)
+
+-- r, if it is true, says that place q is a production's end
+abbrev pub EndIs : List ℕ → ℕ → Bool → Type 0
+EndIs t q r = r ≡ true → facing (grammarIn t) q ≡ End
 
 -- r is where place q leads to from the members of s, from `from` up to n
 unfoldable pub Through : ℕ → List ℕ → ℕ → List ℕ → ℕ → ℕ → List ℕ → Type 0
@@ -49,6 +55,11 @@ module _ (t w : List ℕ) (P : ℕ) (ws : List ℕ) (i : ℕ) where
   Derived ends p r =
       (j : ℕ) → j < positionCount
       → member r j ≡ leadBy (grammarIn t) w (endHas ends) (cellHas P ws) i j p (facing (grammarIn t) p) (cellHas P ws (suc p) i j)
+
+  -- the cell of the place behind p is right
+  unfoldable pub Behind : ℕ → Type 0
+  unfolding cellHas
+  Behind p = suc p < P → (j : ℕ) → j < positionCount → cellHas P ws (suc p) i j ≡ derives? (grammarIn t) w (suc p) i j
 
   -- looking along the productions of nonterminal a once more adds nothing
   unfoldable pub ClosedAt : List ℕ → ℕ → Type 0

@@ -5,14 +5,14 @@ ghost use mathlib.Core.Path.{_≡_};
 ghost use Prim.Native.Nat.{_+_, _≤_, _<_};
 ghost use lib.ListN.{length};
 ghost use Rattle.grammar.specs.Limits.{maxNonterminals};
-ghost use Rattle.grammar.specs.Tables.{grammarIn, nonterminalsIn};
+ghost use Rattle.grammar.specs.Tables.{grammarIn, nonterminalsIn, tableWords};
 ghost use Rattle.soundness.specs.Closures.{Corners};
 ghost use Rattle.positions.specs.Positions.{setWords};
 ghost use Rattle.positions.specs.Words.{setAt};
 ghost use Rattle.derivation.specs.Ready.{Ready};
 ghost use Rattle.chart.specs.Chart.{spot, Lent, LentAt, ChartedFrom, EndsOf, Filled};
 ghost use Rattle.chart.specs.Ends.{endWords, RightEnds};
-ghost use Rattle.chart.specs.Row.{Row, Through, Onward, Ahead, Derived};
+ghost use Rattle.chart.specs.Row.{Row, EndIs, Through, Onward, Ahead, Behind, Derived};
 
 // The cell of place p at position i, of `places` places.
 pub fn cell(ws: &[u32], places: usize, p: usize, i: usize) -> Positions
@@ -91,6 +91,20 @@ pub fn ends_of(tables: &[u16], ws: &[u32], places: usize, a: usize, i: usize) ->
     r
 }
 
+// Whether place q is a production's end.
+fn is_end(tables: &[u16], q: usize) -> bool
+    requires { ⌜ length (now tables) ≡ tableWords ⌝ }
+    ensures { λ r. ⌜ EndIs (now (tables .entry)) q r ⌝ }
+{
+    let place = grammar::place_at(tables, q);
+    let symbol = place.symbol;
+    match symbol {
+        Symbol::End => true,
+        Symbol::Token(_) => false,
+        Symbol::Nonterminal(_) => false,
+    }
+}
+
 // What the cell of p at i is, by `ends`, the cells of the later positions and, at i, the cell of the place behind p.
 fn derived(
     tables: &[u16],
@@ -101,7 +115,7 @@ fn derived(
     i: usize,
     p: usize,
 ) -> Positions
-    requires { ⌜ Row (now tables) (now note) places i (now ws) × (length (now ends) ≡ endWords) × (p < places) ⌝ }
+    requires { ⌜ Row (now tables) (now note) places i (now ws) × (length (now ends) ≡ endWords) × (p < places) × RightEnds (now tables) (now note) i (now ends) × Behind (now tables) (now note) places (now ws) i p ⌝ }
     ensures { λ r. ⌜ Derived (now (tables .entry)) (now (note .entry)) places (now (ws .entry)) i (now (ends .entry)) p (r .words) ⌝ }
 {
     let place = grammar::place_at(tables, p);
@@ -119,6 +133,9 @@ fn derived(
         }
         Symbol::Nonterminal(b) => {
             let s = positions::read(ends, positions::WORDS * b);
+            if is_end(tables, p + 1) {
+                return s;
+            }
             through(ws, places, note.len(), s, i, p + 1)
         }
     }

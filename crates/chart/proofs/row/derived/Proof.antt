@@ -1,8 +1,9 @@
 -- `chart::row::derived` meets its contract.
-use native.Mathlib.Omega.{arith}
 use borrow.Author.Needs.{needs}
+use native.Mathlib.Omega.{arith}
 use Rattle.grammar.proofs.WordLaws.{facing-of}
 use Rattle.chart.proofs.BegunLaws.{derived-end, derived-out, derived-other, derived-token, derived-call}
+use Rattle.chart.proofs.LastLaws.{derived-behind}
 use Rattle.chart.proofs.InRange.{row-ahead, row-short, row-position, row-token, row-call, row-named}
 use Rattle.chart.proofs.Spots.{spot-in}
 use Rattle.chart.proofs.row.derived.Statement.{statement}
@@ -62,20 +63,29 @@ mul-read c = omega (arith, row-named (c .before .before .before .before .before 
 read-requires : tie.Need-read-requires
 read-requires c κs = omega (arith, row-named (c .before .before .before .before .before .before .before .before .pre .0) _ (facing-of _ _ (c .before .before .before .place-at .ensures) (c .before .symbol2 .given .1)))
 
+add-is-end : tie.Need-add-is-end
+add-is-end c = search needs
+
+is-end-requires : tie.Need-is-end-requires
+is-end-requires c κs = c .before .before .before .before .before .before .before .before .before .pre .0 .ready .fits .long
+
+returns-3 : tie.Need-returns-3
+returns-3 c = derived-behind (c .before .before .before .before .before .before .before .before .before .before .before .pre .0) _ (c .before .before .before .before .before .before .before .before .before .before .before .pre .3) _ _ (c .before .before .before .before .before .before .before .before .before .before .before .pre .2) (facing-of _ _ (c .before .before .before .before .before .before .place-at .ensures) (c .before .before .before .before .symbol2 .given .1)) (c .before .before .before .before .before .before .before .before .before .before .before .pre .4) (c .before .is-end .ensures) (c .if3 .taken) (c .before .before .read .ensures)
+
 add-through : tie.Need-add-through
 add-through c = search needs
 
 through-requires : tie.Need-through-requires
-through-requires c κs = (c .before .before .before .before .before .before .before .before .before .pre .0 .lent, row-call (c .before .before .before .before .before .before .before .before .before .pre .0) _ (c .before .before .before .before .before .before .before .before .before .pre .2) (facing-of _ _ (c .before .before .before .before .place-at .ensures) (c .before .before .symbol2 .given .1)), row-ahead (c .before .before .before .before .before .before .before .before .before .pre .0) _ _ (row-call (c .before .before .before .before .before .before .before .before .before .pre .0) _ (c .before .before .before .before .before .before .before .before .before .pre .2) (facing-of _ _ (c .before .before .before .before .place-at .ensures) (c .before .before .symbol2 .given .1))) (omega arith))
-
-returns-3 : tie.Need-returns-3
-returns-3 c = derived-end _ _ _ _ _ _ _ (facing-of _ _ (c .before .before .before .before .place-at .ensures) (c .before .before .enum-told .given .1)) (row-position (c .before .before .before .before .before .before .before .before .before .pre .0)) (c .before .empty .ensures) (c .with .ensures)
+through-requires c κs = (c .before .before .before .before .before .before .before .before .before .before .before .pre .0 .lent, row-call (c .before .before .before .before .before .before .before .before .before .before .before .pre .0) _ (c .before .before .before .before .before .before .before .before .before .before .before .pre .2) (facing-of _ _ (c .before .before .before .before .before .before .place-at .ensures) (c .before .before .before .before .symbol2 .given .1)), row-ahead (c .before .before .before .before .before .before .before .before .before .before .before .pre .0) _ _ (row-call (c .before .before .before .before .before .before .before .before .before .before .before .pre .0) _ (c .before .before .before .before .before .before .before .before .before .before .before .pre .2) (facing-of _ _ (c .before .before .before .before .before .before .place-at .ensures) (c .before .before .before .before .symbol2 .given .1))) (omega arith))
 
 returns-4 : tie.Need-returns-4
-returns-4 c = derived-token _ _ _ _ _ _ _ (facing-of _ _ (c .before .before .before .before .before .before .before .before .place-at .ensures) (c .before .before .before .before .before .before .symbol .given .1)) (omega (arith, c .before .before .before .before .before .before .before .before .before .before .before .before .before .pre .0 .here)) (c .before .before .index .ensures) (c .before .if2 .left) (c .cell .ensures)
+returns-4 c = derived-end _ _ _ _ _ _ _ (facing-of _ _ (c .before .before .before .before .place-at .ensures) (c .before .before .enum-told .given .1)) (row-position (c .before .before .before .before .before .before .before .before .before .pre .0)) (c .before .empty .ensures) (c .with .ensures)
 
 returns-5 : tie.Need-returns-5
-returns-5 c = derived-call _ _ _ _ _ _ _ _ _ (facing-of _ _ (c .before .before .before .before .before .place-at .ensures) (c .before .before .before .symbol2 .given .1)) (c .before .before .before .before .before .before .before .before .before .before .pre .0 .here) (row-short (c .before .before .before .before .before .before .before .before .before .before .pre .0)) (c .before .read .ensures) (c .through .ensures)
+returns-5 c = derived-token _ _ _ _ _ _ _ (facing-of _ _ (c .before .before .before .before .before .before .before .before .place-at .ensures) (c .before .before .before .before .before .before .symbol .given .1)) (omega (arith, c .before .before .before .before .before .before .before .before .before .before .before .before .before .pre .0 .here)) (c .before .before .index .ensures) (c .before .if2 .left) (c .cell .ensures)
+
+returns-6 : tie.Need-returns-6
+returns-6 c = derived-call _ _ _ _ _ _ _ _ _ (facing-of _ _ (c .before .before .before .before .before .before .before .place-at .ensures) (c .before .before .before .before .before .symbol2 .given .1)) (c .before .before .before .before .before .before .before .before .before .before .before .before .pre .0 .here) (row-short (c .before .before .before .before .before .before .before .before .before .before .before .before .pre .0)) (c .before .before .before .read .ensures) (c .through .ensures)
 
 pub derived-spec : {M : Type 1} → statement M
 derived-spec =
@@ -99,8 +109,11 @@ derived-spec =
     enum-known-symbol-2
     mul-read
     read-requires
+    add-is-end
+    is-end-requires
+    returns-3
     add-through
     through-requires
-    returns-3
     returns-4
-    returns-5)
+    returns-5
+    returns-6)

@@ -5,7 +5,7 @@ use native.Mathlib.Omega.{arith}
 use lib.ListN.{length}
 use borrow.Author.Needs.{needs}
 use Rattle.chart.proofs.Spots.{spot-in}
-use Rattle.chart.proofs.RowLaws.{Written, written-none, written-on, written-all}
+use Rattle.chart.proofs.RowLaws.{Written, written-none, written-on, written-all, written-behind}
 use Rattle.chart.proofs.row.write_row.Statement.{statement}
 use Rattle.chart.proofs.row.write_row.Tie as tie
 
@@ -22,7 +22,7 @@ sub-p : tie.Need-sub-p Inv-loop μ-loop
 sub-p c = search needs
 
 derived-requires : tie.Need-derived-requires Inv-loop μ-loop
-derived-requires c κs = search needs
+derived-requires c κs = (c .before .before .loop .inv .2 .row, c .before .before .before .before .before .before .before .pre .1, omega (arith, c .before .before .loop .inv .0), c .before .before .before .before .before .before .before .pre .2, written-behind _ _ _ _ _ _ (omega arith) (c .before .before .loop .inv .2))
 
 mul-put : tie.Need-mul-put Inv-loop μ-loop
 mul-put c = let h = spot-in (c .before .before .before .before .before .before .before .before .before .args .places) _ (c .before .before .before .before .loop .p - 1) (c .before .before .before .before .before .before .before .before .before .args .i) (c .before .before .before .before .loop .ws) (c .before .before .before .before .loop .inv .2 .row .lent) (omega arith) (c .before .before .before .before .loop .inv .2 .row .here) in omega arith
