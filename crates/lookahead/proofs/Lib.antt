@@ -1,0 +1,1 @@
+-- Laws on what lookahead learns, one subject a file.
