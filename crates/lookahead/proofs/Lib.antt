@@ -1,1 +1,5 @@
 -- Laws on what lookahead learns, one subject a file.
+pub mod ListLaws
+pub mod MoveLaws
+pub mod AddLaws
+pub mod CloseLaws
