@@ -3,3 +3,5 @@ pub mod ListLaws
 pub mod MoveLaws
 pub mod AddLaws
 pub mod CloseLaws
+pub mod KeyLaws
+pub mod OrderLaws
