@@ -5,3 +5,7 @@ pub mod AddLaws
 pub mod CloseLaws
 pub mod KeyLaws
 pub mod OrderLaws
+pub mod Bounds
+pub mod Standing
+pub mod StateLaws
+pub mod EndLaws

@@ -16,7 +16,7 @@ use Rattle.lookahead.proofs.KeyLaws.{key-one}
 
 -- ---- members that pass a test
 module _ {A : Type 0} (f : A → Bool) where
-  keep-out : (l : List A) {x : A} → In x (keep f l) → In x l × T (f x)
+  pub keep-out : (l : List A) {x : A} → In x (keep f l) → In x l × T (f x)
   unfolding keep
   keep-out [] m = absurd (List·Memᴰ·not-nil m)
   keep-out (y ∷ l) {x} m = go (f y) refl m (λ n. keep-out l n)

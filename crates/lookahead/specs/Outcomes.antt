@@ -1,4 +1,5 @@
 -- The outcome of a start or a step: document 01's rules 1 to 5, in order.
+use mathlib.Core.Path.{_≡_}
 use mathlib.Core.Bool.{Bool, false, _&&_, not, cond}
 use mathlib.Core.Option.{none, some}
 use mathlib.Core.List.{List, [], _∷_, map}
@@ -106,3 +107,8 @@ startOutcome g a = outcome g (startConfigs g a)
 unfoldable pub stepOutcome : Grammar → ℕ → List Config → Outcome
 unfolding outcome stepConfigs
 stepOutcome g t ks = outcome g (stepConfigs g t ks)
+
+-- a state of decision a: its start gives it, or a step from another
+pub data States (g : Grammar) (a : ℕ) : List Config → Type 0 where
+  begun : {ks : List Config} → startOutcome g a ≡ state ks → States g a ks
+  stepped : {ks ls : List Config} (t : ℕ) → States g a ks → stepOutcome g t ks ≡ state ls → States g a ls
