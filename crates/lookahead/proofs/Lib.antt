@@ -9,3 +9,4 @@ pub mod Bounds
 pub mod Standing
 pub mod StateLaws
 pub mod EndLaws
+pub mod WorkedCases

@@ -3,3 +3,4 @@ pub mod Configs
 pub mod Closing
 pub mod Order
 pub mod Outcomes
+pub mod Worked
