@@ -1,22 +1,20 @@
 -- New members of a closure: within the limits, and reached by the moves.
 use mathlib.Core.Path.{_≡_, refl, sym, subst, ap, _∙_}
-use mathlib.Core.Logic.{_↔_, _⊎_, inl, inr}
+use mathlib.Core.Logic.{_⊎_, inl, inr}
 use mathlib.Core.Bool.{Bool, true, false, _&&_, cond}
 use mathlib.Core.Option.{Option, none, some}
 use mathlib.Core.List.{List, [], _∷_, _++_, append-assoc, List·Memᴰ·head, List·Memᴰ·tail, List·Memᴰ·not-nil, List·Memᴰ·cases-cons, Memᴰ·cast, Memᴰ·append-left, Memᴰ·append-right}
-use Prim.Native.Nat.{ℕ, zero, suc, _+_, _≤_, _<_}
+use Prim.Native.Nat.{ℕ, _≤_, _<_}
 use native.Mathlib.Omega.{arith}
-use native.Mathlib.Decide.{decLt}
 use lib.Dec.{T, eqb, ltb, leb, eqb-refl, eqb→eq}
-use lib.ListN.{length, getElem?, length-append}
+use lib.ListN.{length, length-append}
 use borrow.Author.Tests.{ltb-true, ltb-false, leb-true, leb-false}
-use Rattle.base.proofs.Booleans.{clash, and-T, T-and, true→T, false→¬T}
+use Rattle.base.proofs.Booleans.{and-T, T-and, true→T, false→¬T}
 use Rattle.base.proofs.Lists.{anyOf-T, T-anyOf}
 use Rattle.grammar.specs.Grammar.{Grammar}
-use Rattle.lookahead.specs.Configs.{Config, In, Moves, Closes, from, move, moves}
-use Rattle.lookahead.specs.Closing.{maxMembers, maxEntries, sameList, sameConfig, member?, shallow, add, addAll, closeFrom, close}
-use Rattle.lookahead.proofs.ListLaws.{Sub, Distinct, nil, Each, get-in, in-get, get-below, get-behind, get-front, distinct-snoc, each-snoc, distinct-short}
-use Rattle.lookahead.proofs.MoveLaws.{moves-right}
+use Rattle.lookahead.specs.Configs.{Config, In, Closes}
+use Rattle.lookahead.specs.Closing.{maxMembers, maxEntries, sameList, sameConfig, member?, shallow, add, addAll}
+use Rattle.lookahead.proofs.ListLaws.{Sub, Distinct, Each, get-in, in-get, distinct-snoc, each-snoc}
 
 -- ---- the tests
 same-list : (k l : List ℕ) → T (sameList k l) → k ≡ l
@@ -49,7 +47,7 @@ config-same : (c : Config) → T (sameConfig c c)
 unfolding sameConfig
 config-same c =
     T-and (eqb (c .place) (c .place)) (eqb (c .alternative) (c .alternative) && sameList (c .stack) (c .stack)) (eqb-refl (c .place))
-      (T-and (eqb (c .alternative) (c .alternative)) (sameList (c .stack) (c .stack)) (eqb-refl (c .alternative)) (list-same (c .stack)))
+    (T-and (eqb (c .alternative) (c .alternative)) (sameList (c .stack) (c .stack)) (eqb-refl (c .alternative)) (list-same (c .stack)))
 
 member-in : (d : Config) (ms : List Config) → T (member? d ms) → In d ms
 unfolding member?
@@ -106,7 +104,8 @@ module _ (g : Grammar) (start : List Config) where
         distinct = distinct-snoc (w .distinct) (λ m. false→¬T (member? d ms) n (in-member d ms m));
         reached = each-snoc (Closes g start) r (w .reached);
         small = each-snoc (λ (c : Config). length (c .stack) ≤ maxEntries) s (w .small);
-        few = omega (arith, length-append ms (d ∷ [])) }
+        few = omega (arith, length-append ms (d ∷ []));
+      }
 
       go : (m s l : Bool) → member? d ms ≡ m → leb (length (d .stack)) maxEntries ≡ s → ltb (length ms) maxMembers ≡ l
           → Adds ms (d ∷ []) (cond m (some ms) (cond (s && l) (some (ms ++ (d ∷ []))) none))
@@ -114,12 +113,13 @@ module _ (g : Grammar) (start : List Config) where
       go false false l em es el = stopped (deep d r (leb-false (length (d .stack)) maxEntries es))
       go false true false em es el =
           stopped (many (ms ++ (d ∷ [])) (distinct-snoc (w .distinct) (λ m. false→¬T (member? d ms) em (in-member d ms m))) (each-snoc (Closes g start) r (w .reached))
-            (let h = ltb-false (length ms) maxMembers el in omega (arith, length-append ms (d ∷ []))))
+          (let h = ltb-false (length ms) maxMembers el in omega (arith, length-append ms (d ∷ []))))
       go false true true em es el = went (record {
         others = d ∷ [];
         grown = refl;
         work = snoc em (leb-true (length (d .stack)) maxEntries es) (ltb-true (length ms) maxMembers el);
-        new = λ c m. Memᴰ·append-right ms m })
+        new = λ c m. Memᴰ·append-right ms m;
+      })
 
   join : {ms : List Config} {d : Config} {ds ms′ : List Config} {o : Option (List Config)} → Grown ms (d ∷ []) ms′ → Adds ms′ ds o → Adds ms (d ∷ ds) o
   join w (stopped x) = stopped x
@@ -127,7 +127,8 @@ module _ (g : Grammar) (start : List Config) where
     others = w .others ++ v .others;
     grown = v .grown ∙ ap (λ (k : List Config). k ++ v .others) (w .grown) ∙ append-assoc ms (w .others) (v .others);
     work = v .work;
-    new = λ c m. pick c (List·Memᴰ·cases-cons m) })
+    new = λ c m. pick c (List·Memᴰ·cases-cons m);
+  })
     where
       pick : (c : Config) → (c ≡ d) ⊎ In c ds → In c ms″
       pick c (inl e) = grown-sub v c (w .new c (List·Memᴰ·head e))

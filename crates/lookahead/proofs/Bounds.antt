@@ -1,5 +1,5 @@
 -- What closing relies on in a grammar: every place that it names is one of a production, the end place or the one past it.
-use mathlib.Core.Path.{_≡_, refl, ap, _∙_}
+use mathlib.Core.Path.{_≡_, refl, ap}
 use mathlib.Core.Logic.{_⊎_, inl, inr}
 use mathlib.Core.Option.{some}
 use mathlib.Core.List.{List, [], _∷_}
@@ -10,7 +10,7 @@ use lib.ListN.{length, getD}
 use Rattle.base.proofs.Booleans.{clash}
 use Rattle.grammar.specs.declared.Symbol.{Symbol}
 use Rattle.grammar.specs.declared.Symbol.the-variants.{Token, Nonterminal, End}
-use Rattle.grammar.specs.Limits.{maxNonterminals, maxProductions, maxPlaces, endPlace, endMark, nobody}
+use Rattle.grammar.specs.Limits.{maxProductions, maxPlaces, endPlace, endMark, nobody}
 use Rattle.grammar.specs.Decode.{Rules, AllOf, Alternatives, Legal}
 use Rattle.grammar.specs.Grammar.{Grammar, facing, owner, admits, alternatives, first, sizeEach, sizeAll, startsEach, startsAll, compile, Limited}
 use Rattle.grammar.proofs.OrderedLaws.{compile-ordered}
@@ -75,4 +75,5 @@ module _ (r : Rules) (limits : Limited r) where
     end-only = compile-end-only r limits;
     past = compile-ordered r limits .end-past;
     unowned = compile-unowned r limits;
-    few = compile-few }
+    few = compile-few;
+  }

@@ -42,7 +42,8 @@ module _ (g : Grammar) (start : List Config) where
     distinct = w .distinct;
     few = w .few;
     small = w .small;
-    exact = λ c. (λ m. w .reached c m, λ r. all-reached (λ d m. let t = in-get m in h (t .0) d (let b = get-below ms (t .0) (t .1) in omega arith) (t .1)) s r) })
+    exact = λ c. (λ m. w .reached c m, λ r. all-reached (λ d m. let t = in-get m in h (t .0) d (let b = get-below ms (t .0) (t .1) in omega arith) (t .1)) s r);
+  })
 
   done-on : (k : ℕ) {c : Config} {ms ms′ : List Config} → getElem? ms k ≡ some c → Done k ms → Grown g start ms (moves g c) ms′ → Done (suc k) ms′
   done-on k {c} {ms} {ms′} e h w i d l q = go (decLt i k)

@@ -1,9 +1,8 @@
 -- A step over the end mark never gives a state: past the end mark all configurations stand at one place with an empty stack.
 use mathlib.Core.Path.{_≡_, refl, sym, subst, ap, _∙_}
-use mathlib.Core.Logic.{_⊎_, inl, inr}
 use mathlib.Core.Bool.{Bool, true, false, _&&_, not, cond}
 use mathlib.Core.Option.{some}
-use mathlib.Core.List.{List, [], _∷_, List·Memᴰ·head, List·Memᴰ·tail}
+use mathlib.Core.List.{List, [], _∷_}
 use Prim.Native.Nat.{ℕ, suc}
 use native.Mathlib.Omega.{arith}
 use lib.Dec.{T, T-not, not-T, eqb}
@@ -14,13 +13,12 @@ use Rattle.base.proofs.Booleans.{clash, T→true, true→T, T-and}
 use Rattle.base.proofs.Lists.{anyOf-T, T-anyOf}
 use Rattle.grammar.specs.Limits.{endPlace, endMark}
 use Rattle.grammar.specs.Decode.{Rules}
-use Rattle.grammar.specs.Grammar.{Grammar, facing, owner, compile, Limited}
-use Rattle.grammar.specs.declared.Symbol.the-variants.{Token, Nonterminal, End}
-use Rattle.lookahead.specs.Configs.{Config, config, In, Moves, enter, pop, behind, end, Closes, from, move}
+use Rattle.grammar.specs.Grammar.{Grammar, owner, compile, Limited}
+use Rattle.lookahead.specs.Configs.{Config, In, Moves, enter, pop, behind, end, Closes, from, move}
 use Rattle.lookahead.specs.Closing.{sameList}
 use Rattle.lookahead.specs.Order.{pastEnd}
 use Rattle.lookahead.specs.Outcomes.{full, alternative, state, rivals, conflicts, agreed, shared, settled, resolved, judged, outcome, stepConfigs, stepOutcome, States}
-use Rattle.lookahead.proofs.ListLaws.{Each, get-in, in-get}
+use Rattle.lookahead.proofs.ListLaws.{Each, get-in}
 use Rattle.lookahead.proofs.Bounds.{Bounded, compile-bounded}
 use Rattle.lookahead.proofs.Standing.{At, inside, last, past, Standing, step-out}
 use Rattle.lookahead.proofs.StateLaws.{outcome-state, state-exact, states-standing}
@@ -34,7 +32,7 @@ rival : (c d : Config) → Past c → Past d → ¬ (c .alternative ≡ d .alter
 unfolding rivals
 rival c d (p, s) (q, t) n =
     T-and (eqb (c .place) (d .place)) (not (eqb (c .alternative) (d .alternative))) (true→T (eqb (c .place) (d .place)) (eq-eqb (c .place) (d .place) (p ∙ sym q)))
-      (rw (ne-eqb (c .alternative) (d .alternative) n) tt)
+    (rw (ne-eqb (c .alternative) (d .alternative) n) tt)
 
 conflict : (c d : Config) → Past c → Past d → ¬ (c .alternative ≡ d .alternative) → T (conflicts c d)
 unfolding conflicts sameList

@@ -3,11 +3,11 @@ use mathlib.Core.Path.{_≡_, refl, sym, ap, subst, _∙_}
 use mathlib.Core.Logic.{_↔_, _⊎_, inl, inr}
 use mathlib.Core.Bool.{Bool, true, false, cond}
 use mathlib.Core.List.{List, [], _∷_, List·Memᴰ·head, List·Memᴰ·tail, List·Memᴰ·not-nil, List·Memᴰ·cases-cons}
-use Prim.Native.Nat.{ℕ, suc, _<_}
+use Prim.Native.Nat.{_<_}
 use native.Mathlib.Omega.{arith}
 use lib.Dec.{T, leb}
 use borrow.Author.Tests.{leb-true, leb-false}
-use Rattle.base.proofs.Booleans.{T→true, true→T, false→¬T}
+use Rattle.base.proofs.Booleans.{true→T, false→¬T}
 use Rattle.grammar.specs.Grammar.{Grammar}
 use Rattle.lookahead.specs.Configs.{Config, In}
 use Rattle.lookahead.specs.Order.{kept?, keep, key, Packable, insert, sort, kept}
@@ -155,7 +155,7 @@ unfolding sort
 sort-ascending nil h = none
 sort-ascending (also {x = c} {l = l} n d) h =
     insert-ascending c (sort-ascending d (λ x m. h x (List·Memᴰ·tail m)))
-      (λ x m e. let k = sort-out l x m in n (subst (λ (y : Config). In y l) (sym (key-one c x (h c (List·Memᴰ·head refl)) (h x (List·Memᴰ·tail k)) e)) k))
+    (λ x m e. let k = sort-out l x m in n (subst (λ (y : Config). In y l) (sym (key-one c x (h c (List·Memᴰ·head refl)) (h x (List·Memᴰ·tail k)) e)) k))
 
 -- ---- the kept members of a closed set
 module _ (g : Grammar) where
@@ -181,5 +181,5 @@ module _ (g : Grammar) where
       back : ((c : Config) → T (kept? g c) → In c ms ↔ In c ns) → kept g ms ≡ kept g ns
       back s =
           ascending-one (kept-ascending ms d h) (kept-ascending ns e k)
-            (λ c m. let x = kept-right ms c .0 m in kept-right ns c .1 (s c (x .1) .0 (x .0), x .1))
-            (λ c m. let x = kept-right ns c .0 m in kept-right ms c .1 (s c (x .1) .1 (x .0), x .1))
+          (λ c m. let x = kept-right ms c .0 m in kept-right ns c .1 (s c (x .1) .0 (x .0), x .1))
+          (λ c m. let x = kept-right ns c .0 m in kept-right ms c .1 (s c (x .1) .1 (x .0), x .1))

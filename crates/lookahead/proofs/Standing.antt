@@ -1,23 +1,21 @@
 -- Where the configurations of starts and steps stand, and those that closing adds.
-use mathlib.Core.Path.{_≡_, refl, sym, subst, ap, _∙_}
+use mathlib.Core.Path.{_≡_, refl, sym, subst}
 use mathlib.Core.Logic.{_⊎_, inl, inr}
-use mathlib.Core.Bool.{true, false}
-use mathlib.Core.Option.{Option, none, some}
 use mathlib.Core.List.{List, [], _∷_, List·Memᴰ·head, List·Memᴰ·tail, List·Memᴰ·not-nil, List·Memᴰ·cases-cons}
-use Prim.Native.Nat.{ℕ, zero, suc, _+_, _≤_, _<_}
+use Prim.Native.Nat.{ℕ, suc, _+_, _≤_, _<_}
 use native.Mathlib.Omega.{arith}
 use lib.Dec.{T}
-use lib.ListN.{length, getElem?}
+use lib.ListN.{length}
 use Rattle.base.proofs.Booleans.{clash}
 use Rattle.grammar.specs.declared.Symbol.{Symbol}
 use Rattle.grammar.specs.declared.Symbol.the-variants.{Token, Nonterminal, End}
-use Rattle.grammar.specs.Limits.{maxProductions, endPlace, endMark}
-use Rattle.grammar.specs.Grammar.{Grammar, facing, admits, alternatives, first}
+use Rattle.grammar.specs.Limits.{maxProductions, endPlace}
+use Rattle.grammar.specs.Grammar.{Grammar, facing, admits, alternatives}
 use Rattle.lookahead.specs.Configs.{Config, config, In, Moves, enter, pop, behind, end, Closes, from, move}
 use Rattle.lookahead.specs.Closing.{maxEntries}
 use Rattle.lookahead.specs.Order.{pastEnd, keep, Packable}
 use Rattle.lookahead.specs.Outcomes.{numbered, startConfigs, passes, onward, stepConfigs}
-use Rattle.lookahead.proofs.ListLaws.{Each, in-map, get-in, in-get}
+use Rattle.lookahead.proofs.ListLaws.{Each, in-map, in-get}
 use Rattle.lookahead.proofs.OrderLaws.{keep-out}
 use Rattle.lookahead.proofs.Bounds.{Bounded}
 
@@ -58,7 +56,8 @@ module _ (g : Grammar) (bounded : Bounded g) where
     place = go (s .stands);
     alternative = omega (arith, s .most);
     entries = omega arith;
-    returns = λ r m. let h = s .returns r m in omega (arith, bounded .small) }
+    returns = λ r m. let h = s .returns r m in omega (arith, bounded .small);
+  }
     where
       go : {p : ℕ} {t : List ℕ} → At g p t → p < 2048
       go (inside h) = omega (arith, bounded .small)

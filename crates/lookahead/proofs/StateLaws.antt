@@ -1,17 +1,15 @@
 -- States: the kept configurations of a closed set, in ascending order; and no step over the end mark gives one.
-use mathlib.Core.Path.{_≡_, refl, sym, subst, ap, _∙_}
-use mathlib.Core.Logic.{_↔_, _⊎_, inl, inr}
+use mathlib.Core.Path.{_≡_, refl, sym, subst}
+use mathlib.Core.Logic.{_↔_}
 use mathlib.Core.Bool.{Bool, true, false, _&&_, not, cond}
 use mathlib.Core.Option.{Option, none, some}
-use mathlib.Core.List.{List, [], _∷_, List·Memᴰ·head, List·Memᴰ·tail}
-use Prim.Native.Nat.{ℕ, suc, _≤_}
-use native.Mathlib.Omega.{arith}
-use lib.Dec.{T, eqb, ltb}
+use mathlib.Core.List.{List, [], _∷_}
+use Prim.Native.Nat.{ℕ, _≤_}
+use lib.Dec.{T, ltb}
 use lib.ListN.{length}
 use borrow.Author.Tests.{ltb-false}
 use Rattle.base.proofs.Booleans.{clash}
-use Rattle.grammar.specs.Decode.{Rules}
-use Rattle.grammar.specs.Grammar.{Grammar, compile, Limited}
+use Rattle.grammar.specs.Grammar.{Grammar}
 use Rattle.lookahead.specs.Configs.{Config, In, Closes}
 use Rattle.lookahead.specs.Closing.{close}
 use Rattle.lookahead.specs.Order.{kept?, Packable, kept}
@@ -19,7 +17,7 @@ use Rattle.lookahead.specs.Outcomes.{maxKept, Outcome, full, alternative
 use Rattle.lookahead.proofs.ListLaws.{Each}
 use Rattle.lookahead.proofs.CloseLaws.{Closure, close-some}
 use Rattle.lookahead.proofs.OrderLaws.{Ascending, kept-right, kept-ascending, kept-equal}
-use Rattle.lookahead.proofs.Bounds.{Bounded, compile-bounded}
+use Rattle.lookahead.proofs.Bounds.{Bounded}
 use Rattle.lookahead.proofs.Standing.{Standing, closes-standing, packable, start-standing, step-standing}
 
 -- ---- the rules give no other state than the kept configurations, and not more than 64
@@ -70,9 +68,10 @@ module _ (g : Grammar) where
   -- a state holds exactly what is kept of all that the moves reach
   pub state-exact : (start ks : List Config) → outcome g start ≡ state ks → (c : Config) → In c ks ↔ (Closes g start c × T (kept? g c))
   state-exact start ks e c =
-      let h = outcome-state start ks e in
-      ( λ m. let x = kept-right g (h .members) c .0 (subst (In c) (sym (h .same)) m) in (h .closure .exact c .0 (x .0), x .1)
-      , λ x. subst (In c) (h .same) (kept-right g (h .members) c .1 (h .closure .exact c .1 (x .0), x .1)) )
+      let h = outcome-state start ks e in (
+        λ m. let x = kept-right g (h .members) c .0 (subst (In c) (sym (h .same)) m) in (h .closure .exact c .0 (x .0), x .1),
+        λ x. subst (In c) (h .same) (kept-right g (h .members) c .1 (h .closure .exact c .1 (x .0), x .1)),
+      )
 
   module _ (bounded : Bounded g) where
     members-packable : (start ms : List Config) → Each (Standing g) start → Closure g start ms → Each Packable ms

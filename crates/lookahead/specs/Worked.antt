@@ -14,9 +14,9 @@ abbrev pub g1Rules : Rules
 g1Rules = record {
   kinds = 2;
   productions =
-    ((Nonterminal 1 ∷ []) ∷ (Nonterminal 1 ∷ Token 2 ∷ []) ∷ [])
-    ∷ ((Token 1 ∷ []) ∷ (Token 1 ∷ Token 2 ∷ []) ∷ [])
-    ∷ [];
+      ((Nonterminal 1 ∷ []) ∷ (Nonterminal 1 ∷ Token 2 ∷ []) ∷ [])
+      ∷ ((Token 1 ∷ []) ∷ (Token 1 ∷ Token 2 ∷ []) ∷ [])
+      ∷ [];
 }
 
 -- an outcome, and then steps over these tokens, as long as there is a state to step from
