@@ -14,7 +14,8 @@ use Rattle.base.proofs.Lists.{anyOf-T, T-anyOf}
 use Rattle.grammar.specs.Grammar.{Grammar}
 use Rattle.lookahead.specs.Configs.{Config, In, Closes}
 use Rattle.lookahead.specs.Closing.{maxMembers, maxEntries, sameList, sameConfig, member?, shallow, add, addAll}
-use Rattle.lookahead.proofs.ListLaws.{Sub, Distinct, Each, get-in, in-get, distinct-snoc, each-snoc}
+use Rattle.lookahead.specs.Rules.{Distinct, Each, Over, deep, many}
+use Rattle.lookahead.proofs.ListLaws.{Sub, get-in, in-get, distinct-snoc, each-snoc}
 
 -- ---- the tests
 same-list : (k l : List ℕ) → T (sameList k l) → k ≡ l
@@ -57,11 +58,7 @@ in-member : (d : Config) (ms : List Config) → In d ms → T (member? d ms)
 unfolding member?
 in-member d ms m = let h = in-get m in T-anyOf (λ (c : Config). sameConfig d c) ms (h .0) (h .1) (config-same d)
 
--- ---- what is over a limit: a member whose stack is too deep, or too many members
-pub data Over (g : Grammar) (start : List Config) : Type 0 where
-  deep : (c : Config) → Closes g start c → maxEntries < length (c .stack) → Over g start
-  many : (l : List Config) → Distinct l → Each (Closes g start) l → maxMembers < length l → Over g start
-
+-- ---- members
 module _ (g : Grammar) (start : List Config) where
   -- members so far: within the limits, and reached
   pub record Work (ms : List Config) : Type 0 where
@@ -112,8 +109,11 @@ module _ (g : Grammar) (start : List Config) where
       go true s l em es el = went (record { others = []; grown = append-nil ms; work = w; new = one (λ (c : Config). In c ms) (member-in d ms (true→T (member? d ms) em)) })
       go false false l em es el = stopped (deep d r (leb-false (length (d .stack)) maxEntries es))
       go false true false em es el =
-          stopped (many (ms ++ (d ∷ [])) (distinct-snoc (w .distinct) (λ m. false→¬T (member? d ms) em (in-member d ms m))) (each-snoc (Closes g start) r (w .reached))
-          (let h = ltb-false (length ms) maxMembers el in omega (arith, length-append ms (d ∷ []))))
+          stopped (many (record {
+            listed = ms ++ (d ∷ []);
+            distinct = distinct-snoc (w .distinct) (λ m. false→¬T (member? d ms) em (in-member d ms m));
+            each = each-snoc (Closes g start) r (w .reached);
+            more = let h = ltb-false (length ms) maxMembers el in omega (arith, length-append ms (d ∷ [])) }))
       go false true true em es el = went (record {
         others = d ∷ [];
         grown = refl;

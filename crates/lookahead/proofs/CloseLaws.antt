@@ -11,9 +11,10 @@ use Rattle.base.proofs.Booleans.{clash}
 use Rattle.grammar.specs.Grammar.{Grammar}
 use Rattle.lookahead.specs.Configs.{Config, In, Closes, from, move, moves}
 use Rattle.lookahead.specs.Closing.{maxMembers, maxEntries, addAll, closeFrom, close}
-use Rattle.lookahead.proofs.ListLaws.{Sub, Distinct, nil, Each, get-in, in-get, get-below, get-behind, get-front, distinct-short}
+use Rattle.lookahead.specs.Rules.{Distinct, nil, Each, Over, deep, many}
+use Rattle.lookahead.proofs.ListLaws.{Sub, get-in, in-get, get-below, get-behind, get-front, distinct-short}
 use Rattle.lookahead.proofs.MoveLaws.{moves-right}
-use Rattle.lookahead.proofs.AddLaws.{Over, deep, many, Work, Grown, Adds, stopped, went, grown-sub, addAll-right}
+use Rattle.lookahead.proofs.AddLaws.{Work, Grown, Adds, stopped, went, grown-sub, addAll-right}
 
 -- a list of configurations is the closure of some others: no member twice, within the limits, and exactly what the moves reach
 pub record Closure (g : Grammar) (start ms : List Config) : Type 0 where
@@ -91,9 +92,9 @@ module _ (g : Grammar) (start : List Config) where
       go (went {ms′ = ms} v) = closing maxMembers 0 ms (v .work) (λ i c l. absurd (omega arith)) (v .new) (omega arith)
 
   -- a closure within the limits is not over them
-  within : {ms : List Config} → Closure g start ms → ¬ Over g start
+  pub within : {ms : List Config} → Closure g start ms → ¬ Over g start
   within c (deep d r l) = let h = c .small d (c .exact d .1 r) in omega arith
-  within {ms} c (many l d r h) = let k = distinct-short d ms (λ x m. c .exact x .1 (r x m)) in omega (arith, c .few)
+  within {ms} c (many x) = let k = distinct-short (x .distinct) ms (λ y m. c .exact y .1 (x .each y m)) in omega (arith, c .few, x .more)
 
   -- `close` answers none exactly if the set that the moves reach has more than 256 members or a member with more than 8 entries
   pub close-none : (close g start ≡ none) ↔ Over g start

@@ -18,7 +18,8 @@ use Rattle.lookahead.specs.Configs.{Config, In, Moves, enter, pop, behin
 use Rattle.lookahead.specs.Closing.{sameList}
 use Rattle.lookahead.specs.Order.{pastEnd}
 use Rattle.lookahead.specs.Outcomes.{full, alternative, state, rivals, conflicts, agreed, shared, settled, resolved, judged, outcome, stepConfigs, stepOutcome, States}
-use Rattle.lookahead.proofs.ListLaws.{Each, get-in}
+use Rattle.lookahead.specs.Rules.{Each}
+use Rattle.lookahead.proofs.ListLaws.{get-in}
 use Rattle.lookahead.proofs.Bounds.{Bounded, compile-bounded}
 use Rattle.lookahead.proofs.Standing.{At, inside, last, past, Standing, step-out}
 use Rattle.lookahead.proofs.StateLaws.{outcome-state, state-exact, states-standing}

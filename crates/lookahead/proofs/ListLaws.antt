@@ -8,19 +8,11 @@ use native.Mathlib.Omega.{arith}
 use lib.ListN.{length, getElem?}
 use Rattle.base.proofs.Booleans.{clash}
 use Rattle.lookahead.specs.Configs.{In}
+use Rattle.lookahead.specs.Rules.{Distinct, nil, also, Each}
 
 -- every member of l is one of m
 abbrev pub Sub : {A : Type 0} → List A → List A → Type 0
 Sub {A} l m = (x : A) → In x l → In x m
-
--- no member stands again later in the list
-pub data Distinct {A : Type 0} : List A → Type 0 where
-  nil : Distinct []
-  also : {x : A} {l : List A} → ¬ In x l → Distinct l → Distinct (x ∷ l)
-
--- a property of all members
-abbrev pub Each : {A : Type 0} → (A → Type 0) → List A → Type 0
-Each {A} P l = (x : A) → In x l → P x
 
 module _ {A : Type 0} where
   pub map-in : {B : Type 0} (f : A → B) {x : A} {l : List A} → In x l → In (f x) (map f l)

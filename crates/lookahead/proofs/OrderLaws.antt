@@ -10,8 +10,9 @@ use borrow.Author.Tests.{leb-true, leb-false}
 use Rattle.base.proofs.Booleans.{true→T, false→¬T}
 use Rattle.grammar.specs.Grammar.{Grammar}
 use Rattle.lookahead.specs.Configs.{Config, In}
-use Rattle.lookahead.specs.Order.{kept?, keep, key, Packable, insert, sort, kept}
-use Rattle.lookahead.proofs.ListLaws.{Sub, Distinct, nil, also, Each}
+use Rattle.lookahead.specs.Order.{kept?, keep, key, Packable, insert, sort, Ascending, none, next, kept}
+use Rattle.lookahead.specs.Rules.{Distinct, nil, also, Each}
+use Rattle.lookahead.proofs.ListLaws.{Sub}
 use Rattle.lookahead.proofs.KeyLaws.{key-one}
 
 -- ---- members that pass a test
@@ -53,10 +54,6 @@ module _ {A : Type 0} (f : A → Bool) where
       go false rec = rec
 
 -- ---- ascending lists
-pub data Ascending : List Config → Type 0 where
-  none : Ascending []
-  next : {c : Config} {l : List Config} → Each (λ (d : Config). key c < key d) l → Ascending l → Ascending (c ∷ l)
-
 -- two of them with the same members are equal
 pub ascending-one : {k l : List Config} → Ascending k → Ascending l → Sub k l → Sub l k → k ≡ l
 ascending-one none none s t = refl

@@ -15,7 +15,8 @@ use Rattle.lookahead.specs.Configs.{Config, config, In, Moves, enter, po
 use Rattle.lookahead.specs.Closing.{maxEntries}
 use Rattle.lookahead.specs.Order.{pastEnd, keep, Packable}
 use Rattle.lookahead.specs.Outcomes.{numbered, startConfigs, passes, onward, stepConfigs}
-use Rattle.lookahead.proofs.ListLaws.{Each, in-map, in-get}
+use Rattle.lookahead.specs.Rules.{Each}
+use Rattle.lookahead.proofs.ListLaws.{in-map, in-get}
 use Rattle.lookahead.proofs.OrderLaws.{keep-out}
 use Rattle.lookahead.proofs.Bounds.{Bounded}
 

@@ -12,11 +12,11 @@ use Rattle.base.proofs.Booleans.{clash}
 use Rattle.grammar.specs.Grammar.{Grammar}
 use Rattle.lookahead.specs.Configs.{Config, In, Closes}
 use Rattle.lookahead.specs.Closing.{close}
-use Rattle.lookahead.specs.Order.{kept?, Packable, kept}
+use Rattle.lookahead.specs.Order.{kept?, Packable, Ascending, kept}
 use Rattle.lookahead.specs.Outcomes.{maxKept, Outcome, full, alternative, state, agreed, shared, settled, resolved, judged, limited, outcome, startConfigs, stepConfigs, startOutcome, stepOutcome, States, begun, stepped}
-use Rattle.lookahead.proofs.ListLaws.{Each}
+use Rattle.lookahead.specs.Rules.{Each}
 use Rattle.lookahead.proofs.CloseLaws.{Closure, close-some}
-use Rattle.lookahead.proofs.OrderLaws.{Ascending, kept-right, kept-ascending, kept-equal}
+use Rattle.lookahead.proofs.OrderLaws.{kept-right, kept-ascending, kept-equal}
 use Rattle.lookahead.proofs.Bounds.{Bounded}
 use Rattle.lookahead.proofs.Standing.{Standing, closes-standing, packable, start-standing, step-standing}
 

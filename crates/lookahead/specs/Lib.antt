@@ -3,4 +3,5 @@ pub mod Configs
 pub mod Closing
 pub mod Order
 pub mod Outcomes
+pub mod Rules
 pub mod Worked
