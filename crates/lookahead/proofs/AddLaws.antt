@@ -18,7 +18,7 @@ use Rattle.lookahead.specs.Rules.{Distinct, Each, Over, deep, many}
 use Rattle.lookahead.proofs.ListLaws.{Sub, get-in, in-get, distinct-snoc, each-snoc}
 
 -- ---- the tests
-same-list : (k l : List ℕ) → T (sameList k l) → k ≡ l
+pub same-list : (k l : List ℕ) → T (sameList k l) → k ≡ l
 unfolding sameList
 same-list [] [] t = refl
 same-list [] (y ∷ l) t = absurd t
@@ -29,7 +29,7 @@ same-list (x ∷ k) (y ∷ l) t =
     let q : k ≡ l = same-list k l (h .1) in
     cc
 
-list-same : (l : List ℕ) → T (sameList l l)
+pub list-same : (l : List ℕ) → T (sameList l l)
 unfolding sameList
 list-same [] = tt
 list-same (x ∷ l) = T-and (eqb x x) (sameList l l) (eqb-refl x) (list-same l)

@@ -9,4 +9,6 @@ pub mod Bounds
 pub mod Standing
 pub mod StateLaws
 pub mod EndLaws
+pub mod TestLaws
+pub mod RuleLaws
 pub mod WorkedCases

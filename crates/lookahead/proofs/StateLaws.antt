@@ -74,7 +74,7 @@ module _ (g : Grammar) where
       )
 
   module _ (bounded : Bounded g) where
-    members-packable : (start ms : List Config) → Each (Standing g) start → Closure g start ms → Each Packable ms
+    pub members-packable : (start ms : List Config) → Each (Standing g) start → Closure g start ms → Each Packable ms
     members-packable start ms s h c m = packable g bounded c (closes-standing g bounded s (h .exact c .0 m)) (h .small c m)
 
     -- a state is in ascending order
