@@ -1,28 +1,23 @@
 -- A step over the end mark never gives a state: past the end mark all configurations stand at one place with an empty stack.
 use mathlib.Core.Path.{_≡_, refl, sym, subst, ap, _∙_}
 use mathlib.Core.Bool.{Bool, true, false, _&&_, not, cond}
-use mathlib.Core.Option.{some}
-use mathlib.Core.List.{List, [], _∷_}
+use mathlib.Core.List.{List, [], _∷_, List·Memᴰ·head, List·Memᴰ·tail}
 use Prim.Native.Nat.{ℕ, suc}
 use native.Mathlib.Omega.{arith}
-use lib.Dec.{T, T-not, not-T, eqb}
-use lib.ListN.{getElem?}
-use borrow.Author.Tests.{eqb-true, eqb-false, eq-eqb, ne-eqb}
-use Rattle.base.specs.Rounds.{anyOf}
-use Rattle.base.proofs.Booleans.{clash, T→true, true→T, T-and}
-use Rattle.base.proofs.Lists.{anyOf-T, T-anyOf}
+use lib.Dec.{T, not-T, eqb}
+use borrow.Author.Tests.{eqb-true, eqb-false}
+use Rattle.base.proofs.Booleans.{clash, T→true, T-and, false→¬T}
 use Rattle.grammar.specs.Limits.{endPlace, endMark}
 use Rattle.grammar.specs.Decode.{Rules}
 use Rattle.grammar.specs.Grammar.{Grammar, owner, compile, Limited}
 use Rattle.lookahead.specs.Configs.{Config, In, Moves, enter, pop, behind, end, Closes, from, move}
-use Rattle.lookahead.specs.Closing.{sameList}
 use Rattle.lookahead.specs.Order.{pastEnd}
 use Rattle.lookahead.specs.Outcomes.{full, alternative, state, rivals, conflicts, agreed, shared, settled, resolved, judged, outcome, stepConfigs, stepOutcome, States}
 use Rattle.lookahead.specs.Rules.{Each}
-use Rattle.lookahead.proofs.ListLaws.{get-in}
 use Rattle.lookahead.proofs.Bounds.{Bounded, compile-bounded}
 use Rattle.lookahead.proofs.Standing.{At, inside, last, past, Standing, step-out}
 use Rattle.lookahead.proofs.StateLaws.{outcome-state, state-exact, states-standing}
+use Rattle.lookahead.proofs.TestLaws.{rivals-right, conflicts-right, agreed-not, shared-in, settled-in}
 
 -- past the end mark
 abbrev Past : Config → Type 0
@@ -30,58 +25,37 @@ Past c = (c .place ≡ pastEnd) × (c .stack ≡ [])
 
 -- ---- two alternatives there conflict, and no place belongs to only one
 rival : (c d : Config) → Past c → Past d → ¬ (c .alternative ≡ d .alternative) → T (rivals c d)
-unfolding rivals
-rival c d (p, s) (q, t) n =
-    T-and (eqb (c .place) (d .place)) (not (eqb (c .alternative) (d .alternative))) (true→T (eqb (c .place) (d .place)) (eq-eqb (c .place) (d .place) (p ∙ sym q)))
-    (rw (ne-eqb (c .alternative) (d .alternative) n) tt)
+rival c d (p, s) (q, t) n = rivals-right c d .1 (p ∙ sym q, n)
 
 conflict : (c d : Config) → Past c → Past d → ¬ (c .alternative ≡ d .alternative) → T (conflicts c d)
-unfolding conflicts sameList
-conflict c d (p, s) (q, t) n = T-and (rivals c d) (sameList (c .stack) (d .stack)) (rival c d (p, s) (q, t) n) (rw (s, t) tt)
+conflict c d (p, s) (q, t) n = conflicts-right c d .1 (rival c d (p, s) (q, t) n, s ∙ sym t)
 
 -- so rule 4 applies where rule 3 does not
-module _ (ks : List Config) (gone : Each Past ks) (k d : Config) (i j : ℕ) (at-i : getElem? ks i ≡ some k) (at-j : getElem? ks j ≡ some d)
-    (apart : ¬ (k .alternative ≡ d .alternative)) where
-  k-past : Past k
-  k-past = gone k (get-in ks i at-i)
-
-  d-past : Past d
-  d-past = gone d (get-in ks j at-j)
-
-  some-shared : T (shared ks)
-  unfolding shared
-  some-shared = T-anyOf (λ (c : Config). anyOf (conflicts c) ks) ks i at-i (T-anyOf (conflicts k) ks j at-j (conflict k d k-past d-past apart))
-
+module _ (ks : List Config) (gone : Each Past ks) (k d : Config) (k-in : In k ks) (d-in : In d ks) (apart : ¬ (d .alternative ≡ k .alternative)) where
   -- each has a rival: k, or d
-  has-rival : (c : Config) → In c ks → T (anyOf (rivals c) ks)
+  has-rival : (c : Config) → In c ks → (e : Config) × In e ks × T (rivals c e)
   has-rival c m = go (eqb (c .alternative) (k .alternative)) refl
     where
-      go : (b : Bool) → eqb (c .alternative) (k .alternative) ≡ b → T (anyOf (rivals c) ks)
-      go true e = T-anyOf (rivals c) ks j at-j (rival c d (gone c m) d-past (λ q. apart (sym (eqb-true (c .alternative) (k .alternative) e) ∙ q)))
-      go false e = T-anyOf (rivals c) ks i at-i (rival c k (gone c m) k-past (eqb-false (c .alternative) (k .alternative) e))
-
-  none-settled : ¬ T (settled ks)
-  unfolding settled
-  none-settled t =
-      let h = anyOf-T (λ (c : Config). not (anyOf (rivals c) ks)) ks t in
-      T-not (anyOf (rivals (h .1)) ks) (h .3) (has-rival (h .1) (get-in ks (h .0) (h .2)))
+      go : (b : Bool) → eqb (c .alternative) (k .alternative) ≡ b → (e : Config) × In e ks × T (rivals c e)
+      go true e = (d, d-in, rival c d (gone c m) (gone d d-in) (λ q. apart (sym q ∙ eqb-true (c .alternative) (k .alternative) e)))
+      go false e = (k, k-in, rival c k (gone c m) (gone k k-in) (eqb-false (c .alternative) (k .alternative) e))
 
   conflict-full : resolved ks ≡ full
   unfolding resolved
-  conflict-full = rw (T→true (shared ks && not (settled ks)) (T-and (shared ks) (not (settled ks)) some-shared (not-T (settled ks) none-settled)))
+  conflict-full =
+      rw (T→true (shared ks && not (settled ks))
+        (T-and (shared ks) (not (settled ks)) (shared-in ks d k d-in k-in (conflict d k (gone d d-in) (gone k k-in) apart)) (not-T (settled ks) (settled-in ks has-rival))))
 
 judged-past : (ks ls : List Config) → Each Past ks → ¬ (judged ks ≡ state ls)
-unfolding judged agreed
+unfolding judged
 judged-past [] ls h e = clash (cc)
-judged-past (k ∷ ks) ls h e = go (anyOf (λ (c : Config). not (eqb (c .alternative) (k .alternative))) ks) refl e
+judged-past (k ∷ ks) ls h e = go (agreed (k .alternative) ks) refl e
   where
-    go : (b : Bool) → anyOf (λ (c : Config). not (eqb (c .alternative) (k .alternative))) ks ≡ b → ¬ (cond (not b) (alternative (k .alternative)) (resolved (k ∷ ks)) ≡ state ls)
-    go false q e = clash (cc)
-    go true q e =
-        let f = anyOf-T (λ (c : Config). not (eqb (c .alternative) (k .alternative))) ks (true→T _ q) in
-        let n : ¬ (k .alternative ≡ f .1 .alternative)
-        = λ z. T-not (eqb (f .1 .alternative) (k .alternative)) (f .3) (true→T (eqb (f .1 .alternative) (k .alternative)) (eq-eqb (f .1 .alternative) (k .alternative) (sym z))) in
-        let y = conflict-full (k ∷ ks) h k (f .1) 0 (suc (f .0)) refl (f .2) n in
+    go : (b : Bool) → agreed (k .alternative) ks ≡ b → ¬ (cond b (alternative (k .alternative)) (resolved (k ∷ ks)) ≡ state ls)
+    go true q e = clash (cc)
+    go false q e =
+        let (d, m, n) = agreed-not (k .alternative) ks (false→¬T (agreed (k .alternative) ks) q) in
+        let y = conflict-full (k ∷ ks) h k d (List·Memᴰ·head refl) (List·Memᴰ·tail m) n in
         clash (cc)
 
 -- ---- the step

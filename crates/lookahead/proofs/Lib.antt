@@ -8,7 +8,8 @@ pub mod OrderLaws
 pub mod Bounds
 pub mod Standing
 pub mod StateLaws
-pub mod EndLaws
 pub mod TestLaws
+pub mod EndLaws
 pub mod RuleLaws
+pub mod StartLaws
 pub mod WorkedCases

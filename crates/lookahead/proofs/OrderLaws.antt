@@ -33,7 +33,7 @@ module _ {A : Type 0} (f : A → Bool) where
           pick (inr k) = later (rec k)
       go false e n rec = later (rec n)
 
-  keep-in : (l : List A) {x : A} → In x l → T (f x) → In x (keep f l)
+  pub keep-in : (l : List A) {x : A} → In x l → T (f x) → In x (keep f l)
   unfolding keep
   keep-in [] m t = absurd (List·Memᴰ·not-nil m)
   keep-in (y ∷ l) {x} m t = go (f y) refl (List·Memᴰ·cases-cons m) (λ n. keep-in l n t)
