@@ -8,15 +8,15 @@ use lib.Dec.{T, not-T, eqb}
 use borrow.Author.Tests.{eqb-true, eqb-false}
 use Rattle.base.proofs.Booleans.{clash, T→true, T-and, false→¬T}
 use Rattle.grammar.specs.Limits.{endPlace, endMark}
-use Rattle.grammar.specs.Decode.{Rules}
-use Rattle.grammar.specs.Grammar.{Grammar, owner, compile, Limited}
+use Rattle.grammar.specs.Grammar.{Grammar, owner}
 use Rattle.lookahead.specs.Configs.{Config, In, Moves, enter, pop, behind, end, Closes, from, move}
 use Rattle.lookahead.specs.Order.{pastEnd}
-use Rattle.lookahead.specs.Outcomes.{full, alternative, state, rivals, conflicts, agreed, shared, settled, resolved, judged, outcome, stepConfigs, stepOutcome, States}
+use Rattle.lookahead.specs.Outcomes.{full, alternative, state, rivals, conflicts, agreed, shared, settled, resolved, judged, outcome, stepConfigs, stepOutcome}
 use Rattle.lookahead.specs.Rules.{Each}
-use Rattle.lookahead.proofs.Bounds.{Bounded, compile-bounded}
-use Rattle.lookahead.proofs.Standing.{At, inside, last, past, Standing, step-out}
-use Rattle.lookahead.proofs.StateLaws.{outcome-state, state-exact, states-standing}
+use Rattle.lookahead.proofs.Bounds.{Bounded}
+use Rattle.lookahead.proofs.Standing.{At, inside, last, past, Standing}
+use Rattle.lookahead.proofs.StepLaws.{step-exact}
+use Rattle.lookahead.proofs.StateLaws.{outcome-state, state-exact}
 use Rattle.lookahead.proofs.TestLaws.{rivals-right, conflicts-right, agreed-not, shared-in, settled-in}
 
 -- past the end mark
@@ -77,9 +77,9 @@ module _ (g : Grammar) (bounded : Bounded g) where
   -- a step over the end mark leads there
   step-past : (ks : List Config) → Each (Standing g) ks → Each Past (stepConfigs g endMark ks)
   step-past ks h c m =
-      let u = step-out g bounded endMark ks c m in
-      let q = bounded .end-only (u .0 .place) (u .3 .0) (u .3 .1) (u .3 .2) in
-      subst Past (sym (u .2)) (ap suc q, go q (h (u .0) (u .1) .stands))
+      let u = step-exact g endMark ks c .0 m in
+      let q = bounded .end-only (u .source .place) (u .kind) (u .faces) (u .passes) in
+      subst Past (sym (u .is)) (ap suc q, go q (h (u .source) (u .held) .stands))
     where
       go : {p : ℕ} {s : List ℕ} → p ≡ endPlace → At g p s → s ≡ []
       go q (inside l) = absurd (omega (arith, bounded .small))
@@ -96,7 +96,3 @@ module _ (g : Grammar) (bounded : Bounded g) where
   unfolding stepOutcome
   mark-no-state ks ls h e =
       outcome-past (stepConfigs g endMark ks) ls (step-past ks h) e
-
--- in no grammar that is read from bytes, from no state of any decision
-pub mark-never : (r : Rules) → Limited r → (a : ℕ) (ks ls : List Config) → States (compile r) a ks → ¬ (stepOutcome (compile r) endMark ks ≡ state ls)
-mark-never r limits a ks ls s e = let b = compile-bounded r limits in mark-no-state (compile r) b ks ls (states-standing (compile r) b s) e

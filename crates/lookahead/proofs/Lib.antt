@@ -5,11 +5,12 @@ pub mod AddLaws
 pub mod CloseLaws
 pub mod KeyLaws
 pub mod OrderLaws
+pub mod StepLaws
 pub mod Bounds
 pub mod Standing
 pub mod StateLaws
 pub mod TestLaws
 pub mod EndLaws
 pub mod RuleLaws
-pub mod StartLaws
+pub mod Learned
 pub mod WorkedCases

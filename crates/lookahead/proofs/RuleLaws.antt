@@ -3,8 +3,8 @@ use mathlib.Core.Path.{_≡_, refl, sym, subst, ap, _∙_}
 use mathlib.Core.Logic.{_↔_, _⊎_, inl, inr}
 use mathlib.Core.Bool.{Bool, true, false, _&&_, not, cond}
 use mathlib.Core.Option.{Option, none, some}
-use mathlib.Core.List.{List, [], _∷_, Memᴰ·cast, List·Memᴰ·head, List·Memᴰ·tail, List·Memᴰ·not-nil, List·Memᴰ·cases-cons}
-use Prim.Native.Nat.{ℕ, _≤_, _<_}
+use mathlib.Core.List.{List, [], _∷_, List·Memᴰ·head, List·Memᴰ·tail, List·Memᴰ·not-nil, List·Memᴰ·cases-cons}
+use Prim.Native.Nat.{ℕ, _≤_}
 use native.Mathlib.Omega.{arith}
 use lib.Dec.{T, T-not, not-T, ltb}
 use lib.ListN.{length}
@@ -12,10 +12,9 @@ use borrow.Author.Tests.{ltb-true, ltb-false}
 use Rattle.base.proofs.Booleans.{and-T, T-and, true→T, false→¬T}
 use Rattle.grammar.specs.Grammar.{Grammar}
 use Rattle.lookahead.specs.Configs.{Config, In}
-use Rattle.lookahead.specs.Closing.{close}
-use Rattle.lookahead.specs.Order.{kept, Ascending, none, next, key}
-use Rattle.lookahead.specs.Outcomes.{maxKept, Outcome, full, alternative, state, conflicts, rivals, agreed, shared, settled, resolved, judged, limited, outcome}
-use Rattle.lookahead.specs.Rules.{Distinct, nil, also, Each, MoreThan, Over, Keeps, TooLarge, closed-over, kept-many, Nothing, Agreed, Rival, Conflict, Kept, Gives, rule1, rule2, rule3, rule4, rule5}
+use Rattle.lookahead.specs.Order.{kept, Ascending, none, next}
+use Rattle.lookahead.specs.Outcomes.{maxKept, Outcome, full, alternative, state, rivals, agreed, shared, settled, resolved, judged, limited, outcome}
+use Rattle.lookahead.specs.Rules.{Distinct, nil, also, Each, Keeps, TooLarge, closed-over, kept-many, Nothing, Agreed, Rival, Conflict, Kept, Gives, rule1, rule2, rule3, rule4, rule5}
 use Rattle.lookahead.proofs.ListLaws.{distinct-short}
 use Rattle.lookahead.proofs.CloseLaws.{Closure, Closed, over, whole, close-right, within}
 use Rattle.lookahead.proofs.OrderLaws.{ascending-one, kept-right, kept-ascending}

@@ -4,20 +4,18 @@ use mathlib.Core.Logic.{_⊎_, inl, inr}
 use mathlib.Core.List.{List, [], _∷_, List·Memᴰ·head, List·Memᴰ·tail, List·Memᴰ·not-nil, List·Memᴰ·cases-cons}
 use Prim.Native.Nat.{ℕ, suc, _+_, _≤_, _<_}
 use native.Mathlib.Omega.{arith}
-use lib.Dec.{T}
 use lib.ListN.{length}
 use Rattle.base.proofs.Booleans.{clash}
-use Rattle.grammar.specs.declared.Symbol.{Symbol}
-use Rattle.grammar.specs.declared.Symbol.the-variants.{Token, Nonterminal, End}
+use Rattle.grammar.specs.declared.Symbol.the-variants.{Token}
 use Rattle.grammar.specs.Limits.{maxProductions, endPlace}
-use Rattle.grammar.specs.Grammar.{Grammar, facing, admits, alternatives}
+use Rattle.grammar.specs.Grammar.{Grammar, facing, alternatives}
 use Rattle.lookahead.specs.Configs.{Config, config, In, Moves, enter, pop, behind, end, Closes, from, move}
 use Rattle.lookahead.specs.Closing.{maxEntries}
-use Rattle.lookahead.specs.Order.{pastEnd, keep, Packable}
-use Rattle.lookahead.specs.Outcomes.{numbered, startConfigs, passes, onward, stepConfigs}
+use Rattle.lookahead.specs.Order.{pastEnd, Packable}
+use Rattle.lookahead.specs.Outcomes.{numbered, startConfigs, onward, stepConfigs}
 use Rattle.lookahead.specs.Rules.{Each}
-use Rattle.lookahead.proofs.ListLaws.{in-map, in-get}
-use Rattle.lookahead.proofs.OrderLaws.{keep-out}
+use Rattle.lookahead.proofs.ListLaws.{in-get}
+use Rattle.lookahead.proofs.StepLaws.{step-exact}
 use Rattle.lookahead.proofs.Bounds.{Bounded}
 
 -- at a place of a production; or at the end place or past it, and then nothing is to return to
@@ -80,13 +78,6 @@ module _ (g : Grammar) (bounded : Bounded g) where
   start-standing a = numbered-standing (alternatives g a) 1 (omega arith) (omega (arith, bounded .few a)) (λ f m. let t = in-get m in bounded .begins a (suc (t .0)) f (t .1))
 
   -- ---- steps
-  -- what passes faces a kind that admits it
-  pub passes-out : (t : ℕ) (s : Symbol) → T (passes g t s) → (k : ℕ) × (s ≡ Token k) × T (admits g k t)
-  unfolding passes
-  passes-out t (Token k) h = (k, refl, h)
-  passes-out t (Nonterminal a) h = absurd h
-  passes-out t End h = absurd h
-
   pub onward-standing : (c : Config) (k : ℕ) → Standing g c → facing g (c .place) ≡ Token k → Standing g (onward c)
   onward-standing c k s e = record { stands = go (s .stands) (bounded .tokens (c .place) k e); least = s .least; most = s .most; returns = s .returns }
     where
@@ -96,15 +87,7 @@ module _ (g : Grammar) (bounded : Bounded g) where
       go (last h z) (inr q) = past (omega arith) z
       go (past h z) (inr q) = absurd (omega arith)
 
-  -- every configuration of a step is one of the state's, one place on
-  pub step-out : (t : ℕ) (ks : List Config) (c : Config) → In c (stepConfigs g t ks) → (d : Config) × In d ks × (c ≡ onward d) × ((k : ℕ) × (facing g (d .place) ≡ Token k) × T (admits g k t))
-  unfolding stepConfigs
-  step-out t ks c m =
-      let u = in-map onward (keep (λ (d : Config). passes g t (facing g (d .place))) ks) m in
-      let v = keep-out (λ (d : Config). passes g t (facing g (d .place))) ks (u .1) in
-      (u .0, v .0, u .2, passes-out t (facing g (u .0 .place)) (v .1))
-
   pub step-standing : (t : ℕ) (ks : List Config) → Each (Standing g) ks → Each (Standing g) (stepConfigs g t ks)
   step-standing t ks h c m =
-      let u = step-out t ks c m in
-      subst (Standing g) (sym (u .2)) (onward-standing (u .0) (u .3 .0) (h (u .0) (u .1)) (u .3 .1))
+      let u = step-exact g t ks c .0 m in
+      subst (Standing g) (sym (u .is)) (onward-standing (u .source) (u .kind) (h (u .source) (u .held)) (u .faces))

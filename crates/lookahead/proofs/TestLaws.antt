@@ -1,7 +1,7 @@
 -- The tests on kept configurations say what the rules say.
-use mathlib.Core.Path.{_≡_, refl, sym, _∙_}
+use mathlib.Core.Path.{_≡_}
 use mathlib.Core.Logic.{_↔_}
-use mathlib.Core.Bool.{Bool, true, false, _&&_, not}
+use mathlib.Core.Bool.{Bool, true, false, not}
 use mathlib.Core.List.{List}
 use lib.Dec.{T, T-not, not-T, eqb, eqb→eq}
 use Prim.Native.Nat.{ℕ}

@@ -1,16 +1,36 @@
 -- Document 01's five rules, told of the set that the moves reach: no list, no order and no computed test stands in them.
 use mathlib.Core.Path.{_≡_}
 use mathlib.Core.Logic.{_↔_}
+use mathlib.Core.Option.{some}
 use mathlib.Core.List.{List, [], _∷_}
 use Prim.Native.Nat.{ℕ, _<_}
 use lib.Dec.{T}
 use lib.ListN.{length}
-use Rattle.grammar.specs.Grammar.{Grammar}
-use Rattle.lookahead.specs.Configs.{Config, In, Closes}
+use Rattle.grammar.specs.declared.Symbol.the-variants.{Token}
+use Rattle.grammar.specs.Grammar.{Grammar, facing, admits, first}
+use Rattle.lookahead.specs.Configs.{Config, config, In, Closes}
 use Rattle.lookahead.specs.Closing.{maxMembers, maxEntries}
 use Rattle.lookahead.specs.Order.{kept?, Ascending}
-use Rattle.lookahead.specs.Outcomes.{maxKept, Outcome, full, alternative, state}
+use Rattle.lookahead.specs.Outcomes.{maxKept, Outcome, full, alternative, state, onward}
 
+-- ---- what starts and steps take
+-- the start of decision a takes the first place of each production with an empty stack
+pub record Starts (g : Grammar) (a : ℕ) (c : Config) : Type 0 where
+  pub number : ℕ
+  pub begins : ℕ
+  pub production : first g a number ≡ some begins
+  pub is : c ≡ config begins number []
+
+-- a step over token t takes the configurations facing it, one place on
+pub record Steps (g : Grammar) (t : ℕ) (ks : List Config) (c : Config) : Type 0 where
+  pub source : Config
+  pub held : In source ks
+  pub kind : ℕ
+  pub faces : facing g (source .place) ≡ Token kind
+  pub passes : T (admits g kind t)
+  pub is : c ≡ onward source
+
+-- ---- how many
 -- no member stands again later in the list
 pub data Distinct {A : Type 0} : List A → Type 0 where
   nil : Distinct []
@@ -27,6 +47,7 @@ pub record MoreThan (n : ℕ) (P : Config → Type 0) : Type 0 where
   pub each : Each P listed
   pub more : n < length listed
 
+-- ---- the rules
 -- rule 1 for the closed set: a member whose stack has more than 8 entries, or more than 256 members
 pub data Over (g : Grammar) (start : List Config) : Type 0 where
   deep : (c : Config) → Closes g start c → maxEntries < length (c .stack) → Over g start
