@@ -113,7 +113,8 @@ module _ (g : Grammar) (start : List Config) where
             listed = ms ++ (d ∷ []);
             distinct = distinct-snoc (w .distinct) (λ m. false→¬T (member? d ms) em (in-member d ms m));
             each = each-snoc (Closes g start) r (w .reached);
-            more = let h = ltb-false (length ms) maxMembers el in omega (arith, length-append ms (d ∷ [])) }))
+            more = let h = ltb-false (length ms) maxMembers el in omega (arith, length-append ms (d ∷ []));
+          }))
       go false true true em es el = went (record {
         others = d ∷ [];
         grown = refl;

@@ -44,7 +44,7 @@ module _ (ks : List Config) (gone : Each Past ks) (k d : Config) (k-in : In k ks
   unfolding resolved
   conflict-full =
       rw (T→true (shared ks && not (settled ks))
-        (T-and (shared ks) (not (settled ks)) (shared-in ks d k d-in k-in (conflict d k (gone d d-in) (gone k k-in) apart)) (not-T (settled ks) (settled-in ks has-rival))))
+      (T-and (shared ks) (not (settled ks)) (shared-in ks d k d-in k-in (conflict d k (gone d d-in) (gone k k-in) apart)) (not-T (settled ks) (settled-in ks has-rival))))
 
 judged-past : (ks ls : List Config) → Each Past ks → ¬ (judged ks ≡ state ls)
 unfolding judged

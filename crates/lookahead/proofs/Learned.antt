@@ -33,9 +33,10 @@ module _ (r : Rules) (limits : Limited r) where
 
   -- two states are equal exactly if they hold the same configurations, whatever their decisions
   pub states-equal : {a b : ℕ} (ks ls : List Config) → States (compile r) a ks → States (compile r) b ls → (ks ≡ ls) ↔ ((c : Config) → In c ks ↔ In c ls)
-  states-equal ks ls s t =
-      ( λ e c. rw e (λ m. m, λ m. m)
-      , λ h. ascending-one (states-ascending (compile r) bounded s) (states-ascending (compile r) bounded t) (λ c m. h c .0 m) (λ c m. h c .1 m) )
+  states-equal ks ls s t = (
+    λ e c. rw e (λ m. m, λ m. m),
+    λ h. ascending-one (states-ascending (compile r) bounded s) (states-ascending (compile r) bounded t) (λ c m. h c .0 m) (λ c m. h c .1 m),
+  )
 
   -- a step over the end mark never gives a state
   pub mark-never : {a : ℕ} (ks ls : List Config) → States (compile r) a ks → ¬ (stepOutcome (compile r) endMark ks ≡ state ls)

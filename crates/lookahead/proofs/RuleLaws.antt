@@ -12,8 +12,9 @@ use borrow.Author.Tests.{ltb-true, ltb-false}
 use Rattle.base.proofs.Booleans.{and-T, T-and, true→T, false→¬T}
 use Rattle.grammar.specs.Grammar.{Grammar}
 use Rattle.lookahead.specs.Configs.{Config, In}
+use Rattle.lookahead.specs.Closing.{maxKept}
 use Rattle.lookahead.specs.Order.{kept, Ascending, none, next}
-use Rattle.lookahead.specs.Outcomes.{maxKept, Outcome, full, alternative, state, rivals, agreed, shared, settled, resolved, judged, limited, outcome}
+use Rattle.lookahead.specs.Outcomes.{Outcome, full, alternative, state, rivals, agreed, shared, settled, resolved, judged, limited, outcome}
 use Rattle.lookahead.specs.Rules.{Distinct, nil, also, Each, Keeps, TooLarge, closed-over, kept-many, Nothing, Agreed, Rival, Conflict, Kept, Gives, rule1, rule2, rule3, rule4, rule5}
 use Rattle.lookahead.proofs.ListLaws.{distinct-short}
 use Rattle.lookahead.proofs.CloseLaws.{Closure, Closed, over, whole, close-right, within}
@@ -21,7 +22,7 @@ use Rattle.lookahead.proofs.OrderLaws.{ascending-one, kept-right, kept-
 use Rattle.lookahead.proofs.Bounds.{Bounded}
 use Rattle.lookahead.proofs.Standing.{Standing}
 use Rattle.lookahead.proofs.StateLaws.{members-packable}
-use Rattle.lookahead.proofs.TestLaws.{rivals-right, conflicts-right, agreed-not, agreed-out, shared-out, shared-in, settled-out, settled-in}
+use Rattle.lookahead.proofs.TestLaws.{waits-right, rivals-right, conflicts-right, agreed-not, agreed-out, shared-out, shared-in, settled-out, settled-in}
 
 ascending-distinct : {l : List Config} → Ascending l → Distinct l
 ascending-distinct Ascending.none = nil
@@ -77,15 +78,16 @@ module _ (g : Grammar) (start : List Config) where
           keeps = h .exact c .0 m;
           rival = rival-from ks h c d k (x .0);
           stack = x .1;
-          none-alone = λ e y. let z = settled-out ks n e (h .exact e .1 y) in rival-from ks h e (z .0) (z .1) (z .2) }
+          none-alone = λ e y. let z = settled-out ks n e (h .exact e .1 y) in rival-from ks h e (z .0) (z .1) (z .2);
+        }
 
     conflict-to : (ks : List Config) → Kept g start ks → Conflict g start → T (shared ks && not (settled ks))
     unfolding rival-to
     conflict-to ks h x =
         let r = rival-to ks h (x .one) (x .rival) in
         T-and (shared ks) (not (settled ks))
-          (shared-in ks (x .one) (r .0) (h .exact (x .one) .1 (x .keeps)) (r .1) (conflicts-right (x .one) (r .0) .1 (r .2, x .stack)))
-          (not-T (settled ks) (settled-in ks (λ c m. rival-to ks h c (x .none-alone c (h .exact c .0 m)))))
+        (shared-in ks (x .one) (r .0) (h .exact (x .one) .1 (x .keeps)) (r .1) (conflicts-right (x .one) (r .0) .1 (r .2, x .stack)))
+        (not-T (settled ks) (settled-in ks (λ c m. rival-to ks h c (x .none-alone c (h .exact c .0 m)))))
 
     resolved-gives : (ks : List Config) → Kept g start ks → ¬ Nothing g start → ((b : ℕ) → ¬ Agreed g start b) → Gives g start (resolved ks)
     unfolding resolved
@@ -123,9 +125,10 @@ module _ (g : Grammar) (start : List Config) where
     whole-kept : (ms : List Config) → Closure g start ms → Kept g start (kept g ms)
     whole-kept ms x = record {
       ascending = kept-ascending g ms (x .distinct) (members-packable g bounded start ms stands x);
-      exact = λ c.
-        ( λ m. let y = kept-right g ms c .0 m in (x .exact c .0 (y .0), y .1)
-        , λ y. kept-right g ms c .1 (x .exact c .1 (y .0), y .1) );
+      exact = λ c. (
+        λ m. let y = kept-right g ms c .0 m in (x .exact c .0 (y .0), waits-right g c .0 (y .1)),
+        λ y. kept-right g ms c .1 (x .exact c .1 (y .0), waits-right g c .1 (y .1)),
+      );
     }
 
     fits : (ms : List Config) → Closure g start ms → length (kept g ms) ≤ maxKept → ¬ TooLarge g start
@@ -141,7 +144,8 @@ module _ (g : Grammar) (start : List Config) where
           listed = kept g ms;
           distinct = ascending-distinct (whole-kept ms x .ascending);
           each = λ c m. whole-kept ms x .exact c .0 m;
-          more = ltb-true maxKept (length (kept g ms)) e }))
+          more = ltb-true maxKept (length (kept g ms)) e;
+        }))
         go false e = judged-gives (fits ms x (ltb-false maxKept (length (kept g ms)) e)) (kept g ms) (whole-kept ms x)
 
     -- the computed outcome is the one that the rules give

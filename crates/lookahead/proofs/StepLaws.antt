@@ -76,4 +76,4 @@ module _ (g : Grammar) where
       back : Steps g t ks c → In c (stepConfigs g t ks)
       back x =
           Memᴰ·cast (x .is)
-            (map-in onward (keep-in (λ (d : Config). passes g t (facing g (d .place))) ks (x .held) (passes-in t (x .kind) (x .faces) (x .passes))))
+          (map-in onward (keep-in (λ (d : Config). passes g t (facing g (d .place))) ks (x .held) (passes-in t (x .kind) (x .faces) (x .passes))))

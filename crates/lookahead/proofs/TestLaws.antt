@@ -1,17 +1,22 @@
 -- The tests on kept configurations say what the rules say.
-use mathlib.Core.Path.{_≡_}
-use mathlib.Core.Logic.{_↔_}
-use mathlib.Core.Bool.{Bool, true, false, not}
+use mathlib.Core.Path.{_≡_, refl}
+use mathlib.Core.Logic.{_↔_, _⊎_, inl, inr}
+use mathlib.Core.Bool.{Bool, true, false, _||_, not}
 use mathlib.Core.List.{List}
 use lib.Dec.{T, T-not, not-T, eqb, eqb→eq}
 use Prim.Native.Nat.{ℕ}
 use borrow.Author.Tests.{eq-eqb}
 use Rattle.base.specs.Rounds.{anyOf}
-use Rattle.base.proofs.Booleans.{and-T, T-and, true→T}
+use Rattle.base.proofs.Booleans.{and-T, T-and, or-T, T-or-l, T-or-r, true→T}
 use Rattle.base.proofs.Lists.{anyOf-T, T-anyOf}
+use Rattle.grammar.specs.declared.Symbol.{Symbol}
+use Rattle.grammar.specs.declared.Symbol.the-variants.{Token, Nonterminal, End}
+use Rattle.grammar.specs.Grammar.{Grammar, facing}
 use Rattle.lookahead.specs.Configs.{Config, In}
 use Rattle.lookahead.specs.Closing.{sameList}
+use Rattle.lookahead.specs.Order.{pastEnd, token?, kept?}
 use Rattle.lookahead.specs.Outcomes.{rivals, conflicts, agreed, shared, settled}
+use Rattle.lookahead.specs.Rules.{Waits, faces, past}
 use Rattle.lookahead.proofs.ListLaws.{get-in, in-get}
 use Rattle.lookahead.proofs.AddLaws.{same-list, list-same}
 
@@ -37,18 +42,38 @@ apart-out a b t e = T-not (eqb a b) t (same-out a b e)
 apart-in : (a b : ℕ) → ¬ (a ≡ b) → T (not (eqb a b))
 apart-in a b n = not-T (eqb a b) (λ t. n (eqb→eq a b t))
 
+-- ---- one configuration
+token-out : (s : Symbol) → T (token? s) → (k : ℕ) × (s ≡ Token k)
+token-out (Token k) t = (k, refl)
+token-out (Nonterminal a) t = absurd t
+token-out End t = absurd t
+
+pub waits-right : (g : Grammar) (c : Config) → T (kept? g c) ↔ Waits g c
+unfolding kept?
+waits-right g c = (λ t. out (or-T (eqb (c .place) pastEnd) (token? (facing g (c .place))) t), back)
+  where
+    out : T (eqb (c .place) pastEnd) ⊎ T (token? (facing g (c .place))) → Waits g c
+    out (inl t) = past (eqb→eq (c .place) pastEnd t)
+    out (inr t) = let h = token-out (facing g (c .place)) t in faces (h .0) (h .1)
+
+    back : Waits g c → T (eqb (c .place) pastEnd || token? (facing g (c .place)))
+    back (past e) = T-or-l (eqb (c .place) pastEnd) (token? (facing g (c .place))) (same-out (c .place) pastEnd e)
+    back (faces k e) = T-or-r (eqb (c .place) pastEnd) (token? (facing g (c .place))) (rw e tt)
+
 -- ---- two configurations
 pub rivals-right : (c d : Config) → T (rivals c d) ↔ ((c .place ≡ d .place) × ¬ (c .alternative ≡ d .alternative))
 unfolding rivals
-rivals-right c d =
-    ( λ t. let h = and-T (eqb (c .place) (d .place)) (not (eqb (c .alternative) (d .alternative))) t in (eqb→eq (c .place) (d .place) (h .0), apart-out (c .alternative) (d .alternative) (h .1))
-    , λ h. T-and (eqb (c .place) (d .place)) (not (eqb (c .alternative) (d .alternative))) (same-out (c .place) (d .place) (h .0)) (apart-in (c .alternative) (d .alternative) (h .1)) )
+rivals-right c d = (
+  λ t. let h = and-T (eqb (c .place) (d .place)) (not (eqb (c .alternative) (d .alternative))) t in (eqb→eq (c .place) (d .place) (h .0), apart-out (c .alternative) (d .alternative) (h .1)),
+  λ h. T-and (eqb (c .place) (d .place)) (not (eqb (c .alternative) (d .alternative))) (same-out (c .place) (d .place) (h .0)) (apart-in (c .alternative) (d .alternative) (h .1)),
+)
 
 pub conflicts-right : (c d : Config) → T (conflicts c d) ↔ (T (rivals c d) × (c .stack ≡ d .stack))
 unfolding conflicts
-conflicts-right c d =
-    ( λ t. let h = and-T (rivals c d) (sameList (c .stack) (d .stack)) t in (h .0, same-list (c .stack) (d .stack) (h .1))
-    , λ h. T-and (rivals c d) (sameList (c .stack) (d .stack)) (h .0) (let q = h .1 in rw q (list-same (d .stack))) )
+conflicts-right c d = (
+  λ t. let h = and-T (rivals c d) (sameList (c .stack) (d .stack)) t in (h .0, same-list (c .stack) (d .stack) (h .1)),
+  λ h. T-and (rivals c d) (sameList (c .stack) (d .stack)) (h .0) (let q = h .1 in rw q (list-same (d .stack))),
+)
 
 -- ---- all kept configurations
 -- one has another alternative than b
@@ -63,7 +88,7 @@ pub agreed-out : (b : ℕ) (ks : List Config) → T (agreed b ks) → (c : Confi
 unfolding agreed
 agreed-out b ks t c m =
     eqb→eq (c .alternative) b
-      (unnot (eqb (c .alternative) b) (λ n. T-not (anyOf (λ (d : Config). not (eqb (d .alternative) b)) ks) t (any-in (λ (d : Config). not (eqb (d .alternative) b)) ks m n)))
+    (unnot (eqb (c .alternative) b) (λ n. T-not (anyOf (λ (d : Config). not (eqb (d .alternative) b)) ks) t (any-in (λ (d : Config). not (eqb (d .alternative) b)) ks m n)))
 
 -- some place and stack is shared by two alternatives
 pub shared-out : (ks : List Config) → T (shared ks) → (c : Config) × (d : Config) × In c ks × In d ks × T (conflicts c d)

@@ -17,6 +17,10 @@ maxMembers = 256
 abbrev pub maxEntries : ℕ
 maxEntries = 8
 
+-- the configurations that may be kept of it
+abbrev pub maxKept : ℕ
+maxKept = 64
+
 -- the same numbers in the same order
 unfoldable pub sameList : List ℕ → List ℕ → Bool
 sameList [] [] = true

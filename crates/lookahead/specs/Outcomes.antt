@@ -11,12 +11,8 @@ use Rattle.grammar.specs.declared.Symbol.{Symbol}
 use Rattle.grammar.specs.declared.Symbol.the-variants.{Token, Nonterminal, End}
 use Rattle.grammar.specs.Grammar.{Grammar, facing, admits, alternatives}
 use Rattle.lookahead.specs.Configs.{Config, config}
-use Rattle.lookahead.specs.Closing.{sameList, close}
+use Rattle.lookahead.specs.Closing.{maxKept, sameList, close}
 use Rattle.lookahead.specs.Order.{keep, kept}
-
--- the configurations that may be kept
-abbrev pub maxKept : ℕ
-maxKept = 64
 
 -- FULL, an alternative, or a state of the lookahead DFA: its kept configurations
 pub data Outcome : Type 0 where

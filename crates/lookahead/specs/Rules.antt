@@ -1,4 +1,4 @@
--- Document 01's five rules, told of the set that the moves reach: no list, no order and no computed test stands in them.
+-- Document 01's five rules, told of the set that the moves reach: no computed test stands in them, and no order in which members were found.
 use mathlib.Core.Path.{_≡_}
 use mathlib.Core.Logic.{_↔_}
 use mathlib.Core.Option.{some}
@@ -9,9 +9,9 @@ use lib.ListN.{length}
 use Rattle.grammar.specs.declared.Symbol.the-variants.{Token}
 use Rattle.grammar.specs.Grammar.{Grammar, facing, admits, first}
 use Rattle.lookahead.specs.Configs.{Config, config, In, Closes}
-use Rattle.lookahead.specs.Closing.{maxMembers, maxEntries}
-use Rattle.lookahead.specs.Order.{kept?, Ascending}
-use Rattle.lookahead.specs.Outcomes.{maxKept, Outcome, full, alternative, state, onward}
+use Rattle.lookahead.specs.Closing.{maxMembers, maxEntries, maxKept}
+use Rattle.lookahead.specs.Order.{pastEnd, Ascending}
+use Rattle.lookahead.specs.Outcomes.{Outcome, full, alternative, state, onward}
 
 -- ---- what starts and steps take
 -- the start of decision a takes the first place of each production with an empty stack
@@ -53,9 +53,14 @@ pub data Over (g : Grammar) (start : List Config) : Type 0 where
   deep : (c : Config) → Closes g start c → maxEntries < length (c .stack) → Over g start
   many : MoreThan maxMembers (Closes g start) → Over g start
 
--- kept: a member of the closed set that faces a token or the end mark, or is past the end mark
+-- to be kept: facing a token or the end mark, or past the end mark
+pub data Waits (g : Grammar) (c : Config) : Type 0 where
+  faces : (k : ℕ) → facing g (c .place) ≡ Token k → Waits g c
+  past : c .place ≡ pastEnd → Waits g c
+
+-- kept of the closed set
 abbrev pub Keeps : Grammar → List Config → Config → Type 0
-Keeps g start c = Closes g start c × T (kept? g c)
+Keeps g start c = Closes g start c × Waits g c
 
 -- rule 1, with more than 64 kept
 pub data TooLarge (g : Grammar) (start : List Config) : Type 0 where
