@@ -74,7 +74,10 @@ module _ (g : Grammar) (start : List Config) where
       go c e rec (went {ms′ = ms′} v) = rec (suc k) ms′ (v .work) (done-on k e h v) (λ x m. grown-sub g start v x (s x m)) (omega arith)
 
       look : (o : Option Config) → getElem? ms k ≡ o → Closing n
-          → Closed g start (elim o as (λ _. Option (List Config)) [ none ↦ some ms | some c ↦ elim (addAll ms (moves g c)) as (λ _. Option (List Config)) [ none ↦ none | some ms′ ↦ closeFrom g n (suc k) ms′ ] ])
+          → Closed g start (elim o as (λ _. Option (List Config)) [
+            | none ↦ some ms
+            | some c ↦ elim (addAll ms (moves g c)) as (λ _. Option (List Config)) [ none ↦ none | some ms′ ↦ closeFrom g n (suc k) ms′ ]
+          ])
       look none e rec = finished k ms w h s (get-behind ms k e)
       look (some c) e rec = go c e rec (addAll-right g start (moves g c) ms w (λ d m. move (w .reached c (get-in ms k e)) (moves-right g c d .0 m)))
 

@@ -3,7 +3,8 @@ use mathlib.Core.Path.{_≡_, refl, sym, ap, subst}
 use mathlib.Core.Logic.{_↔_, _⊎_, inl, inr}
 use mathlib.Core.Bool.{Bool, true, false, cond}
 use mathlib.Core.Option.{some}
-use mathlib.Core.List.{List, [], _∷_, List·Memᴰ·head, List·Memᴰ·tail, List·Memᴰ·not-nil, List·Memᴰ·cases-cons, List·Memᴰ·eq-of-singleton, List·Memᴰ·append-cases, Memᴰ·append-left, Memᴰ·append-right, Memᴰ·cast}
+use mathlib.Core.List.{List, [], _∷_, List·Memᴰ·head, List·Memᴰ·tail, List·Memᴰ·not-nil}
+use mathlib.Core.List.{List·Memᴰ·cases-cons, List·Memᴰ·eq-of-singleton, List·Memᴰ·append-cases, Memᴰ·append-left, Memᴰ·append-right, Memᴰ·cast}
 use Prim.Native.Nat.{ℕ, zero, suc, _+_}
 use native.Mathlib.Omega.{arith}
 use lib.Dec.{eqb}
@@ -61,8 +62,12 @@ behind-in a p (y ∷ l) (suc q) e = go (calls? a (y .symbol)) (behind-in a (suc 
     go true rec = let z : p + suc q ≡ suc p + q = omega arith in rw z (List·Memᴰ·tail rec)
     go false rec = let z : p + suc q ≡ suc p + q = omega arith in rw z rec
 
+-- x stands behind an occurrence of nonterminal a, or is the end place and a the start symbol
+abbrev Follows : Grammar → ℕ → ℕ → Type 0
+Follows g a x = ((q : ℕ) × (x ≡ suc q) × (facing g q ≡ Nonterminal a)) ⊎ ((x ≡ endPlace) × (a ≡ 0))
+
 module _ (g : Grammar) where
-  follows-out : (a x : ℕ) → In x (follows g a) → ((q : ℕ) × (x ≡ suc q) × (facing g q ≡ Nonterminal a)) ⊎ ((x ≡ endPlace) × (a ≡ 0))
+  follows-out : (a x : ℕ) → In x (follows g a) → Follows g a x
   unfolding follows facing
   follows-out a x m = go (List·Memᴰ·append-cases (behindFrom a 0 (g .places)) m)
     where
@@ -70,7 +75,7 @@ module _ (g : Grammar) where
       last true e n = (List·Memᴰ·eq-of-singleton n, eqb-true a 0 e)
       last false e n = absurd (List·Memᴰ·not-nil n)
 
-      go : In x (behindFrom a 0 (g .places)) ⊎ In x (cond (eqb a 0) (endPlace ∷ []) []) → ((q : ℕ) × (x ≡ suc q) × (facing g q ≡ Nonterminal a)) ⊎ ((x ≡ endPlace) × (a ≡ 0))
+      go : In x (behindFrom a 0 (g .places)) ⊎ In x (cond (eqb a 0) (endPlace ∷ []) []) → Follows g a x
       go (inl n) = let t = behind-out a 0 (g .places) x n in let z = t .1 in inl (t .0, omega arith, t .2)
       go (inr n) = inr (last (eqb a 0) refl n)
 
@@ -99,7 +104,7 @@ module _ (g : Grammar) where
         let t = in-map (λ (q : ℕ). config q (c .alternative) []) (follows g (owner g (c .place))) m in
         subst (Moves g c) (sym (t .2)) (go (t .0) (follows-out (owner g (c .place)) (t .0) (t .1)))
       where
-        go : (x : ℕ) → ((q : ℕ) × (x ≡ suc q) × (facing g q ≡ Nonterminal (owner g (c .place)))) ⊎ ((x ≡ endPlace) × (owner g (c .place) ≡ 0)) → Moves g c (config x (c .alternative) [])
+        go : (x : ℕ) → Follows g (owner g (c .place)) x → Moves g c (config x (c .alternative) [])
         go x (inl (q, i, f)) = subst (λ (y : ℕ). Moves g c (config y (c .alternative) [])) (sym i) (behind e h f)
         go x (inr (i, z)) = subst (λ (y : ℕ). Moves g c (config y (c .alternative) [])) (sym i) (end e h z)
     returned-out (r ∷ s) h e m = subst (Moves g c) (sym (List·Memᴰ·eq-of-singleton m)) (pop e h)

@@ -40,7 +40,12 @@ module _ (g : Grammar) (bounded : Bounded g) where
       pick r (inl z) = let h = bounded .goes-on (c .place) (bounded .calls (c .place) a e) (λ x. clash (cc)) in omega arith
       pick r (inr m) = s .returns r m
   moved {c} s (pop {r = r} {s = t} e q) =
-      record { stands = inside (s .returns r (subst (In r) (sym q) (List·Memᴰ·head refl))); least = s .least; most = s .most; returns = λ x m. s .returns x (subst (In x) (sym q) (List·Memᴰ·tail m)) }
+      record {
+        stands = inside (s .returns r (subst (In r) (sym q) (List·Memᴰ·head refl)));
+        least = s .least;
+        most = s .most;
+        returns = λ x m. s .returns x (subst (In x) (sym q) (List·Memᴰ·tail m));
+      }
   moved {c} s (behind {q = q} e z f) =
       record { stands = inside (bounded .goes-on q (bounded .calls q _ f) (λ x. clash (cc))); least = s .least; most = s .most; returns = λ x m. absurd (List·Memᴰ·not-nil m) }
   moved {c} s (end e z o) = record { stands = last refl refl; least = s .least; most = s .most; returns = λ x m. absurd (List·Memᴰ·not-nil m) }
@@ -70,7 +75,9 @@ module _ (g : Grammar) (bounded : Bounded g) where
   numbered-standing (f ∷ l) b h k i c m = pick (List·Memᴰ·cases-cons m) (numbered-standing l (suc b) (omega arith) (omega arith) (λ x n. i x (List·Memᴰ·tail n)))
     where
       pick : (c ≡ config f b []) ⊎ In c (numbered (suc b) l) → Each (Standing g) (numbered (suc b) l) → Standing g c
-      pick (inl e) rec = subst (Standing g) (sym e) (record { stands = inside (i f (List·Memᴰ·head refl)); least = h; most = omega arith; returns = λ x n. absurd (List·Memᴰ·not-nil n) })
+      pick (inl e) rec =
+          let here : Standing g (config f b []) = record { stands = inside (i f (List·Memᴰ·head refl)); least = h; most = omega arith; returns = λ x n. absurd (List·Memᴰ·not-nil n) } in
+          subst (Standing g) (sym e) here
       pick (inr n) rec = rec c n
 
   pub start-standing : (a : ℕ) → Each (Standing g) (startConfigs g a)

@@ -13,7 +13,8 @@ use Rattle.grammar.specs.Grammar.{Grammar}
 use Rattle.lookahead.specs.Configs.{Config, In, Closes}
 use Rattle.lookahead.specs.Closing.{maxKept, close}
 use Rattle.lookahead.specs.Order.{kept?, Packable, Ascending, kept}
-use Rattle.lookahead.specs.Outcomes.{Outcome, full, alternative, state, agreed, shared, settled, resolved, judged, limited, outcome, startConfigs, stepConfigs, startOutcome, stepOutcome, States, begun, stepped}
+use Rattle.lookahead.specs.Outcomes.{Outcome, full, alternative, state, agreed, shared, settled, resolved, judged}
+use Rattle.lookahead.specs.Outcomes.{limited, outcome, startConfigs, stepConfigs, startOutcome, stepOutcome, States, begun, stepped}
 use Rattle.lookahead.specs.Rules.{Each}
 use Rattle.lookahead.proofs.CloseLaws.{Closure, close-some}
 use Rattle.lookahead.proofs.OrderLaws.{kept-right, kept-ascending, kept-equal}

@@ -103,4 +103,5 @@ pub data Gives (g : Grammar) (start : List Config) : Outcome → Type 0 where
   rule2 : ¬ TooLarge g start → Nothing g start → Gives g start full
   rule3 : {b : ℕ} → ¬ TooLarge g start → ¬ Nothing g start → Agreed g start b → Gives g start (alternative b)
   rule4 : ¬ TooLarge g start → ¬ Nothing g start → ((b : ℕ) → ¬ Agreed g start b) → Conflict g start → Gives g start full
-  rule5 : {ks : List Config} → ¬ TooLarge g start → ¬ Nothing g start → ((b : ℕ) → ¬ Agreed g start b) → ¬ Conflict g start → Kept g start ks → Gives g start (state ks)
+  rule5 : {ks : List Config} → ¬ TooLarge g start → ¬ Nothing g start → ((b : ℕ) → ¬ Agreed g start b) → ¬ Conflict g start
+      → Kept g start ks → Gives g start (state ks)
