@@ -1,13 +1,15 @@
 -- Passes at one position, as their loops meet them.
 use mathlib.Core.Path.{_≡_, refl, sym, ap, subst, _∙_}
-use mathlib.Core.Logic.{⊎-elim}
+use mathlib.Core.Logic.{_⊎_, inl, inr, ⊎-elim}
 use mathlib.Core.Bool.{Bool, true, false, true≢false, false≢true}
 use mathlib.Core.List.{List}
-use Prim.Native.Nat.{ℕ, _+_, _*_, _≤_, _<_}
+use Prim.Native.Nat.{ℕ, zero, suc, _+_, _*_, _≤_, _<_}
 use native.Mathlib.Omega.{arith}
 use native.Mathlib.Decide.{decLt}
 use lib.Dec.{T}
-use lib.ListN.{length}
+use lib.ListN.{length, getD, set, replicate}
+use lib.Seq.{getD-set-other}
+use Rattle.base.proofs.Bits.{same?}
 use Rattle.base.proofs.Booleans.{true→T, false→¬T}
 use Rattle.grammar.specs.Grammar.{Grammar}
 use Rattle.grammar.specs.Tables.{grammarIn}
@@ -17,7 +19,7 @@ use Rattle.positions.proofs.WordLaws.{member-set}
 use Rattle.derivation.specs.Ready.{Ready}
 use Rattle.derivation.proofs.ReadyLaws.{ready-size}
 use Rattle.reach.specs.Sets.{Inside, stands, Added}
-use Rattle.reach.specs.Passes.{Leads, Closed, Grown, Passed, Settled}
+use Rattle.reach.specs.Passes.{Leads, Closed, Grown, Passed, Settled, Stepped}
 use Rattle.reach.proofs.StepLaws.{leads-le, leads-in, leads-reach, leads-place}
 
 -- ---- a set that is read
@@ -115,6 +117,40 @@ module _ (t w : List ℕ) (p i : ℕ) {r : Bool} {ws₀ ws : List ℕ} (ready : 
               λ z. closed-more (grammarIn t) w p i after (subst (λ (v : List ℕ). Closed (grammarIn t) w p i v) (sym (x .same d)) (h .closed z))
               (λ q′ j s y. x .held q′ j (leads-inside t w ready short l m y) y);
         }
+
+  -- a step was made from p before
+  pub pass-before : (marks : List ℕ) → Stepped (grammarIn t) w i marks ws → ¬ (getD marks p 0 ≡ 0) → Passed (grammarIn t) w (p + 1) i r ws₀ ws
+  unfolding Stepped
+  pass-before marks y n =
+      record {
+        sets = h .sets;
+        same = h .same;
+        grown = h .grown;
+        closed = λ z. closed-more (grammarIn t) w p i ws (h .closed z) (λ q′ j s x. y p q′ j n l x);
+      }
+
+-- ---- marks
+pub stepped-none : (g : Grammar) (w : List ℕ) (i n : ℕ) (ws : List ℕ) → Stepped g w i (replicate n 0) ws
+unfolding Stepped
+stepped-none g w i n ws p q j h l x = absurd (h (zeros n p))
+  where
+    zeros : (n p : ℕ) → getD {A = ℕ} (replicate n 0) p 0 ≡ 0
+    zeros zero p = refl
+    zeros (suc n) zero = refl
+    zeros (suc n) (suc p) = zeros n p
+
+-- a step is made from p, and p is marked
+pub stepped-more : (t w : List ℕ) (p i : ℕ) {u : Bool} {ws after : List ℕ} → Ready t → length w < positionCount → i ≤ length w → (marks : List ℕ) (v : ℕ)
+    → Stepped (grammarIn t) w i marks ws → Added (Leads (grammarIn t) w p i) u ws after → Stepped (grammarIn t) w i (set marks p v) after
+unfolding Stepped
+stepped-more t w p i {after = after} ready short m marks v y x p′ q j n l z = go (same? p′ p)
+  where
+    inside : Inside q j
+    inside = leads-inside t w ready short l m z
+
+    go : (p′ ≡ p) ⊎ (p′ ≡ p → ⊥) → T (stands after q j)
+    go (inl e) = x .held q j inside (rw e at z)
+    go (inr d) = x .kept q j inside (y p′ q j (λ e. n (getD-set-other marks p p′ v 0 d ∙ e)) l z)
 
 pub pass-end : (g : Grammar) (w : List ℕ) (p m i : ℕ) {r : Bool} {ws after : List ℕ} → p ≡ m → Passed g w p i r ws after → Passed g w m i r ws after
 pass-end g w p m i e h = rw e at h

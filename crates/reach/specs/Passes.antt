@@ -5,7 +5,7 @@ use mathlib.Core.Option.{some}
 use mathlib.Core.List.{List}
 use Prim.Native.Nat.{ℕ, suc, _<_}
 use lib.Dec.{T}
-use lib.ListN.{length, getElem?}
+use lib.ListN.{length, getElem?, getD}
 use Rattle.grammar.specs.declared.Symbol.the-variants.{Token, Nonterminal}
 use Rattle.grammar.specs.Grammar.{Grammar, facing, admits, first}
 use Rattle.grammar.specs.Tables.{grammarIn}
@@ -56,3 +56,7 @@ pub record Passed (g : Grammar) (w : List ℕ) (m i : ℕ) (r : Bool) (before af
 pub record Settled (g : Grammar) (w : List ℕ) (m i : ℕ) (before after : List ℕ) : Type 0 where
   pub sets : Grown g w i before after
   pub closed : Closed g w m i after
+
+-- the sets hold all that one step leads to at position i from the places that are marked
+unfoldable pub Stepped : Grammar → List ℕ → ℕ → List ℕ → List ℕ → Type 0
+Stepped g w i marks ws = (p q j : ℕ) → ¬ (getD marks p 0 ≡ 0) → p < g .size → Leads g w p i q j → T (stands ws q j)

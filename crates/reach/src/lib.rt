@@ -11,7 +11,7 @@ ghost use Rattle.positions.specs.Positions.{positionCount, member};
 ghost use Rattle.derivation.specs.Ready.{Ready};
 ghost use Rattle.derivation.specs.ReachRounds.{highestTo, wrongPlace};
 ghost use Rattle.reach.specs.Sets.{setsWords, Added, PointOf, Anywhere};
-ghost use Rattle.reach.specs.Passes.{Given, Opening, Leads, Passed, Settled};
+ghost use Rattle.reach.specs.Passes.{Stepped, Given, Opening, Leads, Passed, Settled};
 
 // Words of the sets of 255 places.
 pub const SETS: usize = 1275;
@@ -80,10 +80,18 @@ fn step(
     }
 }
 
-// Every place at which a reader can stand at position i, once. Whether anything is new.
-fn pass(tables: &[u16], note: &[u16], ws: &[u32], sets: &mut [u32], places: usize, i: usize) -> bool
-    requires { ⌜ Given (now tables) (now note) (now ws) places × (i ≤ length (now note)) × (length (now sets) ≡ setsWords) ⌝ }
-    ensures { λ r. ⌜ Passed (grammarIn (now (tables .entry))) (now (note .entry)) places i r (now (sets .entry)) (now (sets .exit)) ⌝ }
+// Every place at which a reader can stand at position i and from which no step was made there yet, once. Whether anything is new.
+fn pass(
+    tables: &[u16],
+    note: &[u16],
+    ws: &[u32],
+    sets: &mut [u32],
+    stepped: &mut [u32],
+    places: usize,
+    i: usize,
+) -> bool
+    requires { ⌜ Given (now tables) (now note) (now ws) places × (i ≤ length (now note)) × (length (now sets) ≡ setsWords) × (length (now stepped) ≡ maxPlaces) × Stepped (grammarIn (now tables)) (now note) i (now stepped) (now sets) ⌝ }
+    ensures { λ r. ⌜ Passed (grammarIn (now (tables .entry))) (now (note .entry)) places i r (now (sets .entry)) (now (sets .exit)) × Stepped (grammarIn (now (tables .entry))) (now (note .entry)) i (now (stepped .exit)) (now (sets .exit)) ⌝ }
 {
     let mut grown = false;
     let mut p = 0;
@@ -92,21 +100,25 @@ fn pass(tables: &[u16], note: &[u16], ws: &[u32], sets: &mut [u32], places: usiz
         let q = p;
         p += 1;
         if here.has(i) {
-            if step(tables, note, ws, sets, places, q, i) {
-                grown = true;
+            if stepped[q] == 0 {
+                stepped[q] = 1;
+                if step(tables, note, ws, sets, places, q, i) {
+                    grown = true;
+                }
             }
         }
     }
     grown
 }
 
-// All that can be reached from position i, by passes until nothing changes.
+// All that can be reached from position i, by passes until nothing changes. A step from the same place would lead nowhere new, so none is made twice.
 fn settle(tables: &[u16], note: &[u16], ws: &[u32], sets: &mut [u32], places: usize, i: usize)
     requires { ⌜ Given (now tables) (now note) (now ws) places × (i ≤ length (now note)) × (length (now sets) ≡ setsWords) ⌝ }
     ensures { λ _. ⌜ Settled (grammarIn (now (tables .entry))) (now (note .entry)) places i (now (sets .entry)) (now (sets .exit)) ⌝ }
 {
+    let mut stepped = [0u32; 255];
     loop {
-        if !pass(tables, note, ws, sets, places, i) {
+        if !pass(tables, note, ws, sets, &mut stepped, places, i) {
             return;
         }
     }
