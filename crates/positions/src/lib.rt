@@ -3,7 +3,7 @@ ghost use mathlib.Core.Path.{_≡_};
 ghost use Prim.Native.Nat.{_+_, _≤_, _<_};
 ghost use lib.ListN.{length};
 ghost use Rattle.positions.specs.Positions.{positionCount, setWords, emptySet, member, withOf, unionOf, meetsOf, oppositeOf, Full, sameOf, FromBit, NextOf};
-ghost use Rattle.positions.specs.Words.{setAt, putAt, Joined};
+ghost use Rattle.positions.specs.Words.{memberAt, setAt, putAt, Joined};
 
 // Positions that a set can hold: no note has more.
 pub const COUNT: usize = 160;
@@ -146,6 +146,14 @@ pub fn read(ws: &[u32], at: usize) -> Positions
     Positions {
         words: [ws[at], ws[at + 1], ws[at + 2], ws[at + 3], ws[at + 4]],
     }
+}
+
+// Whether the set that stands at `at` holds j: one word is read, not five.
+pub fn holds(ws: &[u32], at: usize, j: usize) -> bool
+    requires { ⌜ (at + setWords ≤ length (now ws)) × (j < positionCount) ⌝ }
+    ensures { λ r. ⌜ r ≡ memberAt (now (ws .entry)) at j ⌝ }
+{
+    base::has(ws[at + j / 32], j % 32)
 }
 
 // The set s, put at `at`.

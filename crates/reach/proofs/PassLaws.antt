@@ -13,19 +13,18 @@ use Rattle.base.proofs.Bits.{same?}
 use Rattle.base.proofs.Booleans.{true→T, false→¬T}
 use Rattle.grammar.specs.Grammar.{Grammar}
 use Rattle.grammar.specs.Tables.{grammarIn}
-use Rattle.positions.specs.Positions.{positionCount, setWords, member}
-use Rattle.positions.specs.Words.{setAt, total}
-use Rattle.positions.proofs.WordLaws.{member-set}
+use Rattle.positions.specs.Positions.{positionCount, setWords}
+use Rattle.positions.specs.Words.{memberAt, total}
 use Rattle.derivation.specs.Ready.{Ready}
 use Rattle.derivation.proofs.ReadyLaws.{ready-size}
 use Rattle.reach.specs.Sets.{Inside, stands, Added}
 use Rattle.reach.specs.Passes.{Leads, Closed, Grown, Passed, Settled, Stepped}
 use Rattle.reach.proofs.StepLaws.{leads-le, leads-in, leads-reach, leads-place}
 
--- ---- a set that is read
-pub read-stands : (ws : List ℕ) (p j : ℕ) {s : List ℕ} {b : Bool} → j < positionCount → s ≡ setAt ws (setWords * p) → b ≡ member s j → b ≡ stands ws p j
+-- ---- one word of a set that is read
+pub holds-stands : (ws : List ℕ) (p j : ℕ) {b : Bool} → b ≡ memberAt ws (setWords * p) j → b ≡ stands ws p j
 unfolding stands
-read-stands ws p j l e d = d ∙ ap (λ (s : List ℕ). member s j) e ∙ member-set ws (setWords * p) j l
+holds-stands ws p j e = e
 
 -- ---- sets that have grown
 module _ (g : Grammar) (w : List ℕ) (i : ℕ) where

@@ -96,10 +96,10 @@ fn pass(
     let mut grown = false;
     let mut p = 0;
     while p < places {
-        let here = positions::read(sets, positions::WORDS * p);
+        let here = positions::holds(sets, positions::WORDS * p, i);
         let q = p;
         p += 1;
-        if here.has(i) {
+        if here {
             if stepped[q] == 0 {
                 stepped[q] = 1;
                 if step(tables, note, ws, sets, places, q, i) {
