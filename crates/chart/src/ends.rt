@@ -109,7 +109,18 @@ fn ripe(row: u32, done: u32, a: usize) -> bool
     row | done == done
 }
 
-// Every nonterminal whose left corners are judged is judged, the last first. Those judged so far.
+// The k-th of n nonterminals, from the first up or from the last down.
+fn turn(up: bool, k: usize, n: usize) -> usize
+    requires { ⌜ k < n ⌝ }
+    ensures { λ r. ⌜ r < n ⌝ }
+{
+    if up {
+        return k;
+    }
+    n - 1 - k
+}
+
+// Every nonterminal whose left corners are judged is judged, upwards or downwards. Those judged so far.
 fn judge(
     tables: &[u16],
     note: &[u16],
@@ -119,14 +130,17 @@ fn judge(
     places: usize,
     i: usize,
     from: u32,
+    up: bool,
 ) -> u32
     requires { ⌜ Row (now tables) (now note) places i (now ws) × (length (now ends) ≡ endWords) × (length (now corners) ≡ maxNonterminals) × Corners (grammarIn (now tables)) (nonterminalsIn (now tables)) (now corners) × Judged (now tables) (now note) places (now ws) i (now corners) from (now ends) ⌝ }
     ensures { λ r. ⌜ (from ≤ r) × Judged (now (tables .entry)) (now (note .entry)) places (now (ws .entry)) i (now (corners .entry)) r (now (ends .exit)) ⌝ }
 {
     let mut done = from;
-    let mut a = grammar::nonterminals(tables);
-    while 0 < a {
-        a -= 1;
+    let n = grammar::nonterminals(tables);
+    let mut k = 0;
+    while k < n {
+        let a = turn(up, k, n);
+        k += 1;
         if ripe(corners[a], done, a) {
             done = base::with(done, a);
             grow(tables, note, ws, ends, places, i, a);
@@ -150,7 +164,7 @@ fn all(set: u32, n: usize) -> bool
     true
 }
 
-// Each nonterminal once, behind its left corners. Whether all have had their turn.
+// Each nonterminal once, behind its left corners, by turns downwards, as grammars mostly build, and upwards. Whether all have had their turn.
 fn in_order(
     tables: &[u16],
     note: &[u16],
@@ -165,15 +179,17 @@ fn in_order(
 {
     let n = grammar::nonterminals(tables);
     let mut done = 0;
+    let mut up = false;
     loop {
         if all(done, n) {
             return true;
         }
-        let next = judge(tables, note, ws, ends, corners, places, i, done);
+        let next = judge(tables, note, ws, ends, corners, places, i, done, up);
         if next == done {
             return false;
         }
         done = next;
+        up = !up;
     }
 }
 

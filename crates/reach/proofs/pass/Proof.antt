@@ -1,3 +1,4 @@
+-- `reach::pass` meets its contract.
 use native.Mathlib.Omega.{arith}
 use borrow.Author.Needs.{needs}
 use Rattle.derivation.proofs.ReadyLaws.{ready-size}
@@ -10,10 +11,6 @@ use Rattle.reach.specs.Passes.{Passed, Stepped}
 use Rattle.reach.proofs.PassLaws.{holds-stands, pass-begin, pass-out, pass-new, pass-old, pass-before, pass-end, stepped-more}
 use Rattle.reach.proofs.pass.Statement.{statement}
 use Rattle.reach.proofs.pass.Tie as tie
-use Rattle.reach.proofs.pass.Reads as reads
-use Rattle.reach.proofs.pass.Lts as lts
-use Rattle.positions.proofs.holds.Reads as holds-reads
-use Rattle.reach.proofs.step.Reads as step-reads
 
 abbrev Inv-loop : tie.InvT-loop
 Inv-loop tables note ws sets₀ stepped₀ places i grown₀ p₀ sets stepped grown p =
@@ -22,83 +19,63 @@ Inv-loop tables note ws sets₀ stepped₀ places i grown₀ p₀ sets stepped g
 abbrev μ-loop : tie.MeasureT-loop
 μ-loop tables note ws sets₀ stepped₀ places i grown₀ p₀ sets stepped grown p = places - p
 
--- src/lib.rt:98:5
 loop-holds : tie.Need-loop-holds Inv-loop μ-loop
 loop-holds c = (omega arith, refl, c .before .before .before .before .before .pre .3, pass-begin _ _ _ _, c .before .before .before .before .before .pre .4)
 
--- src/lib.rt:99:43
 mul-holds : tie.Need-mul-holds Inv-loop μ-loop
 mul-holds c = omega (arith, ready-size _ (c .before .before .before .before .before .before .before .before .pre .0 .0), c .before .before .before .before .before .before .before .before .pre .0 .1)
 
--- src/lib.rt:99:13
 holds-requires : tie.Need-holds-requires Inv-loop μ-loop
 holds-requires c κs = (omega (arith, ready-size _ (c .before .before .before .before .before .before .before .before .pre .0 .0), c .before .before .before .before .before .before .before .before .pre .0 .1), omega (arith, c .before .before .before .before .before .before .before .before .pre .0 .2 .short))
 
--- src/lib.rt:101:9
 add-p : tie.Need-add-p Inv-loop μ-loop
 add-p c = omega arith
 
--- src/lib.rt:103:16
 mul-if2 : tie.Need-mul-if2 Inv-loop μ-loop
 mul-if2 c = search needs
 
--- src/lib.rt:103:16
 slice-read-if2 : tie.Need-slice-read-if2 Inv-loop μ-loop
 slice-read-if2 c = omega (arith, c .before .before .before .before .before .loop .inv .2, ready-size _ (c .before .before .before .before .before .before .before .before .before .before .before .pre .0 .0), c .before .before .before .before .before .before .before .before .before .before .before .pre .0 .1)
 
--- src/lib.rt:104:17
 mul-stepped : tie.Need-mul-stepped Inv-loop μ-loop
 mul-stepped c = search needs
 
--- src/lib.rt:104:17
 slice-write-stepped : tie.Need-slice-write-stepped Inv-loop μ-loop
 slice-write-stepped c = omega (arith, c .before .before .before .before .before .before .loop .inv .2, ready-size _ (c .before .before .before .before .before .before .before .before .before .before .before .before .pre .0 .0), c .before .before .before .before .before .before .before .before .before .before .before .before .pre .0 .1)
 
--- src/lib.rt:105:20
 step-requires : tie.Need-step-requires Inv-loop μ-loop
 step-requires c κs = (c .before .before .before .before .before .before .before .before .before .before .before .before .before .pre .0, omega arith, c .before .before .before .before .before .before .before .before .before .before .before .before .before .pre .1, omega arith)
 
--- src/lib.rt:98:5
 loop-less : tie.Need-loop-less Inv-loop μ-loop
 loop-less c = omega arith
 
--- src/lib.rt:98:5
 loop-again : tie.Need-loop-again Inv-loop μ-loop
 loop-again c = (omega arith, omega (arith, c .before .before .before .step .kept .1 .1 .1 .0), simp length-set (c .before .before .before .before .before .before .before .before .before .before .before .loop .inv .2), pass-new _ _ _ _ (c .before .before .before .before .before .before .before .before .before .before .before .before .before .before .before .before .before .pre .0 .0) (omega (arith, c .before .before .before .before .before .before .before .before .before .before .before .before .before .before .before .before .before .pre .0 .2 .short)) (omega (arith, c .before .before .before .before .before .before .before .before .before .before .before .before .before .before .before .before .before .pre .0 .1)) (c .before .before .before .before .before .before .before .before .before .before .before .before .before .before .before .before .before .pre .1) (c .before .before .before .before .before .before .before .before .before .before .before .loop .inv .3) (holds-stands _ _ _ (c .before .before .before .before .before .before .before .before .holds .ensures)) (c .before .before .before .before .before .before .before .if1 .taken) (c .before .before .before .step .ensures) (c .if3 .taken), stepped-more _ _ _ _ (c .before .before .before .before .before .before .before .before .before .before .before .before .before .before .before .before .before .pre .0 .0) (omega (arith, c .before .before .before .before .before .before .before .before .before .before .before .before .before .before .before .before .before .pre .0 .2 .short)) (c .before .before .before .before .before .before .before .before .before .before .before .before .before .before .before .before .before .pre .1) _ _ (c .before .before .before .before .before .before .before .before .before .before .before .loop .inv .4) (c .before .before .before .step .ensures))
 
--- src/lib.rt:98:5
 loop-less-2 : tie.Need-loop-less-2 Inv-loop μ-loop
 loop-less-2 c = omega arith
 
--- src/lib.rt:98:5
 loop-again-2 : tie.Need-loop-again-2 Inv-loop μ-loop
 loop-again-2 c = (omega arith, omega (arith, c .before .before .before .step .kept .1 .1 .1 .0), simp length-set (c .before .before .before .before .before .before .before .before .before .before .before .loop .inv .2), pass-old _ _ _ _ (c .before .before .before .before .before .before .before .before .before .before .before .before .before .before .before .before .before .pre .0 .0) (omega (arith, c .before .before .before .before .before .before .before .before .before .before .before .before .before .before .before .before .before .pre .0 .2 .short)) (omega (arith, c .before .before .before .before .before .before .before .before .before .before .before .before .before .before .before .before .before .pre .0 .1)) (c .before .before .before .before .before .before .before .before .before .before .before .before .before .before .before .before .before .pre .1) (c .before .before .before .before .before .before .before .before .before .before .before .loop .inv .3) (holds-stands _ _ _ (c .before .before .before .before .before .before .before .before .holds .ensures)) (c .before .before .before .before .before .before .before .if1 .taken) (c .before .before .before .step .ensures) (c .if3 .left), stepped-more _ _ _ _ (c .before .before .before .before .before .before .before .before .before .before .before .before .before .before .before .before .before .pre .0 .0) (omega (arith, c .before .before .before .before .before .before .before .before .before .before .before .before .before .before .before .before .before .pre .0 .2 .short)) (c .before .before .before .before .before .before .before .before .before .before .before .before .before .before .before .before .before .pre .1) _ _ (c .before .before .before .before .before .before .before .before .before .before .before .loop .inv .4) (c .before .before .before .step .ensures))
 
--- src/lib.rt:98:5
 loop-less-3 : tie.Need-loop-less-3 Inv-loop μ-loop
 loop-less-3 c = omega arith
 
--- src/lib.rt:98:5
 loop-again-3 : tie.Need-loop-again-3 Inv-loop μ-loop
 loop-again-3 c = (omega arith, omega arith, c .before .before .before .before .before .before .loop .inv .2, pass-before _ _ _ _ (c .before .before .before .before .before .before .before .before .before .before .before .before .pre .0 .0) (omega (arith, c .before .before .before .before .before .before .before .before .before .before .before .before .pre .0 .2 .short)) (omega (arith, c .before .before .before .before .before .before .before .before .before .before .before .before .pre .0 .1)) (c .before .before .before .before .before .before .before .before .before .before .before .before .pre .1) (c .before .before .before .before .before .before .loop .inv .3) (holds-stands _ _ _ (c .before .before .before .holds .ensures)) _ (c .before .before .before .before .before .before .loop .inv .4) (c .if2 .left), c .before .before .before .before .before .before .loop .inv .4)
 
--- src/lib.rt:98:5
 loop-less-4 : tie.Need-loop-less-4 Inv-loop μ-loop
 loop-less-4 c = omega arith
 
--- src/lib.rt:98:5
 loop-again-4 : tie.Need-loop-again-4 Inv-loop μ-loop
 loop-again-4 c = (omega arith, omega arith, c .before .before .before .before .loop .inv .2, pass-out _ _ _ _ (c .before .before .before .before .before .before .before .before .before .before .pre .0 .0) (omega (arith, c .before .before .before .before .before .before .before .before .before .before .pre .0 .2 .short)) (omega (arith, c .before .before .before .before .before .before .before .before .before .before .pre .0 .1)) (c .before .before .before .before .before .before .before .before .before .before .pre .1) (c .before .before .before .before .loop .inv .3) (holds-stands _ _ _ (c .before .holds .ensures)) (c .if1 .left), c .before .before .before .before .loop .inv .4)
 
--- src/lib.rt:84:1
 same-length : tie.Need-same-length Inv-loop μ-loop
 same-length c = omega arith
 
--- src/lib.rt:84:1
 same-length-2 : tie.Need-same-length-2 Inv-loop μ-loop
 same-length-2 c = omega (arith, c .before .loop .inv .2, c .before .before .before .before .before .before .before .pre .3)
 
--- src/lib.rt:84:1
 returns : tie.Need-returns Inv-loop μ-loop
 returns c = (pass-end _ _ _ _ _ (omega arith) (c .before .loop .inv .3), c .before .loop .inv .4)
 

@@ -11,10 +11,10 @@ use Rattle.chart.proofs.ends.in_order.Statement.{statement}
 use Rattle.chart.proofs.ends.in_order.Tie as tie
 
 abbrev Inv-loop : tie.InvT-loop
-Inv-loop tables note ws ends₀ corners places i n done₀ ends done = (length ends ≡ length ends₀) × Judged tables note places ws i corners done ends
+Inv-loop tables note ws ends₀ corners places i n done₀ up₀ ends done up = (length ends ≡ length ends₀) × Judged tables note places ws i corners done ends
 
 abbrev μ-loop : tie.MeasureT-loop
-μ-loop tables note ws ends₀ corners places i n done₀ ends done = 2 ^ 32 - done
+μ-loop tables note ws ends₀ corners places i n done₀ up₀ ends done up = 2 ^ 32 - done
 
 nonterminals-requires : tie.Need-nonterminals-requires Inv-loop μ-loop
 nonterminals-requires c κs = search needs
