@@ -1,5 +1,5 @@
 -- Points added to the sets: one set that joins that of a place, one point, and one lot of points after another.
-use mathlib.Core.Path.{_≡_, refl, ap, _∙_}
+use mathlib.Core.Path.{_≡_, refl, sym, ap, _∙_}
 use mathlib.Core.Logic.{_⊎_, inl, inr, ⊎-elim}
 use mathlib.Core.Bool.{Bool, true, false, _||_, true≢false, false≢true}
 use mathlib.Core.List.{List}
@@ -8,7 +8,7 @@ use native.Mathlib.Omega.{arith}
 use native.Mathlib.Decide.{decLt}
 use lib.Dec.{T, eqb, eqb→eq, eqb-refl}
 use lib.ListN.{length}
-use Rattle.base.proofs.Booleans.{or-T, T-or-l, T-or-r}
+use Rattle.base.proofs.Booleans.{or-T, T-or-l, T-or-r, true→T}
 use Rattle.base.proofs.Bits.{same?}
 use Rattle.grammar.specs.Limits.{maxPlaces}
 use Rattle.positions.specs.Positions.{positionCount, setWords, emptySet, member, withOf}
@@ -83,6 +83,18 @@ mark-adds {q = q} {i = i} {e = e} {s = s} long l m z y h =
     added-as (λ p j x u. (u .0, one-out i j (x .1) m (rw (y, z) at (u .1)))) (λ p j x u. (u .0, rw (y, z) (one-in i j m (u .1)))) (join-adds long l h)
 
 -- ---- nothing is added
+-- a point that the sets hold already
+pub mark-held : (q i : ℕ) (ws : List ℕ) {b : Bool} → b ≡ memberAt ws (setWords * q) i → b ≡ true → Added (PointOf q i) false ws ws
+unfolding stands
+mark-held q i ws {b} e t =
+    record {
+      kept = λ p j o u. u;
+      held = λ p j o x. rw (x .0, x .1) (true→T (memberAt ws (setWords * q) i) (sym e ∙ t));
+      only = λ p j o u. inl u;
+      same = λ _. refl;
+      grown = λ z. absurd (false≢true z);
+    }
+
 pub none-added : {P : ℕ → ℕ → Type 0} (ws : List ℕ) → ((p j : ℕ) → P p j → ⊥) → Added P false ws ws
 none-added ws n =
     record {

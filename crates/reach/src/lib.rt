@@ -21,6 +21,9 @@ fn mark(sets: &mut [u32], q: usize, j: usize) -> bool
     requires { ⌜ (q < maxPlaces) × (j < positionCount) × (length (now sets) ≡ setsWords) ⌝ }
     ensures { λ r. ⌜ Added (PointOf q j) r (now (sets .entry)) (now (sets .exit)) ⌝ }
 {
+    if positions::holds(sets, positions::WORDS * q, j) {
+        return false;
+    }
     let s = Positions::empty().with(j);
     positions::join(sets, positions::WORDS * q, s)
 }
