@@ -11,7 +11,7 @@ use Rattle.grammar.specs.Limits.{maxProductions, endPlace}
 use Rattle.grammar.specs.Grammar.{Grammar, facing, alternatives}
 use Rattle.lookahead.specs.Configs.{Config, config, In, Moves, enter, pop, behind, end, Closes, from, move}
 use Rattle.lookahead.specs.Closing.{maxEntries}
-use Rattle.lookahead.specs.Order.{pastEnd, Packable}
+use Rattle.lookahead.specs.Order.{placeRadix, pastEnd, Packable}
 use Rattle.lookahead.specs.Outcomes.{numbered, startConfigs, onward, stepConfigs}
 use Rattle.lookahead.specs.Rules.{Each}
 use Rattle.lookahead.proofs.ListLaws.{in-get}
@@ -63,7 +63,7 @@ module _ (g : Grammar) (bounded : Bounded g) where
     returns = λ r m. let h = s .returns r m in omega (arith, bounded .small);
   }
     where
-      go : {p : ℕ} {t : List ℕ} → At g p t → p < 2048
+      go : {p : ℕ} {t : List ℕ} → At g p t → p < placeRadix
       go (inside h) = omega (arith, bounded .small)
       go (last h _) = omega arith
       go (past h _) = omega arith

@@ -1,0 +1,1 @@
+-- Laws on the cache's words, one subject a file.

@@ -1,0 +1,79 @@
+-- Coherent words: laid out as documented, no decision holds two equal states, and every recorded start and step is what the learning rules give.
+-- These are the caches of demand 3, and what an audit has to decide.
+use mathlib.Core.Path.{_≡_}
+use mathlib.Core.Logic.{_⊎_, _≢_}
+use mathlib.Core.List.{List}
+use Prim.Native.Nat.{ℕ, _+_, _≤_, _<_}
+use lib.Dec.{T}
+use lib.ListN.{length}
+use Rattle.grammar.specs.Limits.{maxNonterminals, maxProductions, maxKinds}
+use Rattle.grammar.specs.Grammar.{Grammar, alternatives}
+use Rattle.lookahead.specs.Configs.{Config, In}
+use Rattle.lookahead.specs.Closing.{maxEntries, maxKept}
+use Rattle.lookahead.specs.Order.{pastEnd, Ascending, returnRadix}
+use Rattle.lookahead.specs.Outcomes.{Outcome, full, alternative, state, startOutcome, stepOutcome}
+use Rattle.lookahead.specs.Rules.{Each}
+use Rattle.cache.specs.Layout.{minWords, fixedWords, slots, byteCountAt, heldAt, startAt, bytesAt, slotAt, countAt, stepAt, configsAt, fullWord, stateWord}
+use Rattle.cache.specs.Packing.{packAll}
+use Rattle.cache.specs.Words.{word, held, startOf, stepOf, decision, keptWords, keptIn}
+use Rattle.cache.specs.Begin.{packBytes, begun?}
+
+-- a nonterminal of two or more productions
+abbrev pub Decides : Grammar → ℕ → Type 0
+Decides g a = 1 < length (alternatives g a)
+
+-- the word w says the outcome o of decision a
+abbrev pub Says : List ℕ → ℕ → ℕ → Outcome → Type 0
+Says c a w full = w ≡ fullWord
+Says c a w (alternative b) = (w ≡ b) × (1 ≤ b) × (b ≤ maxProductions)
+Says c a w (state ks) = (s : ℕ) × (w ≡ stateWord s) × (s < held c) × (decision c s ≡ a) × (keptWords c s ≡ packAll ks)
+
+-- a configuration that three words hold
+pub record Fits (k : Config) : Type 0 where
+  pub place : k .place ≤ pastEnd
+  pub least : 1 ≤ k .alternative
+  pub most : k .alternative ≤ maxProductions
+  pub entries : length (k .stack) ≤ maxEntries
+  pub returns : Each (λ (r : ℕ). r < returnRadix) (k .stack)
+
+-- slot s holds a state
+pub record Slot (g : Grammar) (c : List ℕ) (s : ℕ) : Type 0 where
+  pub decides : Decides g (decision c s)
+  pub counted : word c (countAt s) ≡ length (keptIn c s)
+  pub few : length (keptIn c s) ≤ maxKept
+  pub packed : keptWords c s ≡ packAll (keptIn c s)
+  pub fitting : Each Fits (keptIn c s)
+  pub ascending : Ascending (keptIn c s)
+
+-- the words of the documented fields
+pub data Used (g : Grammar) (bytes c : List ℕ) (i : ℕ) : Type 0 where
+  size : 1 ≤ i → i ≤ heldAt → Used g bytes c i
+  start : (a : ℕ) → Decides g a → i ≡ startAt a → Used g bytes c i
+  byte : (j : ℕ) → j < length (packBytes bytes) → i ≡ bytesAt + j → Used g bytes c i
+  its-decision : (s : ℕ) → s < held c → i ≡ slotAt s → Used g bytes c i
+  count : (s : ℕ) → s < held c → i ≡ countAt s → Used g bytes c i
+  step : (s t : ℕ) → s < held c → t ≤ g .kinds → i ≡ stepAt s t → Used g bytes c i
+  kept : (s j : ℕ) → s < held c → j < length (keptWords c s) → i ≡ configsAt s + j → Used g bytes c i
+
+pub record Coherent (g : Grammar) (bytes c : List ℕ) : Type 0 where
+  -- the layout
+  pub long : minWords ≤ length c
+  pub begun-for : T (begun? bytes c)
+  pub held-fits : held c ≤ slots (length c)
+  pub slot : (s : ℕ) → s < held c → Slot g c s
+  pub unused : (i : ℕ) → ¬ Used g bytes c i → word c i ≡ 0
+  -- no decision holds two equal states
+  pub single : (s s′ : ℕ) → s < held c → s′ < held c → decision c s ≡ decision c s′ → keptWords c s ≡ keptWords c s′ → s ≡ s′
+  -- every recorded start and step is what the learning rules give
+  pub started : (a : ℕ) → Decides g a → startOf c a ≢ 0 → Says c a (startOf c a) (startOutcome g a)
+  pub stepped : (s t : ℕ) → s < held c → t ≤ g .kinds → stepOf c s t ≢ 0 → Says c (decision c s) (stepOf c s t) (stepOutcome g t (keptIn c s))
+
+-- words only grow: what was recorded stays as it was
+pub record Extends (g : Grammar) (c c′ : List ℕ) : Type 0 where
+  pub length : length c′ ≡ length c
+  pub fixed : (i : ℕ) → (i < heldAt) ⊎ ((bytesAt ≤ i) × (i < fixedWords)) → word c′ i ≡ word c i
+  pub more : held c ≤ held c′
+  pub decision : (s : ℕ) → s < held c → decision c′ s ≡ decision c s
+  pub kept : (s : ℕ) → s < held c → keptWords c′ s ≡ keptWords c s
+  pub start : (a : ℕ) → a < maxNonterminals → startOf c a ≢ 0 → startOf c′ a ≡ startOf c a
+  pub step : (s t : ℕ) → s < held c → t ≤ maxKinds → stepOf c s t ≢ 0 → stepOf c′ s t ≡ stepOf c s t

@@ -1,0 +1,8 @@
+-- The lookahead cache: its words by named fields, how it begins, what is recorded, what it predicts, and which words are coherent.
+pub mod Layout
+pub mod Packing
+pub mod Words
+pub mod Begin
+pub mod Recording
+pub mod Predict
+pub mod Coherent

@@ -1,0 +1,1 @@
+-- Laws on the quick reading, one subject a file.

@@ -1,0 +1,57 @@
+-- Demand 3: a single claim about a list of quick readings by one grammar over one cache.
+use mathlib.Core.Path.{_≡_}
+use mathlib.Core.List.{List, [], _∷_}
+use Prim.Native.Nat.{ℕ, _≤_}
+use lib.ListN.{length}
+use mathlib.Core.Bool.{Bool, true, false, _&&_, cond}
+use mathlib.Core.Option.{Option, none, some}
+use lib.Dec.{leb}
+use Rattle.grammar.specs.Grammar.{Grammar}
+use Rattle.derivation.specs.Space.{maxTokens, spaceWords}
+use Rattle.derivation.specs.Plain.{Answer, firstUnknown, plainReading}
+use Rattle.lookahead.specs.Configs.{In}
+use Rattle.quick.specs.Machine.{Ended}
+use Rattle.quick.specs.Quick.{Reply, quickNote, quickReading}
+
+-- what a reading is lent besides the grammar's bytes and the cache: a note, a row, and a working space of so many words
+pub record Call : Type 0 where
+  pub note : List ℕ
+  pub row : List ℕ
+  pub space : ℕ
+
+-- no token is unknown
+abbrev pub none? : Option ℕ → Bool
+none? none = true
+none? (some i) = false
+
+-- not refused with 8, 9 or 11
+unfoldable pub admitted? : Grammar → Call → Bool
+unfolding firstUnknown
+admitted? g k = leb (length (k .note)) maxTokens && (none? (firstUnknown (g .kinds) (k .note)) && leb (spaceWords (g .size) (length (k .note))) (k .space))
+
+-- the words that the learning rules give from words c for a call: by the note and the row's length alone; nothing is added after 8, 9 or 11
+unfoldable pub taught : Grammar → List ℕ → Call → List ℕ
+unfolding admitted? quickNote
+taught g c k = let c′ = (quickNote g (k .note) (length (k .row)) c) .words in cond (admitted? g k) c′ c
+
+-- the quick reading of a call over words c, and the plain reading beside it
+abbrev pub quick : List ℕ → List ℕ → Call → Reply
+quick s c k = quickReading s (k .note) (k .row) (k .space) c
+
+abbrev pub plain : List ℕ → Call → Answer
+plain s k = plainReading s (k .note) (k .row) (k .space)
+
+-- one reading of the list: c are the words that the one before it left, `earlier` the calls before it
+pub record Agrees (s : List ℕ) (g : Grammar) (c : List ℕ) (earlier : List Call) (k : Call) : Type 0 where
+  -- number, place, count and every row entry are those of the plain reading
+  pub answer : (quick s c k) .answer ≡ plain s k
+  -- the cache holds exactly what the learning rules give
+  pub learned : (quick s c k) .words ≡ taught g c k
+  -- a note that was read before in enough working space, with a row of the same length, leaves every word as found
+  pub nothing-new : (j : Call) → In j earlier → j .note ≡ k .note → spaceWords (g .size) (length (j .note)) ≤ j .space → length (j .row) ≡ length (k .row)
+      → (quick s c k) .words ≡ c
+
+-- the whole list, each reading taking the words as the last one left them
+abbrev pub Each : List ℕ → Grammar → List ℕ → List Call → List Call → Type 0
+Each s g c earlier [] = Unit {0}
+Each s g c earlier (k ∷ ks) = Agrees s g c earlier k × Each s g ((quick s c k) .words) (k ∷ earlier) ks

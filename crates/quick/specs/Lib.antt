@@ -1,0 +1,4 @@
+-- The quick reading, and demand 3.
+pub mod Machine
+pub mod Quick
+pub mod Demand3
