@@ -14,3 +14,4 @@ pub mod EndLaws
 pub mod RuleLaws
 pub mod Learned
 pub mod WorkedCases
+pub mod Following
