@@ -15,3 +15,4 @@ pub mod RuleLaws
 pub mod Learned
 pub mod WorkedCases
 pub mod Following
+pub mod Agreeing
