@@ -4,18 +4,23 @@ use mathlib.Core.Logic.{_⊎_, inl, inr}
 use mathlib.Core.Bool.{Bool, true, false, _&&_, not, cond}
 use mathlib.Core.Option.{Option, none, some}
 use mathlib.Core.List.{List, [], _∷_, List·Memᴰ·not-nil, List·Memᴰ·cases-cons}
-use Prim.Native.Nat.{ℕ}
+use Prim.Native.Nat.{ℕ, _<_}
 use lib.Dec.{T, ltb}
 use lib.ListN.{length}
 use Rattle.base.proofs.Booleans.{clash, true→T}
 use Rattle.grammar.specs.Grammar.{Grammar}
+use Rattle.grammar.specs.Ordered.{Ordered}
+use Rattle.derivation.specs.Runs.{Run}
 use Rattle.lookahead.specs.Configs.{Config, In, Closes}
 use Rattle.lookahead.specs.Closing.{maxKept, close}
 use Rattle.lookahead.specs.Order.{kept?, kept}
 use Rattle.lookahead.specs.Outcomes.{Outcome, full, alternative, state, agreed, shared, settled, resolved, judged, limited, outcome}
 use Rattle.lookahead.proofs.CloseLaws.{close-some}
 use Rattle.lookahead.proofs.OrderLaws.{kept-right}
-use Rattle.lookahead.proofs.TestLaws.{agreed-out}
+use Rattle.lookahead.specs.Rules.{Waits}
+use Rattle.lookahead.proofs.TestLaws.{waits-right, agreed-out}
+use Rattle.lookahead.proofs.StateLaws.{state-exact}
+use Rattle.lookahead.proofs.Following.{Valid, Cover, Faced, face}
 
 -- rule 3 alone gives an alternative, and all kept have it
 judged-alternative : (ks : List Config) {b : ℕ} → judged ks ≡ alternative b → (c : Config) → In c ks → c .alternative ≡ b
@@ -54,3 +59,29 @@ module _ (g : Grammar) where
       go : (o : Option (List Config)) → close g start ≡ o → (elim o as (λ _. Outcome) [ none ↦ full | some ms ↦ limited (kept g ms) ]) ≡ alternative b → c .alternative ≡ b
       go none q e = clash (cc)
       go (some ms) q e = judged-alternative (kept g ms) (limited-alternative (kept g ms) e) c (kept-right g ms c .1 (close-some g start ms q .exact c .1 x, t))
+
+-- what an outcome allows where alternative b can read the rest of w from i on
+module _ (g : Grammar) (ordered : Ordered g) where
+  -- in a state: a configuration of b faces the token at i, and with what is open behind it the rest can be read
+  pub record Followed (ks : List Config) (b : ℕ) (w : List ℕ) (i : ℕ) : Type 0 where
+    pub start : List Config
+    pub faced : Faced g ordered start b w i
+    pub held : In (faced .member) ks
+
+  pub data Allows (b : ℕ) (w : List ℕ) (i : ℕ) : Outcome → Type 0 where
+    any : Allows b w i full
+    this : Allows b w i (alternative b)
+    there : {ks : List Config} → Followed ks b w i → Allows b w i (state ks)
+    over : {ks : List Config} → i ≡ length w → Allows b w i (state ks)
+
+  -- AN OUTCOME AGREES with every derivation that has a token left
+  pub outcome-allows : (start : List Config) {b : ℕ} {w z r : List ℕ} {i : ℕ} → Run g w z i (length w) r → i < length w → Valid g z → Cover g ordered start b z → Allows b w i (outcome g start)
+  outcome-allows start {b} {w} {i = i} x l va v = go (outcome g start) refl (face g ordered x refl l va v)
+    where
+      waits : (f : Faced g ordered start b w i) → T (kept? g (f .member))
+      waits f = waits-right g (f .member) .1 (Waits.faces (f .kind) (f .faces))
+
+      go : (o : Outcome) → outcome g start ≡ o → Faced g ordered start b w i → Allows b w i o
+      go full e f = any
+      go (alternative b′) e f = let q : b′ ≡ b = sym (outcome-alternative g start e (f .member) (f .closes) (waits f)) ∙ f .same in rw q this
+      go (state ks) e f = there (record { start = start; faced = f; held = state-exact g start ks e (f .member) .1 (f .closes, waits f) })
