@@ -4,21 +4,23 @@ use mathlib.Core.Logic.{_⊎_, inl, inr}
 use mathlib.Core.Bool.{Bool, true, false, _&&_, not, cond}
 use mathlib.Core.Option.{Option, none, some}
 use mathlib.Core.List.{List, [], _∷_, List·Memᴰ·not-nil, List·Memᴰ·cases-cons}
-use Prim.Native.Nat.{ℕ, _<_}
+use Prim.Native.Nat.{ℕ, suc, _<_}
 use lib.Dec.{T, ltb}
 use lib.ListN.{length}
 use Rattle.base.proofs.Booleans.{clash, true→T}
-use Rattle.grammar.specs.Grammar.{Grammar}
+use Rattle.grammar.specs.Grammar.{Grammar, first}
 use Rattle.grammar.specs.Ordered.{Ordered}
 use Rattle.derivation.specs.Runs.{Run}
-use Rattle.lookahead.specs.Configs.{Config, In, Closes}
+use Rattle.lookahead.specs.Configs.{Config, config, In, Closes, from}
 use Rattle.lookahead.specs.Closing.{maxKept, close}
 use Rattle.lookahead.specs.Order.{kept?, kept}
 use Rattle.lookahead.specs.Outcomes.{Outcome, full, alternative, state, agreed, shared, settled, resolved, judged, limited, outcome}
+use Rattle.lookahead.specs.Outcomes.{onward, startConfigs, stepConfigs, startOutcome, stepOutcome}
 use Rattle.lookahead.proofs.CloseLaws.{close-some}
 use Rattle.lookahead.proofs.OrderLaws.{kept-right}
 use Rattle.lookahead.specs.Rules.{Waits}
 use Rattle.lookahead.proofs.TestLaws.{waits-right, agreed-out}
+use Rattle.lookahead.proofs.StepLaws.{start-exact, step-exact}
 use Rattle.lookahead.proofs.StateLaws.{state-exact}
 use Rattle.lookahead.proofs.Following.{Valid, Cover, Faced, face}
 
@@ -85,3 +87,30 @@ module _ (g : Grammar) (ordered : Ordered g) where
       go full e f = any
       go (alternative b′) e f = let q : b′ ≡ b = sym (outcome-alternative g start e (f .member) (f .closes) (waits f)) ∙ f .same in rw q this
       go (state ks) e f = there (record { start = start; faced = f; held = state-exact g start ks e (f .member) .1 (f .closes, waits f) })
+
+  -- a start agrees
+  pub start-allows : (a b f : ℕ) (S : List ℕ) {w r : List ℕ} {i : ℕ} → first g a b ≡ some f → Run g w (f ∷ S) i (length w) r → i < length w → Valid g (f ∷ S) → Allows b w i (startOutcome g a)
+  unfolding startOutcome
+  start-allows a b f S q x l va =
+      outcome-allows (startConfigs g a) x l va
+      (record {
+        member = config f b [];
+        closes = from (start-exact g a (config f b []) .1 (record { number = b; begins = f; production = q; is = refl }));
+        same = refl;
+        rest = S;
+        covers = refl;
+      })
+
+  -- and a step from a state in which the alternative is followed, if a token is left behind it
+  pub step-allows : {ks : List Config} {b : ℕ} {w : List ℕ} {i : ℕ} (h : Followed ks b w i) → suc i < length w → Allows b w (suc i) (stepOutcome g (h .faced .token) ks)
+  unfolding stepOutcome
+  step-allows {ks} h l =
+      let f = h .faced in
+      outcome-allows (stepConfigs g (f .token) ks) (f .onward) l (f .valid)
+      (record {
+        member = onward (f .member);
+        closes = from (step-exact g (f .token) ks (onward (f .member)) .1 (record { source = f .member; held = h .held; kind = f .kind; faces = f .faces; passes = f .passes; is = refl }));
+        same = f .same;
+        rest = f .rest;
+        covers = refl;
+      })
