@@ -8,12 +8,12 @@ use lib.Dec.{T}
 use lib.ListN.{length}
 use Rattle.grammar.specs.Limits.{maxNonterminals, maxProductions, maxKinds}
 use Rattle.grammar.specs.Grammar.{Grammar, alternatives}
-use Rattle.lookahead.specs.Configs.{Config, In}
+use Rattle.lookahead.specs.Configs.{Config}
 use Rattle.lookahead.specs.Closing.{maxEntries, maxKept}
 use Rattle.lookahead.specs.Order.{pastEnd, Ascending, returnRadix}
 use Rattle.lookahead.specs.Outcomes.{Outcome, full, alternative, state, startOutcome, stepOutcome}
 use Rattle.lookahead.specs.Rules.{Each}
-use Rattle.cache.specs.Layout.{minWords, fixedWords, slots, byteCountAt, heldAt, startAt, bytesAt, slotAt, countAt, stepAt, configsAt, fullWord, stateWord}
+use Rattle.cache.specs.Layout.{minWords, fixedWords, slots, heldAt, startAt, bytesAt, slotAt, countAt, stepAt, configsAt, fullWord, stateWord}
 use Rattle.cache.specs.Packing.{packAll}
 use Rattle.cache.specs.Words.{word, held, startOf, stepOf, decision, keptWords, keptIn}
 use Rattle.cache.specs.Begin.{packBytes, begun?}
@@ -70,10 +70,10 @@ pub record Coherent (g : Grammar) (bytes c : List ℕ) : Type 0 where
 
 -- words only grow: what was recorded stays as it was
 pub record Extends (g : Grammar) (c c′ : List ℕ) : Type 0 where
-  pub length : length c′ ≡ length c
-  pub fixed : (i : ℕ) → (i < heldAt) ⊎ ((bytesAt ≤ i) × (i < fixedWords)) → word c′ i ≡ word c i
+  pub as-long : length c′ ≡ length c
+  pub same-fixed : (i : ℕ) → (i < heldAt) ⊎ ((bytesAt ≤ i) × (i < fixedWords)) → word c′ i ≡ word c i
   pub more : held c ≤ held c′
-  pub decision : (s : ℕ) → s < held c → decision c′ s ≡ decision c s
-  pub kept : (s : ℕ) → s < held c → keptWords c′ s ≡ keptWords c s
-  pub start : (a : ℕ) → a < maxNonterminals → startOf c a ≢ 0 → startOf c′ a ≡ startOf c a
-  pub step : (s t : ℕ) → s < held c → t ≤ maxKinds → stepOf c s t ≢ 0 → stepOf c′ s t ≡ stepOf c s t
+  pub same-decision : (s : ℕ) → s < held c → decision c′ s ≡ decision c s
+  pub same-kept : (s : ℕ) → s < held c → keptWords c′ s ≡ keptWords c s
+  pub same-start : (a : ℕ) → a < maxNonterminals → startOf c a ≢ 0 → startOf c′ a ≡ startOf c a
+  pub same-step : (s t : ℕ) → s < held c → t ≤ maxKinds → stepOf c s t ≢ 0 → stepOf c′ s t ≡ stepOf c s t

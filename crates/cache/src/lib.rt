@@ -1,1 +1,1 @@
-// The lookahead cache: its words, what is looked up in them and what is recorded.
+// Nothing runs here yet: the words of the lookahead cache, how it begins, what is recorded and what it predicts, as definitions.

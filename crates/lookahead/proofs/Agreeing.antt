@@ -1,9 +1,8 @@
 -- What an outcome may say where an alternative can read the rest: FULL, that alternative, or a state in which it is followed.
-use mathlib.Core.Path.{_≡_, refl, sym, ap, subst, _∙_}
-use mathlib.Core.Logic.{_⊎_, inl, inr}
+use mathlib.Core.Path.{_≡_, refl, sym, _∙_}
 use mathlib.Core.Bool.{Bool, true, false, _&&_, not, cond}
 use mathlib.Core.Option.{Option, none, some}
-use mathlib.Core.List.{List, [], _∷_, List·Memᴰ·not-nil, List·Memᴰ·cases-cons}
+use mathlib.Core.List.{List, [], _∷_, List·Memᴰ·not-nil}
 use Prim.Native.Nat.{ℕ, suc, _<_}
 use lib.Dec.{T, ltb}
 use lib.ListN.{length}
@@ -19,7 +18,7 @@ use Rattle.lookahead.specs.Outcomes.{onward, startConfigs, stepConfigs, 
 use Rattle.lookahead.proofs.CloseLaws.{close-some}
 use Rattle.lookahead.proofs.OrderLaws.{kept-right}
 use Rattle.lookahead.specs.Rules.{Waits}
-use Rattle.lookahead.proofs.TestLaws.{waits-right, agreed-out}
+use Rattle.lookahead.proofs.TestLaws.{waits-right, agreed-first}
 use Rattle.lookahead.proofs.StepLaws.{start-exact, step-exact}
 use Rattle.lookahead.proofs.StateLaws.{state-exact}
 use Rattle.lookahead.proofs.Following.{Valid, Cover, Faced, face}
@@ -34,15 +33,11 @@ judged-alternative (k ∷ ks) {b} e c m = go (agreed (k .alternative) ks) refl e
     settle true q = clash (cc)
     settle false q = clash (cc)
 
-    pick : T (agreed (k .alternative) ks) → k .alternative ≡ b → (c ≡ k) ⊎ In c ks → c .alternative ≡ b
-    pick t q (inl z) = ap (λ (x : Config). x .alternative) z ∙ q
-    pick t q (inr n) = agreed-out (k .alternative) ks t c n ∙ q
-
     unresolved : ¬ (resolved (k ∷ ks) ≡ alternative b)
     unresolved q = settle (shared (k ∷ ks) && not (settled (k ∷ ks))) q
 
     go : (x : Bool) → agreed (k .alternative) ks ≡ x → cond x (alternative (k .alternative)) (resolved (k ∷ ks)) ≡ alternative b → c .alternative ≡ b
-    go true t q = let z : k .alternative ≡ b = cc in pick (true→T (agreed (k .alternative) ks) t) z (List·Memᴰ·cases-cons m)
+    go true t q = let z : k .alternative ≡ b = cc in agreed-first k ks (true→T (agreed (k .alternative) ks) t) c m ∙ z
     go false t q = absurd (unresolved q)
 
 limited-alternative : (ks : List Config) {b : ℕ} → limited ks ≡ alternative b → judged ks ≡ alternative b

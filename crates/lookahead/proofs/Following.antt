@@ -1,6 +1,6 @@
 -- Configurations follow every derivation: from whatever stack an alternative can read the rest of a note, the closure has a configuration of that
 -- alternative that stands where the derivation faces the next token.
-use mathlib.Core.Path.{_≡_, refl, sym, ap, subst, _∙_}
+use mathlib.Core.Path.{_≡_, refl, ap, subst, _∙_}
 use mathlib.Core.Option.{some}
 use mathlib.Core.List.{List, [], _∷_, _++_}
 use Prim.Native.Nat.{ℕ, suc, _<_}
@@ -13,7 +13,7 @@ use Rattle.grammar.specs.Limits.{endPlace}
 use Rattle.grammar.specs.Grammar.{Grammar, facing, owner, admits, first}
 use Rattle.grammar.specs.Ordered.{Ordered}
 use Rattle.derivation.specs.Runs.{Run}
-use Rattle.lookahead.specs.Configs.{Config, config, Moves, enter, pop, behind, end, Closes, move}
+use Rattle.lookahead.specs.Configs.{Config, config, enter, pop, behind, end, Closes, move}
 
 -- ---- what is open
 -- q is where the production at p may return to: behind a call of its nonterminal, or, for the start symbol, the end place

@@ -1,9 +1,9 @@
 -- `outcome` gives what the five rules give, and they give one outcome only.
 use mathlib.Core.Path.{_≡_, refl, sym, subst, ap, _∙_}
-use mathlib.Core.Logic.{_↔_, _⊎_, inl, inr}
+use mathlib.Core.Logic.{_↔_}
 use mathlib.Core.Bool.{Bool, true, false, _&&_, not, cond}
 use mathlib.Core.Option.{Option, none, some}
-use mathlib.Core.List.{List, [], _∷_, List·Memᴰ·head, List·Memᴰ·tail, List·Memᴰ·not-nil, List·Memᴰ·cases-cons}
+use mathlib.Core.List.{List, [], _∷_, List·Memᴰ·head, List·Memᴰ·tail, List·Memᴰ·not-nil}
 use Prim.Native.Nat.{ℕ, _≤_}
 use native.Mathlib.Omega.{arith}
 use lib.Dec.{T, T-not, not-T, ltb}
@@ -22,7 +22,7 @@ use Rattle.lookahead.proofs.OrderLaws.{ascending-one, kept-right, kept-
 use Rattle.lookahead.proofs.Bounds.{Bounded}
 use Rattle.lookahead.proofs.Standing.{Standing}
 use Rattle.lookahead.proofs.StateLaws.{members-packable}
-use Rattle.lookahead.proofs.TestLaws.{waits-right, rivals-right, conflicts-right, agreed-not, agreed-out, shared-out, shared-in, settled-out, settled-in}
+use Rattle.lookahead.proofs.TestLaws.{waits-right, rivals-right, conflicts-right, agreed-not, agreed-first, shared-out, shared-in, settled-out, settled-in}
 
 ascending-distinct : {l : List Config} → Ascending l → Distinct l
 ascending-distinct Ascending.none = nil
@@ -110,12 +110,8 @@ module _ (g : Grammar) (start : List Config) where
         one : ¬ Nothing g start
         one n = n k k-keeps
 
-        same : T (agreed (k .alternative) ks) → (c : Config) → (c ≡ k) ⊎ In c ks → c .alternative ≡ k .alternative
-        same t c (inl e) = ap (λ (x : Config). x .alternative) e
-        same t c (inr m) = agreed-out (k .alternative) ks t c m
-
         go : (b : Bool) → agreed (k .alternative) ks ≡ b → Gives g start (cond b (alternative (k .alternative)) (resolved (k ∷ ks)))
-        go true e = rule3 small one (record { one = k; keeps = k-keeps; all = λ c y. same (true→T (agreed (k .alternative) ks) e) c (List·Memᴰ·cases-cons (h .exact c .1 y)) })
+        go true e = rule3 small one (record { one = k; keeps = k-keeps; all = λ c y. agreed-first k ks (true→T (agreed (k .alternative) ks) e) c (h .exact c .1 y) })
         go false e =
             let (d, m, n) = agreed-not (k .alternative) ks (false→¬T (agreed (k .alternative) ks) e) in
             resolved-gives (k ∷ ks) h one (λ b x. n (x .all d (h .exact d .0 (List·Memᴰ·tail m)) ∙ sym (x .all k k-keeps)))

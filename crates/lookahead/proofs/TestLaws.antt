@@ -1,8 +1,8 @@
 -- The tests on kept configurations say what the rules say.
-use mathlib.Core.Path.{_≡_, refl}
+use mathlib.Core.Path.{_≡_, refl, ap}
 use mathlib.Core.Logic.{_↔_, _⊎_, inl, inr}
 use mathlib.Core.Bool.{Bool, true, false, _||_, not}
-use mathlib.Core.List.{List}
+use mathlib.Core.List.{List, _∷_, List·Memᴰ·cases-cons}
 use lib.Dec.{T, T-not, not-T, eqb, eqb→eq}
 use Prim.Native.Nat.{ℕ}
 use borrow.Author.Tests.{eq-eqb}
@@ -89,6 +89,14 @@ unfolding agreed
 agreed-out b ks t c m =
     eqb→eq (c .alternative) b
     (unnot (eqb (c .alternative) b) (λ n. T-not (anyOf (λ (d : Config). not (eqb (d .alternative) b)) ks) t (any-in (λ (d : Config). not (eqb (d .alternative) b)) ks m n)))
+
+-- all agree with the first
+pub agreed-first : (k : Config) (ks : List Config) → T (agreed (k .alternative) ks) → (c : Config) → In c (k ∷ ks) → c .alternative ≡ k .alternative
+agreed-first k ks t c m = go (List·Memᴰ·cases-cons m)
+  where
+    go : (c ≡ k) ⊎ In c ks → c .alternative ≡ k .alternative
+    go (inl e) = ap (λ (x : Config). x .alternative) e
+    go (inr n) = agreed-out (k .alternative) ks t c n
 
 -- some place and stack is shared by two alternatives
 pub shared-out : (ks : List Config) → T (shared ks) → (c : Config) × (d : Config) × In c ks × In d ks × T (conflicts c d)

@@ -10,7 +10,6 @@ use Rattle.grammar.specs.Grammar.{Grammar}
 use Rattle.derivation.specs.Space.{maxTokens, spaceWords}
 use Rattle.derivation.specs.Plain.{Answer, firstUnknown, plainReading}
 use Rattle.lookahead.specs.Configs.{In}
-use Rattle.quick.specs.Machine.{Ended}
 use Rattle.quick.specs.Quick.{Reply, quickNote, quickReading}
 
 -- what a reading is lent besides the grammar's bytes and the cache: a note, a row, and a working space of so many words
@@ -52,6 +51,6 @@ pub record Agrees (s : List ℕ) (g : Grammar) (c : List ℕ) (earlier : List Ca
       → (quick s c k) .words ≡ c
 
 -- the whole list, each reading taking the words as the last one left them
-abbrev pub Each : List ℕ → Grammar → List ℕ → List Call → List Call → Type 0
-Each s g c earlier [] = Unit {0}
-Each s g c earlier (k ∷ ks) = Agrees s g c earlier k × Each s g ((quick s c k) .words) (k ∷ earlier) ks
+abbrev pub AllAgree : List ℕ → Grammar → List ℕ → List Call → List Call → Type 0
+AllAgree s g c earlier [] = Unit {0}
+AllAgree s g c earlier (k ∷ ks) = Agrees s g c earlier k × AllAgree s g ((quick s c k) .words) (k ∷ earlier) ks
