@@ -1,6 +1,5 @@
 -- The lookahead cache: its words by named fields, how it begins, what is recorded, what it predicts, and which words are coherent.
 pub mod Layout
-pub mod Packing
 pub mod Words
 pub mod Begin
 pub mod Recording

@@ -2,6 +2,7 @@
 pub mod Configs
 pub mod Closing
 pub mod Order
+pub mod Packing
 pub mod Outcomes
 pub mod Rules
 pub mod Worked

@@ -14,10 +14,10 @@ unfoldable pub digits : ℕ → ℕ → List ℕ
 digits zero x = []
 digits (suc n) x = x % returnRadix ∷ digits n (x / returnRadix)
 
--- the configuration that any three words say
-unfoldable pub unpack : ℕ → ℕ → ℕ → Config
+-- the configuration that any head and any stack key say
+unfoldable pub unpack : ℕ → ℕ → Config
 unfolding digits
-unpack u v w = config (u % placeRadix) (u / placeRadix % alternativeRadix) (digits (u / (placeRadix * alternativeRadix) % entriesRadix) (v + 2 ^ 32 * w))
+unpack u x = config (u % placeRadix) (u / placeRadix % alternativeRadix) (digits (u / (placeRadix * alternativeRadix) % entriesRadix) x)
 
 unfoldable pub packAll : List Config → List ℕ
 unfolding pack
@@ -29,4 +29,4 @@ unfolding unpack
 unpackAll [] = []
 unpackAll (u ∷ []) = []
 unpackAll (u ∷ v ∷ []) = []
-unpackAll (u ∷ v ∷ w ∷ l) = unpack u v w ∷ unpackAll l
+unpackAll (u ∷ v ∷ w ∷ l) = unpack u (v + 2 ^ 32 * w) ∷ unpackAll l
