@@ -4,6 +4,7 @@ pub mod MoveLaws
 pub mod AddLaws
 pub mod CloseLaws
 pub mod KeyLaws
+pub mod PackLaws
 pub mod OrderLaws
 pub mod StepLaws
 pub mod Bounds
