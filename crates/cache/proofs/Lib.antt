@@ -1,1 +1,2 @@
 -- Laws on the cache's words, one subject a file.
+pub mod WordLaws
