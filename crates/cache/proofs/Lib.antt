@@ -1,2 +1,3 @@
 -- Laws on the cache's words, one subject a file.
 pub mod WordLaws
+pub mod FitLaws
