@@ -1,0 +1,68 @@
+-- Words only grow: what was said stays said.
+use mathlib.Core.Path.{_≡_, refl, sym, ap, _∙_}
+use mathlib.Core.Logic.{inl, inr}
+use mathlib.Core.List.{List}
+use Prim.Native.Nat.{ℕ, _+_, _≤_, _<_}
+use native.Mathlib.Omega.{arith}
+use lib.Dec.{T}
+use lib.ListN.{length, take, drop}
+use Rattle.grammar.specs.Limits.{maxNonterminals, maxKinds}
+use Rattle.grammar.specs.Grammar.{Grammar}
+use Rattle.lookahead.specs.Outcomes.{Outcome, full, alternative, state}
+use Rattle.lookahead.specs.Packing.{unpackAll}
+use Rattle.lookahead.proofs.Bounds.{Bounded}
+use Rattle.cache.specs.Layout.{fixedWords, lengthAt, bytesAt}
+use Rattle.cache.specs.Words.{held, keptIn}
+use Rattle.cache.specs.Begin.{packBytes, begun?}
+use Rattle.cache.specs.Coherent.{Decides, Says, Extends}
+use Rattle.cache.proofs.WordLaws.{region-same}
+
+-- what recording relies on in a grammar and its bytes
+pub record Suits (g : Grammar) (bytes : List ℕ) : Type 0 where
+  pub bounded : Bounded g
+  pub kinds : g .kinds ≤ maxKinds
+  pub decisions : (a : ℕ) → Decides g a → a < maxNonterminals
+  pub packed : bytesAt + length (packBytes bytes) ≤ fixedWords
+
+module _ (g : Grammar) where
+  pub extends-refl : (c : List ℕ) → Extends g c c
+  extends-refl c = record {
+    as-long = refl;
+    same-fixed = λ i h. refl;
+    more = omega arith;
+    same-decision = λ s h. refl;
+    same-kept = λ s h. refl;
+    same-start = λ a h n. refl;
+    same-step = λ s t h l n. refl;
+  }
+
+  pub extends-trans : (c c′ c″ : List ℕ) → Extends g c c′ → Extends g c′ c″ → Extends g c c″
+  extends-trans c c′ c″ x y = record {
+    as-long = y .as-long ∙ x .as-long;
+    same-fixed = λ i h. y .same-fixed i h ∙ x .same-fixed i h;
+    more = omega (arith, x .more, y .more);
+    same-decision = λ s h. y .same-decision s (omega (arith, x .more)) ∙ x .same-decision s h;
+    same-kept = λ s h. y .same-kept s (omega (arith, x .more)) ∙ x .same-kept s h;
+    same-start = λ a h n. let e = x .same-start a h n in y .same-start a h (λ z. n (sym e ∙ z)) ∙ e;
+    same-step = λ s t h l n. let e = x .same-step s t h l n in y .same-step s t (omega (arith, x .more)) l (λ z. n (sym e ∙ z)) ∙ e;
+  }
+
+  pub says-extends : {c c′ : List ℕ} → Extends g c c′ → (a w : ℕ) (o : Outcome) → Says c a w o → Says c′ a w o
+  says-extends x a w full y = y
+  says-extends x a w (alternative b) y = y
+  says-extends x a w (state ks) (s, e, h, d, k) = (s, e, omega (arith, x .more), x .same-decision s h ∙ d, x .same-kept s h ∙ k)
+
+  -- the configurations of a state
+  pub kept-extends : {c c′ : List ℕ} → Extends g c c′ → (s : ℕ) → s < held c → keptIn c′ s ≡ keptIn c s
+  unfolding keptIn
+  kept-extends x s h = ap unpackAll (x .same-kept s h)
+
+  -- the words that say what the cache was begun for
+  pub begun-extends : (bytes : List ℕ) {c c′ : List ℕ} → bytesAt + length (packBytes bytes) ≤ fixedWords → Extends g c c′ → T (begun? bytes c) → T (begun? bytes c′)
+  unfolding begun?
+  begun-extends bytes {c} {c′} few x t =
+      let n = length (packBytes bytes) in
+      let l : length c′ ≡ length c = x .as-long in
+      let p : take 3 (drop lengthAt c′) ≡ take 3 (drop lengthAt c) = region-same c c′ lengthAt 3 l (λ i h k. x .same-fixed i (inl (omega arith))) in
+      let q : take n (drop bytesAt c′) ≡ take n (drop bytesAt c) = region-same c c′ bytesAt n l (λ i h k. x .same-fixed i (inr (h, omega arith))) in
+      rw (p, q, l) t
