@@ -1,5 +1,5 @@
 -- The words that record outcomes, starts and steps alike: where they stand, and what coherent words say there.
-use mathlib.Core.Path.{_≡_, refl, sym, ap, _∙_}
+use mathlib.Core.Path.{_≡_, sym, ap, _∙_}
 use mathlib.Core.Logic.{_⊎_, inl, inr, _≢_}
 use mathlib.Core.List.{List}
 use Prim.Native.Nat.{ℕ, _+_, _≤_, _<_}
@@ -9,9 +9,8 @@ use lib.ListN.{length}
 use Rattle.grammar.specs.Limits.{maxNonterminals, maxKinds}
 use Rattle.grammar.specs.Grammar.{Grammar}
 use Rattle.lookahead.specs.Outcomes.{Outcome, startOutcome, stepOutcome}
-use Rattle.cache.specs.Layout.{fixedWords, slotWords, heldAt, startAt, bytesAt, slotAt, countAt, stepAt, configsAt}
-use Rattle.cache.specs.Words.{word, held, startOf, stepOf, decision, keptWords, keptIn}
-use Rattle.cache.specs.Begin.{packBytes}
+use Rattle.cache.specs.Layout.{fixedWords, heldAt, startAt, bytesAt, slotAt, countAt, stepAt, configsAt}
+use Rattle.cache.specs.Words.{word, held, startOf, stepOf, decision, keptIn}
 use Rattle.cache.specs.Coherent.{Decides, Says, Coherent, Used, size, start, byte, its-decision, count, step, kept, Extends}
 use Rattle.cache.proofs.WordLaws.{keptRoom, kept-room}
 use Rattle.cache.proofs.ExtendLaws.{Suits, kept-extends}

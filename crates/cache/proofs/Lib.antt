@@ -3,3 +3,8 @@ pub mod WordLaws
 pub mod FitLaws
 pub mod ExtendLaws
 pub mod FieldLaws
+pub mod GrowLaws
+pub mod PutLaws
+pub mod NewLaws
+pub mod FindLaws
+pub mod RecordLaws
