@@ -8,3 +8,4 @@ pub mod PutLaws
 pub mod NewLaws
 pub mod FindLaws
 pub mod RecordLaws
+pub mod AgainLaws

@@ -29,15 +29,27 @@ pub record Asked (g : Grammar) (bytes c : List ℕ) (a : ℕ) (o : Outcome) (l :
   pub extends : Extends g c (l .words)
   pub says : (l .said ≡ fullWord) ⊎ Says (l .words) a (l .said) o
 
--- one asking: the word i records the outcome o of decision a
-abbrev pub ask : List ℕ → ℕ → ℕ → Outcome → Learned
-ask c i a o = elim (eqb (word c i) 0) as (λ _. Learned) [ true ↦ recordOutcome (λ x w. set x i w) c a o | false ↦ learned (word c i) c ]
+-- ---- one asking: the word i records the outcome o of decision a
+-- with a slot free or not
+abbrev pub byRoom : List ℕ → ℕ → ℕ → List Config → Bool → Learned
+byRoom c i a ks b = cond b (learned (stateWord (held c)) (set (addState c a ks) i (stateWord (held c)))) (learned fullWord c)
 
-pub start-ask : (g : Grammar) (c : List ℕ) (a : ℕ) → askStart g c a ≡ ask c (startAt a) a (startOutcome g a)
+-- by the slot that holds the state
+abbrev pub byFind : List ℕ → ℕ → ℕ → List Config → Option ℕ → Learned
+byFind c i a ks o = elim o as (λ _. Learned) [ none ↦ recordNew (λ x w. set x i w) c a ks | some s ↦ learned (stateWord s) (set c i (stateWord s)) ]
+
+-- with nothing recorded yet or not
+abbrev pub byWord : List ℕ → ℕ → ℕ → Outcome → Bool → Learned
+byWord c i a o b = elim b as (λ _. Learned) [ true ↦ recordOutcome (λ x w. set x i w) c a o | false ↦ learned (word c i) c ]
+
+abbrev pub ask : List ℕ → ℕ → ℕ → Outcome → Learned
+ask c i a o = byWord c i a o (eqb (word c i) 0)
+
+start-ask : (g : Grammar) (c : List ℕ) (a : ℕ) → askStart g c a ≡ ask c (startAt a) a (startOutcome g a)
 unfolding askStart startOf setStart
 start-ask g c a = refl
 
-pub step-ask : (g : Grammar) (c : List ℕ) (a s t : ℕ) → askStep g c a s t ≡ ask c (stepAt s t) a (stepOutcome g t (keptIn c s))
+step-ask : (g : Grammar) (c : List ℕ) (a s t : ℕ) → askStep g c a s t ≡ ask c (stepAt s t) a (stepOutcome g t (keptIn c s))
 unfolding askStep stepOf setStep
 step-ask g c a s t = refl
 
@@ -62,7 +74,7 @@ module _ (g : Grammar) (bytes : List ℕ) (suits : Suits g bytes) where
     unfolding recordNew
     new-asked {ks} f z e = go (ltb (held c) (slots (length c))) refl
       where
-        go : (b : Bool) → ltb (held c) (slots (length c)) ≡ b → Asked g bytes c a (state ks) (cond b (learned (stateWord (held c)) (set (addState c a ks) i (stateWord (held c)))) (learned fullWord c))
+        go : (b : Bool) → ltb (held c) (slots (length c)) ≡ b → Asked g bytes c a (state ks) (byRoom c i a ks b)
         go true q =
             let d = field-decides k f in
             let y = field-recordable k f in
@@ -87,16 +99,14 @@ module _ (g : Grammar) (bytes : List ℕ) (suits : Suits g bytes) where
     record-asked (alternative b) f z = let y = field-recordable k f in put-asked f z b (refl, y .0, y .1)
     record-asked (state ks) f z = go (find c a ks) refl
       where
-        go : (o : Option ℕ) → find c a ks ≡ o
-            → Asked g bytes c a (state ks) (elim o as (λ _. Learned) [ none ↦ recordNew (λ x w. set x i w) c a ks | some s ↦ learned (stateWord s) (set c i (stateWord s)) ])
+        go : (o : Option ℕ) → find c a ks ≡ o → Asked g bytes c a (state ks) (byFind c i a ks o)
         go none e = new-asked f z e
         go (some s) e = let h = find-some c a ks (k .held-fits) e in put-asked f z (stateWord s) (s, refl, h .0, h .1, h .2)
 
     pub asked : (o : Outcome) → Field g c i a o → Asked g bytes c a o (ask c i a o)
     asked o f = go (eqb (word c i) 0) refl
       where
-        go : (b : Bool) → eqb (word c i) 0 ≡ b
-            → Asked g bytes c a o (elim b as (λ _. Learned) [ true ↦ recordOutcome (λ x w. set x i w) c a o | false ↦ learned (word c i) c ])
+        go : (b : Bool) → eqb (word c i) 0 ≡ b → Asked g bytes c a o (byWord c i a o b)
         go true e = record-asked o f (eqb-true (word c i) 0 e)
         go false e = record { coherent = k; extends = extends-refl g c; says = inr (field-says g k f (eqb-false (word c i) 0 e)) }
 
