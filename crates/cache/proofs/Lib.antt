@@ -9,3 +9,4 @@ pub mod NewLaws
 pub mod FindLaws
 pub mod RecordLaws
 pub mod AgainLaws
+pub mod BeginLaws
