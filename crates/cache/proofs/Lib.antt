@@ -10,3 +10,4 @@ pub mod FindLaws
 pub mod RecordLaws
 pub mod AgainLaws
 pub mod BeginLaws
+pub mod ByteLaws
