@@ -18,7 +18,8 @@ use Rattle.cache.specs.Layout.{slots, stepAt, fullWord, stateWord}
 use Rattle.cache.specs.Words.{word, held, startOf, stepOf, decision, keptWords, keptIn, setStart, setStep}
 use Rattle.cache.specs.Recording.{learned, find, recordNew, recordOutcome, askStart, askStep}
 use Rattle.cache.specs.Coherent.{Decides, Coherent, Extends}
-use Rattle.cache.proofs.ExtendLaws.{Suits, extends-trans, kept-extends}
+use Rattle.cache.proofs.SuitLaws.{Suits}
+use Rattle.cache.proofs.ExtendLaws.{extends-trans, kept-extends}
 use Rattle.cache.proofs.FieldLaws.{Field, of-start, of-step, field-cell, field-extends, field-says, recorded-stays}
 use Rattle.cache.proofs.FindLaws.{find-none, none-find}
 use Rattle.cache.proofs.PutLaws.{put-here, put-extends}

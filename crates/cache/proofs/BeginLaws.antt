@@ -17,7 +17,7 @@ use Rattle.cache.specs.Words.{word, held, startOf}
 use Rattle.cache.specs.Begin.{packBytes, sizeWords, beginWords, begun?}
 use Rattle.cache.specs.Coherent.{Used, size, byte, Coherent}
 use Rattle.cache.proofs.WordLaws.{word-sets, region-sets, region-same}
-use Rattle.cache.proofs.ExtendLaws.{Suits}
+use Rattle.cache.proofs.SuitLaws.{Suits}
 
 word-zero : (n i : ℕ) → word (replicate n 0) i ≡ 0
 word-zero zero i = refl

@@ -1,10 +1,9 @@
--- Bytes that say rules are few: they have room in the words before the slots. So every grammar that is read from bytes suits recording.
-use mathlib.Core.Path.{_≡_, refl, ap}
+-- Bytes that say rules are few: they have room in the words before the slots.
+use mathlib.Core.Path.{_≡_, refl}
 use mathlib.Core.Bool.{Bool, true, false, cond}
 use mathlib.Core.List.{List, [], _∷_}
-use Prim.Native.Nat.{ℕ, zero, suc, _+_, _*_, _%_, _≤_, _<_}
+use Prim.Native.Nat.{ℕ, zero, suc, _+_, _*_, _%_, _≤_}
 use native.Mathlib.Omega.{arith}
-use native.Mathlib.Decide.{decLt}
 use lib.Dec.{leb, ltb, eqb}
 use lib.ListN.{length, getD}
 use borrow.Author.Tests.{ltb-false}
@@ -14,14 +13,7 @@ use Rattle.number.proofs.NumberLaws.{limited-is}
 use Rattle.grammar.specs.Types.{Read, Value, Refused, Refusal, Unfinished, Malformed, OverLimit, Trailing}
 use Rattle.grammar.specs.Limits.{maxKinds, maxNonterminals, maxProductions, maxLength, maxPlaces}
 use Rattle.grammar.specs.Decode.{Rules, Mark, mark, Parsed, got, refused, andThen, times, fromRead, limited, written, symbol, production, nonterminal, ending, decode}
-use Rattle.grammar.specs.Grammar.{Limited, compile}
-use Rattle.grammar.proofs.GrammarLaws.{no-alternatives}
-use Rattle.grammar.proofs.PlaceLaws.{length-startsAll}
-use Rattle.reader.proofs.ReadLaws.{decode-limited}
-use Rattle.lookahead.proofs.Bounds.{compile-bounded}
 use Rattle.cache.specs.Begin.{packBytes}
-use Rattle.cache.specs.Coherent.{Decides}
-use Rattle.cache.proofs.ExtendLaws.{Suits}
 
 -- ---- a number has at most three bytes
 -- a number that was read ends at n at the latest
@@ -191,8 +183,8 @@ module _ (s : List ℕ) where
       ends-then (λ _ m″. Track t n 0 m″) (λ _ _. length s ≤ 867) (times n (nonterminal s t n) m′) _
       (nonterminals-end t n n m′ (omega arith, omega arith)) (λ l m″ z. let y = z .0 in let x = z .1 in ending-ends (record { kinds = t; productions = l }) m″ (omega arith))))
 
--- ---- what recording relies on
-packed-few : (s : List ℕ) → length (packBytes s) ≤ length s
+-- ---- in words
+pub packed-few : (s : List ℕ) → length (packBytes s) ≤ length s
 unfolding packBytes
 packed-few [] = omega arith
 packed-few (a ∷ []) = omega arith
@@ -207,26 +199,3 @@ decode-few s r m e = go (decode-ends s) e
     go : {x : Parsed Rules} → Ends (λ _ _. length s ≤ 867) x → x ≡ got r m → length s ≤ 867
     go (well h) e = h
     go none e = clash (cc)
-
-compile-decisions : (r : Rules) → Limited r → (a : ℕ) → Decides (compile r) a → a < maxNonterminals
-unfolding compile
-compile-decisions r limits a d = go (decLt a (length (compile r .starts)))
-  where
-    count : length (compile r .starts) ≡ length (r .productions)
-    count = length-startsAll 0 (r .productions)
-
-    go : Dec (a < length (compile r .starts)) → a < maxNonterminals
-    go (yes h) = omega (arith, count, limits .few)
-    go (no h) = let e = no-alternatives (compile r) a (omega arith) in absurd (omega (arith, ap length e))
-
--- every grammar that is read from bytes suits them
-pub decode-suits : (s : List ℕ) (r : Rules) (m : Mark) → decode s ≡ got r m → Suits (compile r) s
-unfolding compile
-decode-suits s r m e =
-    let limits = decode-limited s r m e in
-    record {
-      bounded = compile-bounded r limits;
-      kinds = limits .kinds-most;
-      decisions = compile-decisions r limits;
-      packed = omega (arith, decode-few s r m e, packed-few s);
-    }

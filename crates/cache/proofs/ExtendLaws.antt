@@ -6,23 +6,14 @@ use Prim.Native.Nat.{ℕ, _+_, _≤_, _<_}
 use native.Mathlib.Omega.{arith}
 use lib.Dec.{T}
 use lib.ListN.{length, take, drop}
-use Rattle.grammar.specs.Limits.{maxNonterminals, maxKinds}
 use Rattle.grammar.specs.Grammar.{Grammar}
 use Rattle.lookahead.specs.Outcomes.{Outcome, full, alternative, state}
 use Rattle.lookahead.specs.Packing.{unpackAll}
-use Rattle.lookahead.proofs.Bounds.{Bounded}
 use Rattle.cache.specs.Layout.{fixedWords, lengthAt, bytesAt}
 use Rattle.cache.specs.Words.{held, keptIn}
 use Rattle.cache.specs.Begin.{packBytes, begun?}
-use Rattle.cache.specs.Coherent.{Decides, Says, Extends}
+use Rattle.cache.specs.Coherent.{Says, Extends}
 use Rattle.cache.proofs.WordLaws.{region-same}
-
--- what recording relies on in a grammar and its bytes
-pub record Suits (g : Grammar) (bytes : List ℕ) : Type 0 where
-  pub bounded : Bounded g
-  pub kinds : g .kinds ≤ maxKinds
-  pub decisions : (a : ℕ) → Decides g a → a < maxNonterminals
-  pub packed : bytesAt + length (packBytes bytes) ≤ fixedWords
 
 module _ (g : Grammar) where
   pub extends-refl : (c : List ℕ) → Extends g c c

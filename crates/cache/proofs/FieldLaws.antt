@@ -13,7 +13,8 @@ use Rattle.cache.specs.Layout.{fixedWords, heldAt, startAt, bytesAt, slo
 use Rattle.cache.specs.Words.{word, held, startOf, stepOf, decision, keptIn}
 use Rattle.cache.specs.Coherent.{Decides, Says, Coherent, Used, size, start, byte, its-decision, count, step, kept, Extends}
 use Rattle.cache.proofs.WordLaws.{keptRoom, kept-room}
-use Rattle.cache.proofs.ExtendLaws.{Suits, kept-extends}
+use Rattle.cache.proofs.SuitLaws.{Suits}
+use Rattle.cache.proofs.ExtendLaws.{kept-extends}
 
 -- ---- addresses
 -- the word i records a start or a step

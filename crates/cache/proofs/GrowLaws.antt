@@ -14,7 +14,8 @@ use Rattle.lookahead.specs.Rules.{Each}
 use Rattle.cache.specs.Layout.{slots, countAt, stepAt}
 use Rattle.cache.specs.Words.{word, held, startOf, stepOf, decision, keptWords, keptIn}
 use Rattle.cache.specs.Coherent.{Says, Fits, Slot, Used, Coherent, Extends}
-use Rattle.cache.proofs.ExtendLaws.{Suits, kept-extends, begun-extends}
+use Rattle.cache.proofs.SuitLaws.{Suits}
+use Rattle.cache.proofs.ExtendLaws.{kept-extends, begun-extends}
 use Rattle.cache.proofs.FieldLaws.{Field, of-start, of-step, used-extends}
 
 -- how words grew: at most one state more, and what every new word says

@@ -1,5 +1,7 @@
 -- Laws on the cache's words, one subject a file.
 pub mod WordLaws
+pub mod ByteLaws
+pub mod SuitLaws
 pub mod FitLaws
 pub mod ExtendLaws
 pub mod FieldLaws
@@ -10,4 +12,3 @@ pub mod FindLaws
 pub mod RecordLaws
 pub mod AgainLaws
 pub mod BeginLaws
-pub mod ByteLaws

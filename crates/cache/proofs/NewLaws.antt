@@ -19,7 +19,8 @@ use Rattle.cache.specs.Words.{word, held, startOf, stepOf, decision, kep
 use Rattle.cache.specs.Coherent.{Decides, Says, Fits, Slot, Used, size, its-decision, count, kept, Coherent, Extends}
 use Rattle.cache.proofs.WordLaws.{keptRoom, kept-same, Added, added}
 use Rattle.cache.proofs.FitLaws.{Keepable, fits-packable}
-use Rattle.cache.proofs.ExtendLaws.{Suits, says-extends}
+use Rattle.cache.proofs.SuitLaws.{Suits}
+use Rattle.cache.proofs.ExtendLaws.{says-extends}
 use Rattle.cache.proofs.FieldLaws.{Cell, start-cell, step-cell, cell-held, cell-slot, cell-count, cell-configs, Field, field-cell, field-says, unheld-step}
 use Rattle.cache.proofs.GrowLaws.{Growth, grown}
 

@@ -13,7 +13,8 @@ use Rattle.cache.specs.Layout.{slots, startAt, slotAt, countAt, stepAt, 
 use Rattle.cache.specs.Words.{word, held, startOf, stepOf, decision, keptWords}
 use Rattle.cache.specs.Coherent.{Says, Coherent, Extends}
 use Rattle.cache.proofs.WordLaws.{keptRoom, kept-same, slot-within}
-use Rattle.cache.proofs.ExtendLaws.{Suits, says-extends}
+use Rattle.cache.proofs.SuitLaws.{Suits}
+use Rattle.cache.proofs.ExtendLaws.{says-extends}
 use Rattle.cache.proofs.FieldLaws.{Cell, cell-held, cell-fixed, cell-slot, cell-count, cell-configs, Field, of-start, of-step, field-cell, field-extends, field-says, field-used}
 use Rattle.cache.proofs.GrowLaws.{Growth, grown}
 

@@ -17,7 +17,8 @@ use Rattle.cache.specs.Words.{word, held, startOf, stepOf, decision, kep
 use Rattle.cache.specs.Recording.{Learned, learned, find, recordNew, recordOutcome, askStart, askStep}
 use Rattle.cache.specs.Coherent.{Decides, Says, Coherent, Extends}
 use Rattle.cache.proofs.FitLaws.{Recordable, start-recordable, step-recordable}
-use Rattle.cache.proofs.ExtendLaws.{Suits, extends-refl, extends-trans, says-extends}
+use Rattle.cache.proofs.SuitLaws.{Suits}
+use Rattle.cache.proofs.ExtendLaws.{extends-refl, extends-trans, says-extends}
 use Rattle.cache.proofs.FieldLaws.{Field, of-start, of-step, field-cell, field-extends, field-says}
 use Rattle.cache.proofs.FindLaws.{find-some, find-none}
 use Rattle.cache.proofs.PutLaws.{put-coherent, put-extends}

@@ -1,0 +1,47 @@
+-- What recording relies on in a grammar and its bytes; every grammar that is read from bytes has it.
+use mathlib.Core.Path.{_≡_, ap}
+use mathlib.Core.List.{List}
+use Prim.Native.Nat.{ℕ, _+_, _≤_, _<_}
+use native.Mathlib.Omega.{arith}
+use native.Mathlib.Decide.{decLt}
+use lib.ListN.{length}
+use Rattle.grammar.specs.Limits.{maxNonterminals, maxKinds}
+use Rattle.grammar.specs.Decode.{Rules, Mark, got, decode}
+use Rattle.grammar.specs.Grammar.{Grammar, Limited, compile}
+use Rattle.grammar.proofs.GrammarLaws.{no-alternatives}
+use Rattle.grammar.proofs.PlaceLaws.{length-startsAll}
+use Rattle.reader.proofs.ReadLaws.{decode-limited}
+use Rattle.lookahead.proofs.Bounds.{Bounded, compile-bounded}
+use Rattle.cache.specs.Layout.{fixedWords, bytesAt}
+use Rattle.cache.specs.Begin.{packBytes}
+use Rattle.cache.specs.Coherent.{Decides}
+use Rattle.cache.proofs.ByteLaws.{packed-few, decode-few}
+
+pub record Suits (g : Grammar) (bytes : List ℕ) : Type 0 where
+  pub bounded : Bounded g
+  pub kinds : g .kinds ≤ maxKinds
+  pub decisions : (a : ℕ) → Decides g a → a < maxNonterminals
+  pub packed : bytesAt + length (packBytes bytes) ≤ fixedWords
+
+compile-decisions : (r : Rules) → Limited r → (a : ℕ) → Decides (compile r) a → a < maxNonterminals
+unfolding compile
+compile-decisions r limits a d = go (decLt a (length (compile r .starts)))
+  where
+    count : length (compile r .starts) ≡ length (r .productions)
+    count = length-startsAll 0 (r .productions)
+
+    go : Dec (a < length (compile r .starts)) → a < maxNonterminals
+    go (yes h) = omega (arith, count, limits .few)
+    go (no h) = let e = no-alternatives (compile r) a (omega arith) in absurd (omega (arith, ap length e))
+
+-- every grammar that is read from bytes suits them
+pub decode-suits : (s : List ℕ) (r : Rules) (m : Mark) → decode s ≡ got r m → Suits (compile r) s
+unfolding compile
+decode-suits s r m e =
+    let limits = decode-limited s r m e in
+    record {
+      bounded = compile-bounded r limits;
+      kinds = limits .kinds-most;
+      decisions = compile-decisions r limits;
+      packed = omega (arith, decode-few s r m e, packed-few s);
+    }
