@@ -5,11 +5,11 @@ use mathlib.Core.Option.{Option, none}
 use mathlib.Core.List.{List, [], _∷_}
 use Prim.Native.Nat.{ℕ, suc, _+_, _*_, _≤_, _<_}
 use native.Mathlib.Omega.{arith}
-use lib.Dec.{T}
+use lib.Dec.{T, leb, leb→le}
 use lib.ListN.{length, getD}
 use borrow.Author.Tests.{le-leb, le-ltb}
-use Rattle.base.specs.Search.{lowestFrom, LowestIs, this, nothing}
-use Rattle.base.proofs.Booleans.{clash, true→T, false→¬T}
+use Rattle.base.specs.Search.{LowestIs, this, nothing}
+use Rattle.base.proofs.Booleans.{clash, and-T, true→T, false→¬T}
 use Rattle.base.proofs.Lowest.{lowest-is}
 use Rattle.grammar.specs.Limits.{endPlace}
 use Rattle.grammar.specs.Decode.{Rules, Mark, got, decode}
@@ -77,19 +77,38 @@ module _ (g : Grammar) (ordered : Ordered g) (w : List ℕ) where
 abbrev pub Known : ℕ → List ℕ → Type 0
 Known kinds w = (i : ℕ) → i < length w → (1 ≤ getD w i 0) × (getD w i 0 ≤ kinds)
 
-known-none : (kinds : ℕ) (w : List ℕ) → Known kinds w → firstUnknown kinds w ≡ none
-unfolding firstUnknown
-known-none kinds w h = go (lowestFrom unknown 0 (length w)) (lowest-is Unknown unknown (length w) (λ i l t. (l, t)) (λ i x. (x .1, x .0)))
-  where
-    unknown : ℕ → Bool
-    unknown i = not (known? kinds (getD w i 0))
+module _ (kinds : ℕ) (w : List ℕ) where
+  -- token i is none of them
+  abbrev unknown? : ℕ → Bool
+  unknown? i = not (known? kinds (getD w i 0))
 
-    Unknown : ℕ → Type 0
-    Unknown i = (i < length w) × T (unknown i)
+  abbrev Unknown : ℕ → Type 0
+  Unknown i = (i < length w) × T (unknown? i)
 
-    go : (o : Option ℕ) → LowestIs Unknown o → o ≡ none
-    go o (this i (l, t) k) = let b = h i l in absurd (rw (le-leb 1 (getD w i 0) (b .0), le-leb (getD w i 0) kinds (b .1)) at t)
-    go o (nothing k) = refl
+  first-unknown : LowestIs Unknown (firstUnknown kinds w)
+  unfolding firstUnknown
+  first-unknown = lowest-is Unknown unknown? (length w) (λ i l t. (l, t)) (λ i x. (x .1, x .0))
+
+  known-none : Known kinds w → firstUnknown kinds w ≡ none
+  known-none h = go (firstUnknown kinds w) first-unknown
+    where
+      go : (o : Option ℕ) → LowestIs Unknown o → o ≡ none
+      go o (this i (l, t) k) = let b = h i l in absurd (rw (le-leb 1 (getD w i 0) (b .0), le-leb (getD w i 0) kinds (b .1)) at t)
+      go o (nothing k) = refl
+
+  -- and where none is unknown, all are known
+  pub none-known : firstUnknown kinds w ≡ none → Known kinds w
+  none-known e i l = go (firstUnknown kinds w) e first-unknown
+    where
+      known : (x : Bool) → known? kinds (getD w i 0) ≡ x → ¬ T (not x) → (1 ≤ getD w i 0) × (getD w i 0 ≤ kinds)
+      known true q n =
+          let (a, b) = and-T (leb 1 (getD w i 0)) (leb (getD w i 0) kinds) (true→T (known? kinds (getD w i 0)) q) in
+          (leb→le 1 (getD w i 0) a, leb→le (getD w i 0) kinds b)
+      known false q n = absurd (n tt)
+
+      go : (o : Option ℕ) → o ≡ none → LowestIs Unknown o → (1 ≤ getD w i 0) × (getD w i 0 ≤ kinds)
+      go o q (this j x k) = clash (cc)
+      go o q (nothing k) = known (known? kinds (getD w i 0)) refl (λ t. k i (l, t))
 
 module _ (s : List ℕ) (r : Rules) (m : Mark) (e : decode s ≡ got r m) (v : checkOf s ≡ Sound) where
   limits : Limited r
@@ -129,7 +148,7 @@ module _ (s : List ℕ) (r : Rules) (m : Mark) (e : decode s ≡ got r m) (v : c
           (goes-wrong w (λ x. reading-live g (ordered .end-mark) (ordered .end-past) w (lowest g (marked w)) (lowest-right g (marked w)) k (length row) (omega arith) x q))
       go full q = by-test q (sentence? g w) refl
 
-  judged-sound : judgeOf (compile r) ≡ Sound
+  pub judged-sound : judgeOf (compile r) ≡ Sound
   unfolding checkOf
   judged-sound = rw e at v
 

@@ -22,7 +22,7 @@ module _ (g : Grammar) (w : List ℕ) where
       go none e t = absurd t
       go (some f) e t = (f, e, runs-iff g w (f ∷ S) i .0 t)
 
-  first-lt : (a b f : ℕ) → first g a b ≡ some f → b < suc (length (alternatives g a))
+  pub first-lt : (a b f : ℕ) → first g a b ≡ some f → b < suc (length (alternatives g a))
   first-lt a zero f e = clash (cc)
   first-lt a (suc b) f e = suc-le-suc (get-lt (alternatives g a) b e)
 

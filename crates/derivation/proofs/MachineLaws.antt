@@ -136,7 +136,7 @@ module _ {g : Grammar} {w : List ℕ} {choose : Chooser} (right : Right g w choo
   right-serves {c} (b, x) e = let (c′, d, y) = right S a i b x in let z : c′ ≡ c = cc in rw z at y
 
 -- a run of a nonterminal on top of the stack: one of its alternatives serves
-call-served : {g : Grammar} {w : List ℕ} {p a i : ℕ} {S r : List ℕ} → Run g w (p ∷ S) i (length w) r → facing g p ≡ Nonterminal a → Served g w (suc p ∷ S) a i
+pub call-served : {g : Grammar} {w : List ℕ} {p a i : ℕ} {S r : List ℕ} → Run g w (p ∷ S) i (length w) r → facing g p ≡ Nonterminal a → Served g w (suc p ∷ S) a i
 call-served h e = let (b, s, f, q, x, _) = run-call h e in (b, (f, q, (s, x)))
 
 -- ---- live, under a right chooser: where a run exists enough steps do not end stuck

@@ -14,6 +14,11 @@ use Rattle.derivation.specs.Machine.{Chooser, Right, accepted, stuck, St
 use Rattle.derivation.proofs.WholeNotes.{whole-call, whole-sentence}
 use Rattle.derivation.proofs.MachineLaws.{Called, no-room, unnamed, absent, taken, call-seen, prefix-accepted, prefix-stuck, Served, right-names, right-serves, serves-at, run-sound, run-live}
 
+-- a sentence has an alternative of nonterminal 0 that serves
+pub sentence-serves : (g : Grammar) → facing g endPlace ≡ Token endMark → facing g (suc endPlace) ≡ End → (w : List ℕ) → Derives g (Nonterminal 0 ∷ []) w
+    → Served g (marked w) (endPlace ∷ []) 0 0
+sentence-serves g ends last w h = let (b, r, (f, e, x)) = whole-sentence g ends last 0 w .1 h in (b, (f, e, (r, x)))
+
 module _ (g : Grammar) (ends : facing g endPlace ≡ Token endMark) (last : facing g (suc endPlace) ≡ End) (w : List ℕ) (choose : Chooser) where
   -- what the chooser is first asked for
   abbrev begun : ℕ → Step
@@ -37,17 +42,14 @@ module _ (g : Grammar) (ends : facing g endPlace ≡ Token endMark) (last : faci
 
   -- ---- live, under a right chooser: with enough steps a sentence is accepted, or there is no room
   module _ (right : Right g (marked w) choose) where
-    some-serves : Derives g (Nonterminal 0 ∷ []) w → Served g (marked w) (endPlace ∷ []) 0 0
-    some-serves h = let (b, r, (f, e, x)) = whole-sentence g ends last 0 w .1 h in (b, (f, e, (r, x)))
-
     begun-live : (k n : ℕ) → 2 * n + length (marked w) < k → Derives g (Nonterminal 0 ∷ []) w → reading g (marked w) choose k n ≡ stuck
         → (x : Step) → begun n ≡ x → Called g choose (endPlace ∷ []) 0 0 n x → ⊥
     unfolding reading
     begun-live k n l h q x d no-room = clash (cc)
-    begun-live k n l h q x d (unnamed e) = right-names right (some-serves h) e
-    begun-live k n l h q x d (absent e c) = let (f, i, _) = right-serves right (some-serves h) e in clash (cc)
+    begun-live k n l h q x d (unnamed e) = right-names right (sentence-serves g ends last w h) e
+    begun-live k n l h q x d (absent e c) = let (f, i, _) = right-serves right (sentence-serves g ends last w h) e in clash (cc)
     begun-live k n l h q x d (taken {b = b} {f = f} {room = room} e c) =
-        run-live g (marked w) choose right k (f ∷ endPlace ∷ []) 0 room (omega arith) (serves-at 0 b (right-serves right (some-serves h) e) c)
+        run-live g (marked w) choose right k (f ∷ endPlace ∷ []) 0 room (omega arith) (serves-at 0 b (right-serves right (sentence-serves g ends last w h) e) c)
         (prefix-stuck b (run g (marked w) choose k (f ∷ endPlace ∷ []) 0 room) (cc))
 
     pub reading-live : (k room : ℕ) → 2 * room + length (marked w) < k → Derives g (Nonterminal 0 ∷ []) w → ¬ (reading g (marked w) choose k room ≡ stuck)

@@ -117,3 +117,13 @@ module _ (g : Grammar) where
     unfolding startOutcome stepOutcome
     states-ascending {a} (begun {ks = ks} e) = state-ascending (startConfigs g a) ks (start-standing g bounded a) e
     states-ascending (stepped {ks = ks} {ls = ls} t s e) = state-ascending (stepConfigs g t ks) ls (step-standing g bounded t ks (states-standing s)) e
+
+    state-packable : (start ks : List Config) → Each (Standing g) start → outcome g start ≡ state ks → Each Packable ks
+    state-packable start ks s e c m =
+        let h = outcome-state start ks e in
+        members-packable start (h .members) s (h .closure) c (kept-right g (h .members) c .0 (subst (In c) (sym (h .same)) m) .0)
+
+    pub states-packable : {a : ℕ} {ks : List Config} → States g a ks → Each Packable ks
+    unfolding startOutcome stepOutcome
+    states-packable {a} (begun {ks = ks} e) = state-packable (startConfigs g a) ks (start-standing g bounded a) e
+    states-packable (stepped {ks = ks} {ls = ls} t s e) = state-packable (stepConfigs g t ks) ls (step-standing g bounded t ks (states-standing s)) e
