@@ -12,3 +12,4 @@ pub mod FindLaws
 pub mod RecordLaws
 pub mod AgainLaws
 pub mod BeginLaws
+pub mod PredictLaws
