@@ -1,33 +1,32 @@
 -- Predictions over coherent words: they keep the words coherent, agree with every derivation, and say the same again over words that have only grown.
 use mathlib.Core.Path.{_≡_, refl, sym, subst, ap, _∙_}
 use mathlib.Core.Logic.{_⊎_, inl, inr}
-use mathlib.Core.Bool.{Bool, true, false}
 use mathlib.Core.Option.{some}
 use mathlib.Core.List.{List, [], _∷_, List·Memᴰ·head, List·Memᴰ·tail}
 use Prim.Native.Nat.{ℕ, suc, _-_, _≤_, _<_}
 use native.Mathlib.Omega.{arith}
-use lib.ListN.{length, getElem?, drop}
+use lib.ListN.{length, drop}
 use borrow.Author.Tests.{lt-ltb, le-ltb}
-use Rattle.base.proofs.Booleans.{clash}
 use Rattle.grammar.specs.Limits.{maxProductions}
 use Rattle.grammar.specs.Grammar.{Grammar, first}
 use Rattle.grammar.specs.Ordered.{Ordered}
 use Rattle.derivation.specs.Runs.{Run}
 use Rattle.derivation.proofs.Notes.{get-of-drop, get-lt}
-use Rattle.lookahead.specs.Configs.{Config, In}
+use Rattle.lookahead.specs.Configs.{Config}
 use Rattle.lookahead.specs.Outcomes.{Outcome, full, alternative, state, startOutcome, stepOutcome, States, begun, stepped}
 use Rattle.lookahead.specs.Packing.{packAll, unpackAll}
 use Rattle.lookahead.specs.Rules.{Each}
 use Rattle.lookahead.proofs.PackLaws.{unpack-all}
 use Rattle.lookahead.proofs.StateLaws.{states-packable}
 use Rattle.lookahead.proofs.Following.{Valid}
-use Rattle.lookahead.proofs.Agreeing.{Followed, Allows, any, this, there, over, Marked, start-allows, step-agrees}
+use Rattle.lookahead.proofs.Agreeing.{Allows, this, there, over, Marked, start-allows, step-agrees}
 use Rattle.cache.specs.Layout.{slots, fullWord, stateWord}
 use Rattle.cache.specs.Words.{held, decision, keptWords, keptIn}
 use Rattle.cache.specs.Recording.{Learned, learned, askStart, askStep}
-use Rattle.cache.specs.Predict.{Meaning, chosen, undecided, at, meaning, follow, predict}
+use Rattle.cache.specs.Predict.{chosen, undecided, at, meaning, follow, predict}
 use Rattle.cache.specs.Coherent.{Decides, Says, Coherent, Extends}
-use Rattle.cache.proofs.ExtendLaws.{Suits, extends-refl, extends-trans}
+use Rattle.cache.proofs.SuitLaws.{Suits}
+use Rattle.cache.proofs.ExtendLaws.{extends-refl, extends-trans}
 use Rattle.cache.proofs.RecordLaws.{Asked, ask-start, ask-step}
 use Rattle.cache.proofs.AgainLaws.{again-start, again-step}
 

@@ -1,1 +1,6 @@
--- Laws on the quick reading, one subject a file.
+-- Laws of the quick reading, one subject a file.
+pub mod ChoiceLaws
+pub mod StepLaws
+pub mod LockStep
+pub mod NoteLaws
+pub mod Demand3Laws

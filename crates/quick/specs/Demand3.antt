@@ -54,3 +54,21 @@ pub record Agrees (s : List ℕ) (g : Grammar) (c : List ℕ) (earlier : List Ca
 abbrev pub AllAgree : List ℕ → Grammar → List ℕ → List Call → List Call → Type 0
 AllAgree s g c earlier [] = Unit {0}
 AllAgree s g c earlier (k ∷ ks) = Agrees s g c earlier k × AllAgree s g ((quick s c k) .words) (k ∷ earlier) ks
+
+-- the words after a whole list: as the readings leave them, and as the learning rules give them
+unfoldable pub wordsAfter : List ℕ → List ℕ → List Call → List ℕ
+unfolding quickReading
+wordsAfter s c [] = c
+wordsAfter s c (k ∷ ks) = wordsAfter s ((quick s c k) .words) ks
+
+unfoldable pub taughtAll : Grammar → List ℕ → List Call → List ℕ
+unfolding taught
+taughtAll g c [] = c
+taughtAll g c (k ∷ ks) = taughtAll g (taught g c k) ks
+
+-- DEMAND 3, of a list of readings over words c
+pub record Demand3 (s : List ℕ) (g : Grammar) (c : List ℕ) (ks : List Call) : Type 0 where
+  -- each reading agrees
+  pub each : AllAgree s g c [] ks
+  -- and at the end the cache holds what the learning rules give from c by the notes and the rows' lengths
+  pub words : wordsAfter s c ks ≡ taughtAll g c ks

@@ -72,16 +72,16 @@ pub record Ended : Type 0 where
   pub outcome : Outcome
   pub words : List ℕ
 
-abbrev pub ended : Outcome → List ℕ → Ended
-ended o c = record { outcome = o; words = c }
+abbrev pub stopped : Outcome → List ℕ → Ended
+stopped o c = record { outcome = o; words = c }
 
 -- alternative b, and then this end
 abbrev pub prefixed : ℕ → Ended → Ended
-prefixed b e = ended (prefix b (e .outcome)) (e .words)
+prefixed b e = stopped (prefix b (e .outcome)) (e .words)
 
 -- what a step leads to, where `on` says what follows
 abbrev pub followed : (List ℕ → ℕ → ℕ → List ℕ → Ended) → ℕ → ℕ → Step → List ℕ → Ended
-followed on i room (halt o) c = ended o c
+followed on i room (halt o) c = stopped o c
 followed on i room (move S i′) c = on S i′ room c
 followed on i room (pick b S) c = prefixed b (on S i (pred room) c)
 
@@ -91,7 +91,7 @@ goOn on i room m = followed on i room (m .step) (m .words)
 -- so many steps of the machine
 unfoldable pub quickRun : Grammar → List ℕ → ℕ → List ℕ → ℕ → ℕ → List ℕ → Ended
 unfolding quickStep
-quickRun g w zero S i room c = ended stuck c
+quickRun g w zero S i room c = stopped stuck c
 quickRun g w (suc k) S i room c = goOn (quickRun g w k) i room (quickStep g w c S i room)
 
 -- the reading of a marked note: nonterminal 0 over the end place, and then so many steps
