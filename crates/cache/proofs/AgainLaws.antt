@@ -23,8 +23,7 @@ use Rattle.cache.proofs.ExtendLaws.{extends-trans, kept-extends}
 use Rattle.cache.proofs.FieldLaws.{Field, of-start, of-step, field-cell, field-extends, field-says, recorded-stays}
 use Rattle.cache.proofs.FindLaws.{find-none, none-find}
 use Rattle.cache.proofs.PutLaws.{put-here, put-extends}
-use Rattle.cache.proofs.NewLaws.{new-coherent, new-grows, new-cell}
-use Rattle.cache.proofs.RecordLaws.{byRoom, byFind, byWord, ask, field-decides, field-recordable, ask-step}
+use Rattle.cache.proofs.RecordLaws.{putAt, byRoom, byFind, byWord, ask, field-recordable, field-new, ask-step}
 
 -- a word that records something is the answer
 known : (c : List ℕ) (i a : ℕ) (o : Outcome) → word c i ≢ 0 → ask c i a o ≡ learned (word c i) c
@@ -65,23 +64,19 @@ module _ (g : Grammar) (bytes : List ℕ) (suits : Suits g bytes) {c″ : List �
           ∙ ap (byRoom c″ i a ks) (le-ltb (held c″) (slots (length c″)) (omega (arith, as-many, ap slots (x .as-long))))
 
     -- a state that no slot held
-    again-new : {ks : List Config} → Field g c i a (state ks) → word c i ≡ 0 → find c a ks ≡ none → Extends g (recordNew (λ x w. set x i w) c a ks .words) c″
-        → ask c″ i a (state ks) ≡ learned (recordNew (λ x w. set x i w) c a ks .said) c″
+    again-new : {ks : List Config} → Field g c i a (state ks) → word c i ≡ 0 → find c a ks ≡ none → Extends g (recordNew (putAt i) c a ks .words) c″
+        → ask c″ i a (state ks) ≡ learned (recordNew (putAt i) c a ks .said) c″
     unfolding recordNew
     again-new {ks} f z e x = go (ltb (held c) (slots (length c))) refl x
       where
         go : (b : Bool) → ltb (held c) (slots (length c)) ≡ b → Extends g (byRoom c i a ks b .words) c″ → ask c″ i a (state ks) ≡ learned (byRoom c i a ks b .said) c″
         go true q x =
-            let d = field-decides g bytes suits k f in
-            let y = field-recordable g bytes suits k f in
-            let room = ltb-true (held c) (slots (length c)) q in
-            let n : (s : ℕ) → s < held c → decision c s ≡ a → keptWords c s ≡ packAll ks → ⊥ = λ s h d e′. find-none c a ks (k .held-fits) e s (h, d, e′) in
-            let z′ = new-cell g bytes suits k a ks d y room n (field-cell g suits f) ∙ z in
-            again-put (new-coherent g bytes suits k a ks d y room n) (field-extends g (new-grows g bytes suits k a ks d y room n) f) z′ (stateWord (held c)) (λ r. omega arith) x
+            let n = field-new g bytes suits k f e (ltb-true (held c) (slots (length c)) q) in
+            again-put (n .coherent) (field-extends g (n .extends) f) (n .cells (field-cell g suits f) ∙ z) (stateWord (held c)) (λ r. omega arith) x
         go false q x = again-unheld f z e (ltb-false (held c) (slots (length c)) q) x
 
-    again-record : (o : Outcome) → Field g c i a o → word c i ≡ 0 → Extends g (recordOutcome (λ x w. set x i w) c a o .words) c″
-        → ask c″ i a o ≡ learned (recordOutcome (λ x w. set x i w) c a o .said) c″
+    again-record : (o : Outcome) → Field g c i a o → word c i ≡ 0 → Extends g (recordOutcome (putAt i) c a o .words) c″
+        → ask c″ i a o ≡ learned (recordOutcome (putAt i) c a o .said) c″
     unfolding recordOutcome
     again-record full f z x = again-put k f z fullWord (λ r. omega arith) x
     again-record (alternative b) f z x = let y = field-recordable g bytes suits k f in again-put k f z b (λ r. omega (arith, y .0)) x

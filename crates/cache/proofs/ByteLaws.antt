@@ -15,6 +15,14 @@ use Rattle.grammar.specs.Limits.{maxKinds, maxNonterminals, maxProductions, max
 use Rattle.grammar.specs.Decode.{Rules, Mark, mark, Parsed, got, refused, andThen, times, fromRead, limited, written, symbol, production, nonterminal, ending, decode}
 use Rattle.cache.specs.Begin.{packBytes}
 
+-- three bytes for each of 34 numbers: the highest kind, how many nonterminals, and how many productions each of them has
+abbrev countBytes : ℕ
+countBytes = 102
+
+-- and three for each place: a production's length, or a symbol
+abbrev pub maxBytes : ℕ
+maxBytes = 867
+
 -- ---- a number has at most three bytes
 -- a number that was read ends at n at the latest
 abbrev Upto : ℕ → Read → Type 0
@@ -120,9 +128,9 @@ module _ (s : List ℕ) where
         go (Value v c) u = well u
         go (Refused r) u = none
 
-    -- with d bytes still to come, no more than three bytes for each place and for each of 34 numbers
+    -- with d bytes still to come, no more than three for each place and for each of the other numbers
     abbrev Track : ℕ → Mark → Type 0
-    Track d m = (m .byte + d ≤ 3 * m .places + 102) × (m .places ≤ maxPlaces)
+    Track d m = (m .byte + d ≤ 3 * m .places + countBytes) × (m .places ≤ maxPlaces)
 
     symbols-end : (b k : ℕ) (m : Mark) → m .byte + 3 * k ≤ b → Ends (λ _ m′. m′ .byte ≤ b) (times k (symbol s t n) m)
     symbols-end b k m h =
@@ -160,27 +168,27 @@ module _ (s : List ℕ) where
         ends-times (λ k m. Track (3 * k) m) (nonterminal s t n) (λ k m z. nonterminal-ends (3 * k) m (let a = z .0 in (omega arith, z .1))) k m h
 
   -- all bytes are read
-  ending-ends : {A : Type 0} (x : A) (m : Mark) → m .byte ≤ 867 → Ends (λ _ _. length s ≤ 867) (ending s x m)
+  ending-ends : {A : Type 0} (x : A) (m : Mark) → m .byte ≤ maxBytes → Ends (λ _ _. length s ≤ maxBytes) (ending s x m)
   unfolding ending
   ending-ends x m h = go (ltb (m .byte) (length s)) refl
     where
-      go : (b : Bool) → ltb (m .byte) (length s) ≡ b → Ends (λ _ _. length s ≤ 867) (cond b (refused (Trailing (m .byte))) (got x m))
+      go : (b : Bool) → ltb (m .byte) (length s) ≡ b → Ends (λ _ _. length s ≤ maxBytes) (cond b (refused (Trailing (m .byte))) (got x m))
       go true e = none
       go false e = let u = ltb-false (m .byte) (length s) e in well (omega arith)
 
-  decode-ends : Ends (λ _ _. length s ≤ 867) (decode s)
+  decode-ends : Ends (λ _ _. length s ≤ maxBytes) (decode s)
   unfolding decode
   decode-ends =
-      ends-then (λ v m. (v ≤ maxKinds) × (m .byte ≤ 3) × (m .places ≡ 0)) (λ _ _. length s ≤ 867) (limited s 1 maxKinds (mark 0 0)) _
+      ends-then (λ v m. (v ≤ maxKinds) × (m .byte ≤ 3) × (m .places ≡ 0)) (λ _ _. length s ≤ maxBytes) (limited s 1 maxKinds (mark 0 0)) _
       (limited-ends 1 maxKinds (mark 0 0)) (λ t m q.
-      ends-then (λ v m′. (v ≤ maxNonterminals) × (m′ .byte ≤ m .byte + 3) × (m′ .places ≡ m .places)) (λ _ _. length s ≤ 867) (limited s 1 maxNonterminals m) _
+      ends-then (λ v m′. (v ≤ maxNonterminals) × (m′ .byte ≤ m .byte + 3) × (m′ .places ≡ m .places)) (λ _ _. length s ≤ maxBytes) (limited s 1 maxNonterminals m) _
       (limited-ends 1 maxNonterminals m) (λ n m′ q′.
       let a = q .1 in
       let b = q .2 in
       let c = q′ .0 in
       let d = q′ .1 in
       let e = q′ .2 in
-      ends-then (λ _ m″. Track t n 0 m″) (λ _ _. length s ≤ 867) (times n (nonterminal s t n) m′) _
+      ends-then (λ _ m″. Track t n 0 m″) (λ _ _. length s ≤ maxBytes) (times n (nonterminal s t n) m′) _
       (nonterminals-end t n n m′ (omega arith, omega arith)) (λ l m″ z. let y = z .0 in let x = z .1 in ending-ends (record { kinds = t; productions = l }) m″ (omega arith))))
 
 -- ---- in words
@@ -192,10 +200,10 @@ packed-few (a ∷ b ∷ []) = omega arith
 packed-few (a ∷ b ∷ c ∷ []) = omega arith
 packed-few (a ∷ b ∷ c ∷ d ∷ l) = let h = packed-few l in omega arith
 
--- at most 867 bytes say rules
-pub decode-few : (s : List ℕ) (r : Rules) (m : Mark) → decode s ≡ got r m → length s ≤ 867
+-- no more bytes say rules
+pub decode-few : (s : List ℕ) (r : Rules) (m : Mark) → decode s ≡ got r m → length s ≤ maxBytes
 decode-few s r m e = go (decode-ends s) e
   where
-    go : {x : Parsed Rules} → Ends (λ _ _. length s ≤ 867) x → x ≡ got r m → length s ≤ 867
+    go : {x : Parsed Rules} → Ends (λ _ _. length s ≤ maxBytes) x → x ≡ got r m → length s ≤ maxBytes
     go (well h) e = h
     go none e = clash (cc)

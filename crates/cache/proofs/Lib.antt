@@ -1,5 +1,6 @@
 -- Laws on the cache's words, one subject a file.
 pub mod WordLaws
+pub mod LengthLaws
 pub mod ByteLaws
 pub mod SuitLaws
 pub mod FitLaws

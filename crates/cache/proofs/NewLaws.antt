@@ -24,6 +24,13 @@ use Rattle.cache.proofs.ExtendLaws.{says-extends}
 use Rattle.cache.proofs.FieldLaws.{Cell, start-cell, step-cell, cell-held, cell-slot, cell-count, cell-configs, Field, field-cell, field-says, unheld-step}
 use Rattle.cache.proofs.GrowLaws.{Growth, grown}
 
+-- what the words are with a new state of decision a: words that record outcomes stay as they were
+pub record Fresh (g : Grammar) (bytes c : List ℕ) (a : ℕ) (ks : List Config) : Type 0 where
+  pub coherent : Coherent g bytes (addState c a ks)
+  pub extends : Extends g c (addState c a ks)
+  pub says : Says (addState c a ks) a (stateWord (held c)) (state ks)
+  pub cells : {i : ℕ} → Cell i → word (addState c a ks) i ≡ word c i
+
 module _ (g : Grammar) (bytes : List ℕ) (suits : Suits g bytes) {c : List ℕ} (k : Coherent g bytes c) (a : ℕ) (ks : List Config) (decides : Decides g a) (keep : Keepable ks) (room : held c < slots (length c)) (fresh : (s : ℕ) → s < held c → decision c s ≡ a → keptWords c s ≡ packAll ks → ⊥) where
   after : List ℕ
   after = addState c a ks
@@ -112,19 +119,11 @@ module _ (g : Grammar) (bytes : List ℕ) (suits : Suits g bytes) {c : List ℕ}
     said = new-said;
   }
 
-  pub new-coherent : Coherent g bytes (addState c a ks)
+  pub new-state : Fresh g bytes c a ks
   unfolding after
-  new-coherent = grown g bytes suits k growth
-
-  pub new-grows : Extends g c (addState c a ks)
-  unfolding after
-  new-grows = new-extends
-
-  pub new-says : Says (addState c a ks) a (stateWord (held c)) (state ks)
-  unfolding after
-  new-says = (held c, refl, omega (arith, new .now-held), new .its-decision, new .its-words)
-
-  -- words that record outcomes stay as they were
-  pub new-cell : {i : ℕ} → Cell i → word (addState c a ks) i ≡ word c i
-  unfolding after
-  new-cell x = cell-stays x
+  new-state = record {
+    coherent = grown g bytes suits k growth;
+    extends = new-extends;
+    says = (held c, refl, omega (arith, new .now-held), new .its-decision, new .its-words);
+    cells = λ x. cell-stays x;
+  }

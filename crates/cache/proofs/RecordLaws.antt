@@ -11,9 +11,8 @@ use borrow.Author.Tests.{eqb-true, eqb-false, ltb-true}
 use Rattle.grammar.specs.Grammar.{Grammar}
 use Rattle.lookahead.specs.Configs.{Config}
 use Rattle.lookahead.specs.Outcomes.{Outcome, full, alternative, state, startOutcome, stepOutcome}
-use Rattle.lookahead.specs.Packing.{packAll}
 use Rattle.cache.specs.Layout.{slots, startAt, stepAt, fullWord, stateWord}
-use Rattle.cache.specs.Words.{word, held, startOf, stepOf, decision, keptWords, keptIn, setStart, setStep, addState}
+use Rattle.cache.specs.Words.{word, held, startOf, stepOf, decision, keptIn, setStart, setStep, addState}
 use Rattle.cache.specs.Recording.{Learned, learned, find, recordNew, recordOutcome, askStart, askStep}
 use Rattle.cache.specs.Coherent.{Decides, Says, Coherent, Extends}
 use Rattle.cache.proofs.FitLaws.{Recordable, start-recordable, step-recordable}
@@ -22,7 +21,7 @@ use Rattle.cache.proofs.ExtendLaws.{extends-refl, extends-trans, says-e
 use Rattle.cache.proofs.FieldLaws.{Field, of-start, of-step, field-cell, field-extends, field-says}
 use Rattle.cache.proofs.FindLaws.{find-some, find-none}
 use Rattle.cache.proofs.PutLaws.{put-coherent, put-extends}
-use Rattle.cache.proofs.NewLaws.{new-coherent, new-grows, new-says, new-cell}
+use Rattle.cache.proofs.NewLaws.{Fresh, new-state}
 
 -- what asking for the outcome o of decision a comes to
 pub record Asked (g : Grammar) (bytes c : List ℕ) (a : ℕ) (o : Outcome) (l : Learned) : Type 0 where
@@ -31,17 +30,20 @@ pub record Asked (g : Grammar) (bytes c : List ℕ) (a : ℕ) (o : Outcome) (l :
   pub says : (l .said ≡ fullWord) ⊎ Says (l .words) a (l .said) o
 
 -- ---- one asking: the word i records the outcome o of decision a
+abbrev pub putAt : ℕ → List ℕ → ℕ → List ℕ
+putAt i c w = set c i w
+
 -- with a slot free or not
 abbrev pub byRoom : List ℕ → ℕ → ℕ → List Config → Bool → Learned
 byRoom c i a ks b = cond b (learned (stateWord (held c)) (set (addState c a ks) i (stateWord (held c)))) (learned fullWord c)
 
 -- by the slot that holds the state
 abbrev pub byFind : List ℕ → ℕ → ℕ → List Config → Option ℕ → Learned
-byFind c i a ks o = elim o as (λ _. Learned) [ none ↦ recordNew (λ x w. set x i w) c a ks | some s ↦ learned (stateWord s) (set c i (stateWord s)) ]
+byFind c i a ks o = elim o as (λ _. Learned) [ none ↦ recordNew (putAt i) c a ks | some s ↦ learned (stateWord s) (set c i (stateWord s)) ]
 
 -- with nothing recorded yet or not
 abbrev pub byWord : List ℕ → ℕ → ℕ → Outcome → Bool → Learned
-byWord c i a o b = elim b as (λ _. Learned) [ true ↦ recordOutcome (λ x w. set x i w) c a o | false ↦ learned (word c i) c ]
+byWord c i a o b = elim b as (λ _. Learned) [ true ↦ recordOutcome (putAt i) c a o | false ↦ learned (word c i) c ]
 
 abbrev pub ask : List ℕ → ℕ → ℕ → Outcome → Learned
 ask c i a o = byWord c i a o (eqb (word c i) 0)
@@ -64,45 +66,43 @@ module _ (g : Grammar) (bytes : List ℕ) (suits : Suits g bytes) where
   field-recordable k {a = a} (of-start d e q) = subst Recordable (sym q) (start-recordable g (suits .bounded) a)
   field-recordable {c} k (of-step s t h l d e q) = subst Recordable (sym q) (step-recordable g (suits .bounded) t (keptIn c s) (k .slot s h .fitting))
 
-  module _ {c : List ℕ} (k : Coherent g bytes c) {i a : ℕ} where
-    -- the word was free, and a word that says the outcome is recorded
-    put-asked : {o : Outcome} → Field g c i a o → word c i ≡ 0 → (w : ℕ) → Says c a w o → Asked g bytes c a o (learned w (set c i w))
-    put-asked {o} f z w y =
-        let x = put-extends g bytes suits k f w z in
-        record { coherent = put-coherent g bytes suits k f w z y; extends = x; says = inr (says-extends g x a w o y) }
+  -- the word was free, and a word that says the outcome is recorded
+  put-asked : {c : List ℕ} → Coherent g bytes c → {i a : ℕ} {o : Outcome} → Field g c i a o → word c i ≡ 0 → (w : ℕ) → Says c a w o
+      → Asked g bytes c a o (learned w (set c i w))
+  put-asked {c} k {i} {a} {o} f z w y =
+      let x = put-extends g bytes suits k f w z in
+      record { coherent = put-coherent g bytes suits k f w z y; extends = x; says = inr (says-extends g x a w o y) }
 
-    new-asked : {ks : List Config} → Field g c i a (state ks) → word c i ≡ 0 → find c a ks ≡ none → Asked g bytes c a (state ks) (recordNew (λ x w. set x i w) c a ks)
+  module _ {c : List ℕ} (k : Coherent g bytes c) {i a : ℕ} where
+    -- a state that no slot holds, with a slot free
+    pub field-new : {ks : List Config} → Field g c i a (state ks) → find c a ks ≡ none → held c < slots (length c) → Fresh g bytes c a ks
+    field-new {ks} f e room =
+        new-state g bytes suits k a ks (field-decides k f) (field-recordable k f) room (λ s h d q. find-none c a ks (k .held-fits) e s (h, d, q))
+
+    new-asked : {ks : List Config} → Field g c i a (state ks) → word c i ≡ 0 → find c a ks ≡ none → Asked g bytes c a (state ks) (recordNew (putAt i) c a ks)
     unfolding recordNew
     new-asked {ks} f z e = go (ltb (held c) (slots (length c))) refl
       where
         go : (b : Bool) → ltb (held c) (slots (length c)) ≡ b → Asked g bytes c a (state ks) (byRoom c i a ks b)
         go true q =
-            let d = field-decides k f in
-            let y = field-recordable k f in
-            let room = ltb-true (held c) (slots (length c)) q in
-            let n : (s : ℕ) → s < held c → decision c s ≡ a → keptWords c s ≡ packAll ks → ⊥ = λ s h d e′. find-none c a ks (k .held-fits) e s (h, d, e′) in
-            let k′ = new-coherent g bytes suits k a ks d y room n in
-            let x = new-grows g bytes suits k a ks d y room n in
-            let z′ = new-cell g bytes suits k a ks d y room n (field-cell g suits f) ∙ z in
-            let f′ = field-extends g x f in
-            let y′ = new-says g bytes suits k a ks d y room n in
-            let x′ = put-extends g bytes suits k′ f′ (stateWord (held c)) z′ in
+            let n = field-new f e (ltb-true (held c) (slots (length c)) q) in
+            let a′ = put-asked (n .coherent) (field-extends g (n .extends) f) (n .cells (field-cell g suits f) ∙ z) (stateWord (held c)) (n .says) in
             record {
-              coherent = put-coherent g bytes suits k′ f′ (stateWord (held c)) z′ y′;
-              extends = extends-trans g c (addState c a ks) (set (addState c a ks) i (stateWord (held c))) x x′;
-              says = inr (says-extends g x′ a (stateWord (held c)) (state ks) y′);
+              coherent = a′ .coherent;
+              extends = extends-trans g c (addState c a ks) (set (addState c a ks) i (stateWord (held c))) (n .extends) (a′ .extends);
+              says = a′ .says;
             }
         go false q = record { coherent = k; extends = extends-refl g c; says = inl refl }
 
-    record-asked : (o : Outcome) → Field g c i a o → word c i ≡ 0 → Asked g bytes c a o (recordOutcome (λ x w. set x i w) c a o)
+    record-asked : (o : Outcome) → Field g c i a o → word c i ≡ 0 → Asked g bytes c a o (recordOutcome (putAt i) c a o)
     unfolding recordOutcome
-    record-asked full f z = put-asked f z fullWord refl
-    record-asked (alternative b) f z = let y = field-recordable k f in put-asked f z b (refl, y .0, y .1)
+    record-asked full f z = put-asked k f z fullWord refl
+    record-asked (alternative b) f z = let y = field-recordable k f in put-asked k f z b (refl, y .0, y .1)
     record-asked (state ks) f z = go (find c a ks) refl
       where
         go : (o : Option ℕ) → find c a ks ≡ o → Asked g bytes c a (state ks) (byFind c i a ks o)
         go none e = new-asked f z e
-        go (some s) e = let h = find-some c a ks (k .held-fits) e in put-asked f z (stateWord s) (s, refl, h .0, h .1, h .2)
+        go (some s) e = let h = find-some c a ks (k .held-fits) e in put-asked k f z (stateWord s) (s, refl, h .0, h .1, h .2)
 
     pub asked : (o : Outcome) → Field g c i a o → Asked g bytes c a o (ask c i a o)
     asked o f = go (eqb (word c i) 0) refl
