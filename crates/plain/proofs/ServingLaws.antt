@@ -29,7 +29,7 @@ use Rattle.derivation.proofs.RunLaws.{der-le, der-in, run-token, run-end, run-e
 use Rattle.derivation.proofs.ReadyLaws.{ready-first, ready-next, ready-call, ready-ordered}
 use Rattle.derivation.proofs.MarkedCells.{length-marked, get-mark, derives-inside, derives-marked}
 use Rattle.chart.specs.Chart.{spot, cellHas, ChartedFrom, Charted, EndsOf}
-use Rattle.plain.specs.Frames.{frameHas, Good, Serving}
+use Rattle.plain.specs.Frames.{frameHas, EveryFrame, Good, Serving}
 use Rattle.plain.specs.Choice.{Leading, endsIn, orZero, lowestIn}
 use Rattle.plain.proofs.GoodLaws.{derives-call}
 
@@ -134,7 +134,7 @@ module _ (t : List ℕ) (h : Ready t) (w ws : List ℕ) (charted : Charted t w w
       from m x = let z = ends-there m (runs-iff (grammarIn t) (marked w) (endPlace ∷ []) m .0 x .1) in rw z (eqb-refl (length w))
 
   pub serving-over : (ends rest r : List ℕ) (base d p a i : ℕ) → i ≤ length w → facing (grammarIn t) p ≡ Nonterminal a
-      → Good (grammarIn t) (marked w) ws base (suc d) p i → EndsOf t ws a i ends → rest ≡ setAt ws (base + frameWords * d + 1)
+      → Good (grammarIn t) (marked w) ws base EveryFrame (suc d) p i → EndsOf t ws a i ends → rest ≡ setAt ws (base + frameWords * d + 1)
       → Leading (grammarIn t .size) ws (length w) ends (suc p) rest r → Serving (grammarIn t) (marked w) (returnsOf ws base (suc d)) (suc p) a i r
   unfolding Serving Good EndsOf Leading frameHas ChartedFrom
   serving-over ends rest r base d p a i l e good ending q leading b f m c x =
@@ -154,7 +154,7 @@ module _ (t : List ℕ) (h : Ready t) (w ws : List ℕ) (charted : Charted t w w
           → member rest j ≡ runs? (grammarIn t) (marked w) (returnsOf ws base (suc d)) j
       below j k y =
           ap (λ (s : List ℕ). member s j) q ∙ (member-set ws (base + frameWords * d + 1) j (omega arith)
-          ∙ good j (derives-call (grammarIn t) (marked w) base p i m j b e c x y) .0)
+          ∙ good j (derives-call (grammarIn t) (marked w) base p i m j b e c x y) .0 tt)
 
       to : T (member r m) → T (runs? (grammarIn t) (marked w) (suc p ∷ returnsOf ws base (suc d)) m)
       to y =
