@@ -5,3 +5,4 @@ pub mod LockStep
 pub mod NoteLaws
 pub mod Demand3Laws
 pub mod RunSteps
+pub mod AskLaws

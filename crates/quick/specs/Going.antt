@@ -1,10 +1,67 @@
--- What the quick machine's loop keeps: place p over d frames, at position i, with `count` entries of the row written and the sets of the lowest `known`
--- frames right; what is left to do ends as the whole reading does.
-use mathlib.Core.List.{List}
-use Prim.Native.Nat.{ℕ}
-use Rattle.plain.specs.Going.{after}
-use Rattle.quick.specs.Machine.{Ended, stopped}
+-- What the quick machine's loop keeps: place p over d frames, at position i, with `count` entries of the row written; what is left to do ends as the
+-- whole reading does. Only the sets of the lowest `known` frames stand, and no cell is right before there is one.
+use mathlib.Core.Path.{_≡_}
+use mathlib.Core.Option.{some}
+use mathlib.Core.List.{List, [], _∷_}
+use Prim.Native.Nat.{ℕ, suc, _-_, _*_, _+_, _≤_, _<_}
+use lib.Dec.{T}
+use lib.ListN.{length, take}
+use Rattle.grammar.specs.Limits.{endPlace}
+use Rattle.grammar.specs.Grammar.{first}
+use Rattle.grammar.specs.Tables.{grammarIn}
+use Rattle.derivation.specs.Runs.{marked}
+use Rattle.derivation.specs.Cells.{derives?, runs?}
+use Rattle.derivation.specs.Space.{returnsOf, Pushed}
+use Rattle.derivation.proofs.FrameWords.{Held}
+use Rattle.chart.specs.Chart.{Lent, Charted}
+use Rattle.plain.specs.Choice.{orZero}
+use Rattle.plain.specs.Frames.{frameHas, Good}
+use Rattle.plain.specs.Machine.{ground, waiting}
+use Rattle.plain.specs.Going.{after, steps}
+use Rattle.cache.specs.Layout.{minWords}
+use Rattle.quick.specs.Machine.{Picked, quickChoice, Ended, stopped, quickRun}
 
 -- the alternatives of a list, and then this end
 abbrev pub beyond : List ℕ → Ended → Ended
 beyond l e = stopped (after l (e .outcome)) (e .words)
+
+-- the lowest `known` frames
+abbrev pub below : ℕ → ℕ → Type 0
+below known k = k < known
+
+-- the machine from here on
+abbrev pub onward : List ℕ → List ℕ → ℕ → List ℕ → ℕ → ℕ → List ℕ → Ended
+onward t w k S i left c = quickRun (grammarIn t) (marked w) k S i left c
+
+pub record Going (t w : List ℕ) (end : Ended) (row ws c : List ℕ) (count p i d known : ℕ) : Type 0 where
+  pub lent : Lent (grammarIn t .size) (length w) ws
+  pub long : minWords ≤ length c
+  pub charted : 0 < known → Charted t w ws
+  pub fits : count ≤ length row
+  pub position : i ≤ suc (length w)
+  pub held : Held (grammarIn t) (endPlace ∷ []) (length w) ws (ground t w) d p i
+  pub good : Good (grammarIn t) (marked w) ws (ground t w) (below known) d p i
+  pub rest : beyond (take count row) (onward t w (steps (length row - count) (length w) i d) (p ∷ returnsOf ws (ground t w) d) i (length row - count) c) ≡ end
+
+-- what the quick machine chooses for nonterminal a, called from place p over d frames
+abbrev pub choiceAt : List ℕ → List ℕ → List ℕ → List ℕ → ℕ → ℕ → ℕ → ℕ → Picked
+choiceAt t w ws c d p a i = quickChoice (grammarIn t) (marked w) c (waiting t w ws d p) a i
+
+-- the working space before the push: the same return places, the cells and the sets of the lowest `known` frames right
+pub record Settled (t w ws mid : List ℕ) (d p i known : ℕ) : Type 0 where
+  pub kept : length mid ≡ length ws
+  pub same : returnsOf mid (ground t w) d ≡ returnsOf ws (ground t w) d
+  pub charted : 0 < known → Charted t w mid
+  pub good : Good (grammarIn t) (marked w) mid (ground t w) (below known) d p i
+
+-- r is that choice, 0 for none, and c′ the cache after it; if there is one, the place behind p is frame d
+pub record Chose (t w ws after c c′ : List ℕ) (d p a i known r : ℕ) : Type 0 where
+  pub chosen : r ≡ orZero ((choiceAt t w ws c d p a i) .choice)
+  pub words : c′ ≡ (choiceAt t w ws c d p a i) .words
+  pub kept : length after ≡ length ws
+  pub charted : 0 < known → Charted t w after
+  pub mid : List ℕ
+  pub settled : Settled t w ws mid d p i known
+  pub pushed : ¬ (r ≡ 0) → Pushed mid after (ground t w) d (suc p)
+  pub sets : (f m : ℕ) → d < known → first (grammarIn t) a r ≡ some f → T (derives? (grammarIn t) (marked w) f i m)
+      → frameHas after (ground t w) d m ≡ runs? (grammarIn t) (marked w) (waiting t w ws d p) m

@@ -1,0 +1,57 @@
+-- A prediction as the code makes it: turn by turn, and its ways out.
+use mathlib.Core.Path.{_≡_, refl, sym, ap, _∙_}
+use mathlib.Core.Option.{some}
+use mathlib.Core.List.{List, []}
+use Prim.Native.Nat.{ℕ, suc, _+_, _-_, _≤_, _<_}
+use native.Mathlib.Numerals.{add-one}
+use native.Mathlib.Omega.{arith}
+use mathlib.Core.Bool.{Bool, true, false}
+use lib.Dec.{ltb}
+use lib.ListN.{length, getElem?, drop, drop-of-length-le}
+use borrow.Author.Tests.{ltb-true, ltb-false}
+use Rattle.grammar.specs.Grammar.{Grammar}
+use Rattle.derivation.specs.Runs.{marked}
+use Rattle.derivation.proofs.Notes.{drop-of-get}
+use Rattle.derivation.proofs.MarkedCells.{length-marked}
+use Rattle.cache.specs.Layout.{slots, fullWord, stateWord}
+use Rattle.cache.specs.Recording.{Learned, learned, askStart, askStep}
+use Rattle.cache.specs.Predict.{follow, predict}
+use Rattle.cache.proofs.FollowLaws.{meaning-none, meaning-full, meaning-beyond, meaning-chosen, meaning-state, follow-unsure, follow-sure, follow-over, follow-on}
+
+module _ (g : Grammar) (a : ℕ) (w : List ℕ) where
+  -- where a prediction stands: this was said of what lies before position j, and the rest is left
+  pub record Asking (end : Learned) (j said : ℕ) (c : List ℕ) : Type 0 where
+    pub is : follow g a (drop j (marked w)) (learned said c) ≡ end
+
+  pub asking-begins : (c : List ℕ) (i : ℕ) {said : ℕ} {c′ : List ℕ} → learned said c′ ≡ askStart g c a → Asking (predict g c a (drop i (marked w))) i said c′
+  unfolding predict
+  asking-begins c i e = record { is = ap (follow g a (drop i (marked w))) e }
+
+  module _ {end : Learned} {j said : ℕ} {c : List ℕ} (x : Asking end j said c) where
+    pub asking-on : {s t : ℕ} {said′ : ℕ} {c′ : List ℕ} → fullWord < said → s ≡ said - 18 → s < slots (length c) → getElem? (marked w) j ≡ some t
+        → learned said′ c′ ≡ askStep g c a s t → Asking end (j + 1) said′ c′
+    asking-on {s} {t} l e k q z =
+        rw (add-one j)
+        (record { is = ap (follow g a (drop (suc j) (marked w))) z
+        ∙ sym (follow-on g t (drop (suc j) (marked w)) a s (learned said c) (meaning-state (slots (length c)) said s (omega arith) k))
+        ∙ ap (λ (ts : List ℕ). follow g a ts (learned said c)) (sym (drop-of-get (marked w) j q)) ∙ x .is })
+
+    pub asking-beyond : {s n : ℕ} → fullWord < said → s ≡ said - 18 → n ≡ slots (length c) → n ≤ s → learned fullWord c ≡ end
+    asking-beyond l e k h = sym (follow-unsure g (drop j (marked w)) a (learned said c) (meaning-beyond (slots (length c)) said l (omega arith))) ∙ x .is
+
+    pub asking-over : {s n : ℕ} → fullWord < said → s ≡ said - 18 → n ≡ slots (length c) → (s < n) → length w < j → learned fullWord c ≡ end
+    asking-over {s} l e k h m =
+        sym (follow-over g a s (learned said c) (meaning-state (slots (length c)) said s (omega arith) (omega arith)))
+        ∙ ap (λ (ts : List ℕ). follow g a ts (learned said c)) (sym (drop-of-length-le (marked w) {i = j} (omega (arith, length-marked w)))) ∙ x .is
+
+    pub asking-none : said ≡ 0 → learned fullWord c ≡ end
+    asking-none e = sym (follow-unsure g (drop j (marked w)) a (learned said c) (rw e (meaning-none (slots (length c))))) ∙ x .is
+
+    pub asking-some : (said ≡ 0 → ⊥) → said ≤ fullWord → learned said c ≡ end
+    asking-some n l = go (ltb said fullWord) refl
+      where
+        go : (b : Bool) → ltb said fullWord ≡ b → learned said c ≡ end
+        go true e = let h = ltb-true said fullWord e in sym (follow-sure g (drop j (marked w)) a said (learned said c) (meaning-chosen (slots (length c)) said (omega arith) (omega arith))) ∙ x .is
+        go false e =
+            let z : said ≡ fullWord = omega (arith, ltb-false said fullWord e) in
+            ap (λ (v : ℕ). learned v c) z ∙ sym (follow-unsure g (drop j (marked w)) a (learned said c) (rw z (meaning-full (slots (length c))))) ∙ x .is
