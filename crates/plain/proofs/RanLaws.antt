@@ -67,6 +67,12 @@ turn-pop t h w {end} {row} {ws} {count} {p} {i} {d} {base} {r} x n e b q = go d 
         let y : d - 1 ≡ k = omega arith in
         rw (y, q ∙ (let u : getD ws (base + frameWords * (d - 1)) 0 ≡ getD ws (ground t w + frameWords * k) 0 = rw (b, y) in u)) (going-pop t h w x e)
 
+-- behind the last token there is none
+pub no-token : (v : List ℕ) (i : ℕ) → length v ≤ i → getElem? v i ≡ none
+no-token [] i l = refl
+no-token (y ∷ v) zero l = absurd (omega arith)
+no-token (y ∷ v) (suc i) l = no-token v i (omega arith)
+
 -- ---- ways out
 module _ (t : List ℕ) (h : Ready t) (w : List ℕ) {row₀ ws₀ row ws : List ℕ} {count p i d : ℕ} (x : Going t w (readingOf t w (length row₀)) row ws count p i d)
     (e : length row ≡ length row₀) (f : length ws ≡ length ws₀) where
@@ -75,11 +81,6 @@ module _ (t : List ℕ) (h : Ready t) (w : List ℕ) {row₀ ws₀ row ws : List
 
   pub out-none : {k : ℕ} → facing (grammarIn t) p ≡ Token k → length w < i → Ran t w row₀ ws₀ Stuck row ws
   out-none q l = stops (going-none t h w x q (no-token (marked w) i (omega (arith, length-marked w)))) (λ c z. clash (cc))
-    where
-      no-token : (v : List ℕ) (i : ℕ) → length v ≤ i → getElem? v i ≡ none
-      no-token [] i l = refl
-      no-token (y ∷ v) zero l = absurd (omega arith)
-      no-token (y ∷ v) (suc i) l = no-token v i (omega arith)
 
   pub out-other : {k u : ℕ} → facing (grammarIn t) p ≡ Token k → getElem? (marked w) i ≡ some u → (u ≡ k → ⊥) → Ran t w row₀ ws₀ Stuck row ws
   unfolding admits

@@ -22,14 +22,14 @@ use Rattle.derivation.proofs.ReadyLaws.{ready-ordered}
 use Rattle.derivation.proofs.MarkedCells.{length-marked}
 use Rattle.cache.specs.Layout.{minWords}
 use Rattle.chart.specs.Chart.{Charted}
-use Rattle.plain.specs.Frames.{frameHas}
+use Rattle.plain.specs.Frames.{FramesBelow, frameHas}
 use Rattle.plain.specs.Machine.{ground, waiting}
 use Rattle.plain.specs.Going.{steps}
 use Rattle.plain.proofs.GoodLaws.{good-match, good-pop, good-push}
 use Rattle.plain.proofs.GoingLaws.{reads, quiet}
 use Rattle.plain.proofs.StepLaws.{after-accepted, after-stuck, after-full}
-use Rattle.quick.specs.Machine.{Ended, stopped, quickRun}
-use Rattle.quick.specs.Going.{beyond, below, onward, Going, choiceAt, Settled}
+use Rattle.quick.specs.Machine.{Ended, stopped, prefixed}
+use Rattle.quick.specs.Going.{beyond, onward, Going, choiceAt, Settled}
 use Rattle.quick.proofs.RunSteps.{beyond-entry, run-end, run-match, run-none, run-other, run-full, run-unserved, run-pick, run-nothing, run-left}
 
 module _ (t : List ℕ) (h : Ready t) (w : List ℕ) {end : Ended} {row ws c : List ℕ} {count p i d known : ℕ} where
@@ -44,7 +44,7 @@ module _ (t : List ℕ) (h : Ready t) (w : List ℕ) {end : Ended} {row ws c : L
         fits = x .fits;
         position = x .position;
         held = held-pop (grammarIn t) (ready-ordered t h) (marked w) (length w) (reads t h w) (endPlace ∷ []) (quiet t h w) (ground t w) ws d e (x .held);
-        good = good-pop (grammarIn t) (marked w) (ground t w) (below known) ws d p i e (omega (arith, length-marked w, x .position)) (x .good);
+        good = good-pop (grammarIn t) (marked w) (ground t w) ws (FramesBelow known) d p i e (omega (arith, length-marked w, x .position)) (x .good);
         rest =
             let k : ℕ = 2 * (length row - count) + (suc (length w) - i) + suc (suc d) in
             let z : k ≡ steps (length row - count) (length w) i d = omega arith in
@@ -63,7 +63,7 @@ module _ (t : List ℕ) (h : Ready t) (w : List ℕ) {end : Ended} {row ws c : L
         fits = x .fits;
         position = omega arith;
         held = held-match (grammarIn t) (ready-ordered t h) (marked w) (length w) (reads t h w) (endPlace ∷ []) (quiet t h w) (ground t w) ws d e f a (x .held);
-        good = good-match (grammarIn t) (marked w) (ground t w) (below known) ws d p i e f a (x .good);
+        good = good-match (grammarIn t) (marked w) (ground t w) ws (FramesBelow known) d p i e f a (x .good);
         rest =
             let k : ℕ = 2 * (length row - count) + (suc (length w) - i) + suc d in
             let z : k ≡ steps (length row - count) (length w) (suc i) d = omega arith in
@@ -101,7 +101,7 @@ module _ (t : List ℕ) (h : Ready t) (w : List ℕ) {end : Ended} {row ws c : L
         fits = rw length-set (omega arith);
         position = x .position;
         held = held-pick (grammarIn t) (ready-ordered t h) (marked w) (length w) (reads t h w) (endPlace ∷ []) (quiet t h w) (ground t w) ws vs d b e u pushed (x .held);
-        good = good-push (grammarIn t) (marked w) (ground t w) (below known) ws vs d p i b (omega (arith, length-marked w, x .lent .short)) e u pushed (λ k m z. sets m k z) (x .good);
+        good = good-push (grammarIn t) (marked w) (ground t w) ws vs (FramesBelow known) d p i b (omega (arith, length-marked w, x .lent .short)) e u pushed (λ k m z. sets m k z) (x .good);
         rest =
             let r : ℕ = length row - suc count in
             let k : ℕ = 2 * (length row - count) + (suc (length w) - i) + suc d in
@@ -120,7 +120,7 @@ module _ (t : List ℕ) (h : Ready t) (w : List ℕ) {end : Ended} {row ws c : L
 
   -- ---- the loop ends
   module _ (x : Going t w end row ws c count p i d known) where
-    k₀ : ℕ
+    abbrev k₀ : ℕ
     k₀ = 2 * (length row - count) + (suc (length w) - i) + suc d
 
     ends-stuck : (c′ : List ℕ) → onward t w (suc k₀) (p ∷ returnsOf ws (ground t w) d) i (length row - count) c ≡ stopped stuck c′ → stopped stuck c′ ≡ end

@@ -6,3 +6,5 @@ pub mod NoteLaws
 pub mod Demand3Laws
 pub mod RunSteps
 pub mod AskLaws
+pub mod GoingLaws
+pub mod RanLaws

@@ -15,19 +15,17 @@ use Rattle.derivation.specs.Space.{returnsOf, Pushed}
 use Rattle.derivation.proofs.FrameWords.{Held}
 use Rattle.chart.specs.Chart.{Lent, Charted}
 use Rattle.plain.specs.Choice.{orZero}
-use Rattle.plain.specs.Frames.{frameHas, Good}
-use Rattle.plain.specs.Machine.{ground, waiting}
+use Rattle.plain.specs.Frames.{FramesBelow, frameHas, Good}
+use Rattle.plain.specs.declared.machine.Outcome.{Outcome}
+use Rattle.plain.specs.Machine.{ground, waiting, outcomeIn, Counted}
 use Rattle.plain.specs.Going.{after, steps}
 use Rattle.cache.specs.Layout.{minWords}
 use Rattle.quick.specs.Machine.{Picked, quickChoice, Ended, stopped, quickRun}
+use Rattle.quick.specs.Quick.{quickNote}
 
 -- the alternatives of a list, and then this end
 abbrev pub beyond : List ℕ → Ended → Ended
 beyond l e = stopped (after l (e .outcome)) (e .words)
-
--- the lowest `known` frames
-abbrev pub below : ℕ → ℕ → Type 0
-below known k = k < known
 
 -- the machine from here on
 abbrev pub onward : List ℕ → List ℕ → ℕ → List ℕ → ℕ → ℕ → List ℕ → Ended
@@ -40,7 +38,7 @@ pub record Going (t w : List ℕ) (end : Ended) (row ws c : List ℕ) (count p i
   pub fits : count ≤ length row
   pub position : i ≤ suc (length w)
   pub held : Held (grammarIn t) (endPlace ∷ []) (length w) ws (ground t w) d p i
-  pub good : Good (grammarIn t) (marked w) ws (ground t w) (below known) d p i
+  pub good : Good (grammarIn t) (marked w) ws (ground t w) (FramesBelow known) d p i
   pub rest : beyond (take count row) (onward t w (steps (length row - count) (length w) i d) (p ∷ returnsOf ws (ground t w) d) i (length row - count) c) ≡ end
 
 -- what the quick machine chooses for nonterminal a, called from place p over d frames
@@ -52,7 +50,7 @@ pub record Settled (t w ws mid : List ℕ) (d p i known : ℕ) : Type 0 where
   pub kept : length mid ≡ length ws
   pub same : returnsOf mid (ground t w) d ≡ returnsOf ws (ground t w) d
   pub charted : 0 < known → Charted t w mid
-  pub good : Good (grammarIn t) (marked w) mid (ground t w) (below known) d p i
+  pub good : Good (grammarIn t) (marked w) mid (ground t w) (FramesBelow known) d p i
 
 -- r is that choice, 0 for none, and c′ the cache after it; if there is one, the place behind p is frame d
 pub record Chose (t w ws after c c′ : List ℕ) (d p a i known r : ℕ) : Type 0 where
@@ -65,3 +63,11 @@ pub record Chose (t w ws after c c′ : List ℕ) (d p a i known r : ℕ) : Type
   pub pushed : ¬ (r ≡ 0) → Pushed mid after (ground t w) d (suc p)
   pub sets : (f m : ℕ) → d < known → first (grammarIn t) a r ≡ some f → T (derives? (grammarIn t) (marked w) f i m)
       → frameHas after (ground t w) d m ≡ runs? (grammarIn t) (marked w) (waiting t w ws d p) m
+
+-- how the machine stopped, with the row, the working space and the cache that it left
+pub record Ran (t w row ws c : List ℕ) (r : Outcome) (known : ℕ) (row′ ws′ c′ : List ℕ) : Type 0 where
+  pub ended : stopped (outcomeIn r row′) c′ ≡ quickNote (grammarIn t) w (length row) c
+  pub within : Counted r row′
+  pub row-kept : length row′ ≡ length row
+  pub space-kept : length ws′ ≡ length ws
+  pub charted : 0 < known → Charted t w ws′

@@ -1,5 +1,5 @@
 -- The quick reading, and demand 3.
 pub mod Machine
-pub mod Going
 pub mod Quick
+pub mod Going
 pub mod Demand3
