@@ -34,7 +34,7 @@ use Rattle.plain.proofs.StepLaws.{after-accepted, after-stuck, after-fu
 
 -- ---- what the machine's states say of a place that calls
 module _ {g : Grammar} where
-  quiet-calls : {p a : ℕ} {S T : List ℕ} → Quiet g T → T ≡ p ∷ S → facing g p ≡ Nonterminal a → ⊥
+  pub quiet-calls : {p a : ℕ} {S T : List ℕ} → Quiet g T → T ≡ p ∷ S → facing g p ≡ Nonterminal a → ⊥
   quiet-calls Quiet.empty q e = clash (cc)
   quiet-calls (Quiet.end f x) q e = clash (cc)
   quiet-calls (Quiet.token f x) q e = clash (cc)

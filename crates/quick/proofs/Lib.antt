@@ -8,3 +8,4 @@ pub mod RunSteps
 pub mod AskLaws
 pub mod GoingLaws
 pub mod RanLaws
+pub mod FloorLaws
