@@ -29,7 +29,7 @@ use Rattle.plain.proofs.GoodLaws.{good-match, good-pop, good-push}
 use Rattle.plain.proofs.GoingLaws.{reads, quiet}
 use Rattle.plain.proofs.StepLaws.{after-accepted, after-stuck, after-full}
 use Rattle.quick.specs.Machine.{Ended, stopped, prefixed}
-use Rattle.quick.specs.Going.{beyond, onward, Going, choiceAt, Settled}
+use Rattle.quick.specs.Going.{beyond, onward, Going, choiceAt, Prepared}
 use Rattle.quick.proofs.RunSteps.{beyond-entry, run-end, run-match, run-none, run-other, run-full, run-unserved, run-pick, run-nothing, run-left}
 
 module _ (t : List ℕ) (h : Ready t) (w : List ℕ) {end : Ended} {row ws c : List ℕ} {count p i d known : ℕ} where
@@ -73,8 +73,8 @@ module _ (t : List ℕ) (h : Ready t) (w : List ℕ) {end : Ended} {row ws c : L
       }
 
   -- the sets of the open frames are settled
-  pub going-settled : {mid : List ℕ} {known′ : ℕ} → Going t w end row ws c count p i d known → Settled t w ws mid d p i known′ → Going t w end row mid c count p i d known′
-  going-settled {mid} x s =
+  pub going-prepared : {mid : List ℕ} {known′ : ℕ} → Going t w end row ws c count p i d known → Prepared t w ws mid d p i known′ → Going t w end row mid c count p i d known′
+  going-prepared {mid} x s =
       record {
         lent = record { short = x .lent .short; room = omega (arith, x .lent .room, s .kept) };
         long = x .long;

@@ -29,7 +29,7 @@ use Rattle.plain.proofs.RanLaws.{no-token}
 use Rattle.quick.specs.Machine.{Picked, quickChoice, Ended, stopped}
 use Rattle.quick.specs.Quick.{quickNote}
 use Rattle.quick.specs.Going.{Going, choiceAt, Chose, Ran}
-use Rattle.quick.proofs.GoingLaws.{going-pop, going-match, going-settled, going-pick, going-none, going-other, going-full, going-unserved, going-accepted, going-left}
+use Rattle.quick.proofs.GoingLaws.{going-pop, going-match, going-prepared, going-pick, going-none, going-other, going-full, going-unserved, going-accepted, going-left}
 
 none-of : {r : ℕ} (o : Option ℕ) → r ≡ orZero o → r ≡ 0 → (o ≡ some 0 → ⊥) → o ≡ none
 none-of none e z n = refl
@@ -46,10 +46,10 @@ module _ (t : List ℕ) (h : Ready t) (w : List ℕ) {end : Ended} {row ws c : L
   pub turn-pick : {a f b known′ : ℕ} {after c′ : List ℕ} → facing (grammarIn t) p ≡ Nonterminal a → (count ≡ length row → ⊥) → Chose t w ws after c c′ d p a i known′ b → (b ≡ 0 → ⊥)
       → minWords ≤ length c′ → first (grammarIn t) a b ≡ some f → {v : ℕ} → v ≡ b → Going t w end (set row count v) after c′ (count + 1) f i (d + 1) known′
   turn-pick {a} {f} {b} {known′} {after} {c′} e l y n m q v =
-      let s = y .settled in
+      let s = y .prepared in
       let same : choiceAt t w (y .mid) c d p a i ≡ choiceAt t w ws c d p a i = ap (λ (S : List ℕ). quickChoice (grammarIn t) (marked w) c (suc p ∷ S) a i) (s .same) in
       rw (v, add-one count, add-one d)
-      (going-pick t h w b after c′ (going-settled t h w x s) e (omega (arith, x .fits)) (ap (λ (o : Picked). o .choice) same ∙ some-of ((choiceAt t w ws c d p a i) .choice) (y .chosen) n)
+      (going-pick t h w b after c′ (going-prepared t h w x s) e (omega (arith, x .fits)) (ap (λ (o : Picked). o .choice) same ∙ some-of ((choiceAt t w ws c d p a i) .choice) (y .chosen) n)
       (y .words ∙ sym (ap (λ (o : Picked). o .words) same)) m q (y .pushed n) (y .kept ∙ sym (s .kept)) (y .charted)
       (λ m k z. y .sets f m k q z ∙ ap (λ (S : List ℕ). runs? (grammarIn t) (marked w) (suc p ∷ S) m) (sym (s .same))))
 

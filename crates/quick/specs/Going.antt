@@ -5,19 +5,20 @@ use mathlib.Core.Option.{some}
 use mathlib.Core.List.{List, [], _∷_}
 use Prim.Native.Nat.{ℕ, suc, _-_, _*_, _+_, _≤_, _<_}
 use lib.Dec.{T}
-use lib.ListN.{length, take}
+use lib.ListN.{length, getD, take}
 use Rattle.grammar.specs.Limits.{endPlace}
-use Rattle.grammar.specs.Grammar.{first}
+use Rattle.grammar.specs.declared.Symbol.the-variants.{Nonterminal}
+use Rattle.grammar.specs.Grammar.{facing, first}
 use Rattle.grammar.specs.Tables.{grammarIn}
 use Rattle.derivation.specs.Runs.{marked}
 use Rattle.derivation.specs.Cells.{derives?, runs?}
-use Rattle.derivation.specs.Space.{returnsOf, Pushed}
+use Rattle.derivation.specs.Space.{frameWords, returnsOf, Pushed}
 use Rattle.derivation.proofs.FrameWords.{Held}
 use Rattle.chart.specs.Chart.{Lent, Charted}
 use Rattle.plain.specs.Choice.{orZero}
 use Rattle.plain.specs.Frames.{FramesBelow, frameHas, Good}
 use Rattle.plain.specs.declared.machine.Outcome.{Outcome}
-use Rattle.plain.specs.Machine.{ground, waiting, outcomeIn, Counted}
+use Rattle.plain.specs.Machine.{ground, waiting, Called, outcomeIn, Counted}
 use Rattle.plain.specs.Going.{after, steps}
 use Rattle.cache.specs.Layout.{minWords}
 use Rattle.quick.specs.Machine.{Picked, quickChoice, Ended, stopped, quickRun}
@@ -46,7 +47,7 @@ abbrev pub choiceAt : List ℕ → List ℕ → List ℕ → List ℕ → ℕ �
 choiceAt t w ws c d p a i = quickChoice (grammarIn t) (marked w) c (waiting t w ws d p) a i
 
 -- the working space before the push: the same return places, the cells and the sets of the lowest `known` frames right
-pub record Settled (t w ws mid : List ℕ) (d p i known : ℕ) : Type 0 where
+pub record Prepared (t w ws mid : List ℕ) (d p i known : ℕ) : Type 0 where
   pub kept : length mid ≡ length ws
   pub same : returnsOf mid (ground t w) d ≡ returnsOf ws (ground t w) d
   pub charted : 0 < known → Charted t w mid
@@ -59,10 +60,33 @@ pub record Chose (t w ws after c c′ : List ℕ) (d p a i known r : ℕ) : Type
   pub kept : length after ≡ length ws
   pub charted : 0 < known → Charted t w after
   pub mid : List ℕ
-  pub settled : Settled t w ws mid d p i known
+  pub prepared : Prepared t w ws mid d p i known
   pub pushed : ¬ (r ≡ 0) → Pushed mid after (ground t w) d (suc p)
   pub sets : (f m : ℕ) → d < known → first (grammarIn t) a r ≡ some f → T (derives? (grammarIn t) (marked w) f i m)
       → frameHas after (ground t w) d m ≡ runs? (grammarIn t) (marked w) (waiting t w ws d p) m
+
+-- what is known when place p over d frames calls nonterminal a at position i
+pub record Calls (t w ws : List ℕ) (d p a i known : ℕ) : Type 0 where
+  pub lent : Lent (grammarIn t .size) (length w) ws
+  pub calls : facing (grammarIn t) p ≡ Nonterminal a
+  pub held : Held (grammarIn t) (endPlace ∷ []) (length w) ws (ground t w) d p i
+  pub charted : 0 < known → Charted t w ws
+  pub good : Good (grammarIn t) (marked w) ws (ground t w) (FramesBelow known) d p i
+
+-- the cells are right, and the sets of r of the d frames; no return place has changed
+pub record Tabled (t w ws after : List ℕ) (d p i r : ℕ) : Type 0 where
+  pub some : 0 < r
+  pub most : r ≤ d
+  pub kept : length after ≡ length ws
+  pub returns : (k : ℕ) → getD after (ground t w + frameWords * k) 0 ≡ getD ws (ground t w + frameWords * k) 0
+  pub charted : Charted t w after
+  pub good : Good (grammarIn t) (marked w) after (ground t w) (FramesBelow r) d p i
+
+-- r is the plain chooser's alternative, with all sets right before it was asked
+pub record Found (t w ws after : List ℕ) (d p a i r : ℕ) : Type 0 where
+  pub mid : List ℕ
+  pub prepared : Prepared t w ws mid d p i d
+  pub called : Called t w mid after d p a i r
 
 -- how the machine stopped, with the row, the working space and the cache that it left
 pub record Ran (t w row ws c : List ℕ) (r : Outcome) (known : ℕ) (row′ ws′ c′ : List ℕ) : Type 0 where
