@@ -9,3 +9,4 @@ pub mod PredictSteps
 pub mod GoingLaws
 pub mod RanLaws
 pub mod FloorLaws
+pub mod RestLaws

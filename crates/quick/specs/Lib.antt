@@ -3,3 +3,4 @@ pub mod Machine
 pub mod Quick
 pub mod Going
 pub mod Demand3
+pub mod Sets
