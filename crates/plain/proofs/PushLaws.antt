@@ -13,8 +13,16 @@ use Rattle.positions.specs.Positions.{positionCount, member}
 use Rattle.positions.specs.Words.{memberAt, putAt}
 use Rattle.positions.proofs.WordLaws.{length-put, put-word, put-same}
 use Rattle.derivation.specs.Space.{frameWords, Pushed}
+use Rattle.chart.proofs.Spots.{spot-below}
 use Rattle.chart.specs.Chart.{spot, cellsEnd, cellHas, ChartedFrom, Charted}
 use Rattle.plain.specs.Frames.{frameHas, pushOf}
+
+-- words that agree below the frames have the same cells
+pub low-charted : (t w ws vs : List ℕ) → ((j : ℕ) → j < cellsEnd (grammarIn t .size) (length w) → getD vs j 0 ≡ getD ws j 0) → Charted t w ws → Charted t w vs
+unfolding ChartedFrom cellHas memberAt
+low-charted t w ws vs same h p i j l m n o =
+    let z = spot-below (grammarIn t .size) (length w) p i l n in
+    ap (λ (x : ℕ). testBit x (j % 32)) (same (spot (grammarIn t .size) p i + j / 32) (omega arith)) ∙ h p i j l m n o
 
 module _ (ws : List ℕ) (base k q : ℕ) (s : List ℕ) where
   pub push-is : {v : ℕ} {after : List ℕ} → v ≡ q → after ≡ putAt (set ws (base + frameWords * k) v) (base + frameWords * k + 1) s → after ≡ pushOf ws base k q s
@@ -48,9 +56,4 @@ module _ (ws : List ℕ) (base k q : ℕ) (s : List ℕ) where
 
     -- so the cells stay right, which all stand below the frames
     pub push-charted : (t w : List ℕ) → base ≡ cellsEnd (grammarIn t .size) (length w) → Charted t w ws → Charted t w (pushOf ws base k q s)
-    unfolding pushOf ChartedFrom cellHas memberAt
-    push-charted t w e h p i j l m n o =
-        let P : ℕ = grammarIn t .size in
-        let z : i * P ≤ length w * P = mul-le-mul-right P n in
-        let y : getD (pushOf ws base k q s) (spot P p i + j / 32) 0 ≡ getD ws (spot P p i + j / 32) 0 = push-word (spot P p i + j / 32) (omega (arith, suc-mul (length w) P)) in
-        ap (λ (x : ℕ). testBit x (j % 32)) y ∙ h p i j l m n o
+    push-charted t w e h = low-charted t w ws (pushOf ws base k q s) (λ j l. push-word j (omega arith)) h

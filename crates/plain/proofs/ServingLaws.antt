@@ -33,6 +33,35 @@ use Rattle.plain.specs.Frames.{frameHas, EveryFrame, Good, Serving}
 use Rattle.plain.specs.Choice.{Leading, endsIn, orZero, lowestIn}
 use Rattle.plain.proofs.GoodLaws.{derives-call}
 
+-- ---- the end place
+module _ (t : List ℕ) (h : Ready t) (w : List ℕ) (short : length w ≤ maxTokens) where
+  -- the end place derives the rest only from the note's end
+  ends-there : (m : ℕ) {r : List ℕ} → Run (grammarIn t) (marked w) (endPlace ∷ []) m (length (marked w)) r → m ≡ length w
+  ends-there m x =
+      let o = ready-ordered t h in
+      let (u, e, a, y) = run-token x (o .end-mark) in
+      let z = run-empty (run-end y (o .end-past)) in
+      omega (arith, length-marked w, z)
+
+  pub end-runs : (m : ℕ) → m ≤ length w → member (withOf emptySet (length w)) m ≡ runs? (grammarIn t) (marked w) (endPlace ∷ []) m
+  unfolding runs?
+  end-runs m k =
+      (member-with emptySet (length w) m (omega arith) ∙ ap (λ (b : Bool). b || eqb m (length w)) (member-empty m))
+      ∙ same (eqb m (length w)) (runs? (grammarIn t) (marked w) (endPlace ∷ []) m) to from
+    where
+      whole : Run (grammarIn t) (marked w) (endPlace ∷ []) (length w) (suc (length w)) []
+      whole =
+          let o = ready-ordered t h in
+          Run.match (o .end-mark) (get-mark w) (admits-self (grammarIn t) endMark) (Run.finish (o .end-past) (Run.done {i = suc (length w)} (omega (arith, length-marked w))))
+
+      to : T (eqb m (length w)) → T (runs? (grammarIn t) (marked w) (endPlace ∷ []) m)
+      to x =
+          let z = eqb→eq m (length w) x in
+          rw z (runs-iff (grammarIn t) (marked w) (endPlace ∷ []) (length w) .1 ([], rw (length-marked w) whole))
+
+      from : T (runs? (grammarIn t) (marked w) (endPlace ∷ []) m) → T (eqb m (length w))
+      from x = let z = ends-there m (runs-iff (grammarIn t) (marked w) (endPlace ∷ []) m .0 x .1) in rw z (eqb-refl (length w))
+
 module _ (t : List ℕ) (h : Ready t) (w ws : List ℕ) (charted : Charted t w ws) (short : length w ≤ maxTokens) (fit : Fit ws) where
   abbrev g : Grammar
   g = grammarIn t
@@ -116,37 +145,10 @@ module _ (t : List ℕ) (h : Ready t) (w ws : List ℕ) (charted : Charted t w w
       ap orZero (lowest-same (λ b. endsIn (grammarIn t .size) ws i s (first (grammarIn t) a b)) (λ b. serves? (grammarIn t) (marked w) (q ∷ S) i (first (grammarIn t) a b))
       0 (suc (length (alternatives (grammarIn t) a))) (λ b _ _. serves-is S q a i b s l right))
 
-  -- the end place derives the rest only from the note's end
-  ends-there : (m : ℕ) {r : List ℕ} → Run (grammarIn t) (marked w) (endPlace ∷ []) m (length (marked w)) r → m ≡ length w
-  ends-there m x =
-      let o = ready-ordered t h in
-      let (u, e, a, y) = run-token x (o .end-mark) in
-      let z = run-empty (run-end y (o .end-past)) in
-      omega (arith, length-marked w, z)
-
   -- ---- the sets that the code makes are right: of the end place, and of a return place over frames
-  pub end-runs : (m : ℕ) → m ≤ length w → member (withOf emptySet (length w)) m ≡ runs? (grammarIn t) (marked w) (endPlace ∷ []) m
-  unfolding runs?
-  end-runs m k =
-      (member-with emptySet (length w) m (omega arith) ∙ ap (λ (b : Bool). b || eqb m (length w)) (member-empty m))
-      ∙ same (eqb m (length w)) (runs? (grammarIn t) (marked w) (endPlace ∷ []) m) to from
-    where
-      whole : Run (grammarIn t) (marked w) (endPlace ∷ []) (length w) (suc (length w)) []
-      whole =
-          let o = ready-ordered t h in
-          Run.match (o .end-mark) (get-mark w) (admits-self (grammarIn t) endMark) (Run.finish (o .end-past) (Run.done {i = suc (length w)} (omega (arith, length-marked w))))
-
-      to : T (eqb m (length w)) → T (runs? (grammarIn t) (marked w) (endPlace ∷ []) m)
-      to x =
-          let z = eqb→eq m (length w) x in
-          rw z (runs-iff (grammarIn t) (marked w) (endPlace ∷ []) (length w) .1 ([], rw (length-marked w) whole))
-
-      from : T (runs? (grammarIn t) (marked w) (endPlace ∷ []) m) → T (eqb m (length w))
-      from x = let z = ends-there m (runs-iff (grammarIn t) (marked w) (endPlace ∷ []) m .0 x .1) in rw z (eqb-refl (length w))
-
   pub serving-end : (i : ℕ) → i ≤ length w → Serving (grammarIn t) (marked w) [] endPlace 0 i (withOf emptySet (length w))
   unfolding Serving
-  serving-end i l b f m e x = end-runs m (derives-inside t h w f i m (ready-first t h 0 b f e) l x)
+  serving-end i l b f m e x = end-runs t h w short m (derives-inside t h w f i m (ready-first t h 0 b f e) l x)
 
   pub serving-over : (ends rest r : List ℕ) (base d p a i : ℕ) → i ≤ length w → facing (grammarIn t) p ≡ Nonterminal a
       → Good (grammarIn t) (marked w) ws base EveryFrame (suc d) p i → EndsOf t ws a i ends → rest ≡ setAt ws (base + frameWords * d + 1)

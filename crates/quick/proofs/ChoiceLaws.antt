@@ -55,11 +55,11 @@ module _ (g : Grammar) (w : List ℕ) where
       go true = refl
       go false = refl
 
-  choice-decided : (c S : List ℕ) (a i : ℕ) → ltb 1 (length (alternatives g a)) ≡ true → quickChoice g w c S a i ≡ settle g w S a i (predict g c a (drop i w))
+  pub choice-decided : (c S : List ℕ) (a i : ℕ) → ltb 1 (length (alternatives g a)) ≡ true → quickChoice g w c S a i ≡ settle g w S a i (predict g c a (drop i w))
   unfolding quickChoice
   choice-decided c S a i e = rw (quickChoice, e)
 
-  choice-single : (c S : List ℕ) (a i : ℕ) → ltb 1 (length (alternatives g a)) ≡ false → quickChoice g w c S a i ≡ picked (some 1) c
+  pub choice-single : (c S : List ℕ) (a i : ℕ) → ltb 1 (length (alternatives g a)) ≡ false → quickChoice g w c S a i ≡ picked (some 1) c
   unfolding quickChoice
   choice-single c S a i e = rw (quickChoice, e)
 

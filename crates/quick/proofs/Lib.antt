@@ -10,3 +10,5 @@ pub mod GoingLaws
 pub mod RanLaws
 pub mod FloorLaws
 pub mod RestLaws
+pub mod TableLaws
+pub mod PickLaws
