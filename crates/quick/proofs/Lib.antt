@@ -12,3 +12,4 @@ pub mod FloorLaws
 pub mod RestLaws
 pub mod TableLaws
 pub mod PickLaws
+pub mod CountLaws
