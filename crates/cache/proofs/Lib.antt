@@ -13,4 +13,5 @@ pub mod FindLaws
 pub mod RecordLaws
 pub mod AgainLaws
 pub mod BeginLaws
+pub mod FollowLaws
 pub mod PredictLaws

@@ -6,8 +6,6 @@ use mathlib.Core.List.{List, [], _∷_, List·Memᴰ·head, List·Memᴰ·tail}
 use Prim.Native.Nat.{ℕ, suc, _-_, _≤_, _<_}
 use native.Mathlib.Omega.{arith}
 use lib.ListN.{length, drop}
-use borrow.Author.Tests.{lt-ltb, le-ltb}
-use Rattle.grammar.specs.Limits.{maxProductions}
 use Rattle.grammar.specs.Grammar.{Grammar, first}
 use Rattle.grammar.specs.Ordered.{Ordered}
 use Rattle.derivation.specs.Runs.{Run}
@@ -20,11 +18,12 @@ use Rattle.lookahead.proofs.PackLaws.{unpack-all}
 use Rattle.lookahead.proofs.StateLaws.{states-packable}
 use Rattle.lookahead.proofs.Following.{Valid}
 use Rattle.lookahead.proofs.Agreeing.{Allows, this, there, over, Marked, start-allows, step-agrees}
-use Rattle.cache.specs.Layout.{slots, fullWord, stateWord}
+use Rattle.cache.specs.Layout.{slots, fullWord}
 use Rattle.cache.specs.Words.{held, decision, keptWords, keptIn}
 use Rattle.cache.specs.Recording.{Learned, learned, askStart, askStep}
 use Rattle.cache.specs.Predict.{chosen, undecided, at, meaning, follow, predict}
 use Rattle.cache.specs.Coherent.{Decides, Says, Coherent, Extends}
+use Rattle.cache.proofs.FollowLaws.{meaning-full, meaning-chosen, meaning-state, follow-unsure, follow-sure, follow-over, follow-on}
 use Rattle.cache.proofs.SuitLaws.{Suits}
 use Rattle.cache.proofs.ExtendLaws.{extends-refl, extends-trans}
 use Rattle.cache.proofs.RecordLaws.{Asked, ask-start, ask-step}
@@ -36,20 +35,6 @@ pub data Meant (c : List ℕ) (a w : ℕ) : Outcome → Type 0 where
   unsure : {o : Outcome} → meaning (slots (length c)) w ≡ undecided → Meant c a w o
   sure : (b : ℕ) → meaning (slots (length c)) w ≡ chosen b → Meant c a w (alternative b)
   stands : (s : ℕ) (ks : List Config) → meaning (slots (length c)) w ≡ at s → s < held c → decision c s ≡ a → keptWords c s ≡ packAll ks → Meant c a w (state ks)
-
-meaning-full : (n : ℕ) → meaning n fullWord ≡ undecided
-unfolding meaning
-meaning-full n = refl
-
-meaning-chosen : (n b : ℕ) → 1 ≤ b → b ≤ maxProductions → meaning n b ≡ chosen b
-unfolding meaning
-meaning-chosen n b l h = rw (lt-ltb 0 b l, lt-ltb b fullWord (omega arith))
-
-meaning-state : (n w s : ℕ) → w ≡ stateWord s → s < n → meaning n w ≡ at s
-unfolding meaning
-meaning-state n w s e l =
-    let d : w - stateWord 0 ≡ s = omega arith in
-    rw (lt-ltb 0 w (omega arith), le-ltb w fullWord (omega arith), lt-ltb fullWord w (omega arith), d, lt-ltb s n l)
 
 meant : {g : Grammar} {bytes c : List ℕ} {a w : ℕ} (o : Outcome) → Coherent g bytes c → (w ≡ fullWord) ⊎ Says c a w o → Meant c a w o
 meant {c = c} o h (inl e) = unsure (rw e (meaning-full (slots (length c))))
@@ -71,24 +56,6 @@ module _ (g : Grammar) (bytes : List ℕ) (suits : Suits g bytes) where
   asked-meant : {c : List ℕ} {a : ℕ} {o : Outcome} {l : Learned} → Asked g bytes c a o l → Meant (l .words) a (l .said) o
   asked-meant {o = o} x = meant o (x .coherent) (x .says)
 
-  follow-unsure : (ts : List ℕ) (a : ℕ) (l : Learned) → meaning (slots (length (l .words))) (l .said) ≡ undecided → follow g a ts l ≡ learned fullWord (l .words)
-  unfolding follow
-  follow-unsure [] a l e = rw (follow, e)
-  follow-unsure (t ∷ ts) a l e = rw (follow, e)
-
-  follow-sure : (ts : List ℕ) (a b : ℕ) (l : Learned) → meaning (slots (length (l .words))) (l .said) ≡ chosen b → follow g a ts l ≡ learned b (l .words)
-  unfolding follow
-  follow-sure [] a b l e = rw (follow, e)
-  follow-sure (t ∷ ts) a b l e = rw (follow, e)
-
-  follow-over : (a s : ℕ) (l : Learned) → meaning (slots (length (l .words))) (l .said) ≡ at s → follow g a [] l ≡ learned fullWord (l .words)
-  unfolding follow
-  follow-over a s l e = rw (follow, e)
-
-  follow-on : (t : ℕ) (ts : List ℕ) (a s : ℕ) (l : Learned) → meaning (slots (length (l .words))) (l .said) ≡ at s → follow g a (t ∷ ts) l ≡ follow g a ts (askStep g (l .words) a s t)
-  unfolding follow
-  follow-on t ts a s l e = rw (follow, e)
-
   still : (c d : List ℕ) → c ≡ d → Coherent g bytes c → Grown c d
   still c d e h = rw (← e) (record { coherent = h; extends = extends-refl g c })
 
@@ -96,17 +63,17 @@ module _ (g : Grammar) (bytes : List ℕ) (suits : Suits g bytes) where
   Grows ts = (a : ℕ) (l : Learned) (o : Outcome) → Coherent g bytes (l .words) → Meant (l .words) a (l .said) o → Tokens ts → Grown (l .words) ((follow g a ts l) .words)
 
   grow-none : Grows []
-  grow-none a l o h (unsure e) k = still (l .words) ((follow g a [] l) .words) (rw (follow-unsure [] a l e)) h
-  grow-none a l o h (sure b e) k = still (l .words) ((follow g a [] l) .words) (rw (follow-sure [] a b l e)) h
-  grow-none a l o h (stands s ks e _ _ _) k = still (l .words) ((follow g a [] l) .words) (rw (follow-over a s l e)) h
+  grow-none a l o h (unsure e) k = still (l .words) ((follow g a [] l) .words) (rw (follow-unsure g [] a l e)) h
+  grow-none a l o h (sure b e) k = still (l .words) ((follow g a [] l) .words) (rw (follow-sure g [] a b l e)) h
+  grow-none a l o h (stands s ks e _ _ _) k = still (l .words) ((follow g a [] l) .words) (rw (follow-over g a s l e)) h
 
   grow-on : (t : ℕ) (ts : List ℕ) → Grows ts → Grows (t ∷ ts)
-  grow-on t ts rec a l o h (unsure e) k = still (l .words) ((follow g a (t ∷ ts) l) .words) (rw (follow-unsure (t ∷ ts) a l e)) h
-  grow-on t ts rec a l o h (sure b e) k = still (l .words) ((follow g a (t ∷ ts) l) .words) (rw (follow-sure (t ∷ ts) a b l e)) h
+  grow-on t ts rec a l o h (unsure e) k = still (l .words) ((follow g a (t ∷ ts) l) .words) (rw (follow-unsure g (t ∷ ts) a l e)) h
+  grow-on t ts rec a l o h (sure b e) k = still (l .words) ((follow g a (t ∷ ts) l) .words) (rw (follow-sure g (t ∷ ts) a b l e)) h
   grow-on t ts rec a l o h (stands s ks e m d _) k =
       let x = ask-step g bytes suits (l .words) a s t h m (k t (List·Memᴰ·head refl)) d in
       let y = rec a (askStep g (l .words) a s t) (stepOutcome g t (keptIn (l .words) s)) (x .coherent) (asked-meant x) (λ u n. k u (List·Memᴰ·tail n)) in
-      rw (follow-on t ts a s l e) (record { coherent = y .coherent; extends = extends-trans g _ _ _ (x .extends) (y .extends) })
+      rw (follow-on g t ts a s l e) (record { coherent = y .coherent; extends = extends-trans g _ _ _ (x .extends) (y .extends) })
 
   follow-grows : (ts : List ℕ) → Grows ts
   follow-grows [] = grow-none
@@ -135,12 +102,12 @@ module _ (g : Grammar) (bytes : List ℕ) (suits : Suits g bytes) where
         → ((follow g a ts l) .said ≡ fullWord) ⊎ ((follow g a ts l) .said ≡ b)
 
     agree-sure : (ts : List ℕ) (a b′ : ℕ) (l : Learned) (i : ℕ) → meaning (slots (length (l .words))) (l .said) ≡ chosen b′ → Allows g ordered b w i (alternative b′) → (follow g a ts l) .said ≡ b
-    agree-sure ts a b′ l i e this = rw (follow-sure ts a b l e)
+    agree-sure ts a b′ l i e this = rw (follow-sure g ts a b l e)
 
     agree-none : Agrees []
-    agree-none a l o i h (unsure e) v k x q = inl (rw (follow-unsure [] a l e))
+    agree-none a l o i h (unsure e) v k x q = inl (rw (follow-unsure g [] a l e))
     agree-none a l o i h (sure b′ e) v k x q = inr (agree-sure [] a b′ l i e x)
-    agree-none a l o i h (stands s ks e _ _ _) v k x q = inl (rw (follow-over a s l e))
+    agree-none a l o i h (stands s ks e _ _ _) v k x q = inl (rw (follow-over g a s l e))
 
     agree-step : (t : ℕ) (ts : List ℕ) → Agrees ts → (a : ℕ) (l : Learned) (s : ℕ) (ks : List Config) (i : ℕ) → Coherent g bytes (l .words)
         → meaning (slots (length (l .words))) (l .said) ≡ at s → s < held (l .words) → decision (l .words) s ≡ a → keptWords (l .words) s ≡ packAll ks
@@ -155,11 +122,11 @@ module _ (g : Grammar) (bytes : List ℕ) (suits : Suits g bytes) where
         let o : stepOutcome g (f .faced .token) ks ≡ stepOutcome g t (keptIn (l .words) s) = rw (token, same) in
         let allows = subst (Allows g ordered b w (suc i)) o (step-agrees g ordered (suits .bounded) marked f) in
         let given : Given a (stepOutcome g t (keptIn (l .words) s)) = λ ls q. stepped t v (ap (stepOutcome g t) (sym same) ∙ q) in
-        rw (follow-on t ts a s l e)
+        rw (follow-on g t ts a s l e)
         (rec a (askStep g (l .words) a s t) (stepOutcome g t (keptIn (l .words) s)) (suc i) (x .coherent) (asked-meant x) given (λ u n. k u (List·Memᴰ·tail n)) allows rest)
 
     agree-on : (t : ℕ) (ts : List ℕ) → Agrees ts → Agrees (t ∷ ts)
-    agree-on t ts rec a l o i h (unsure e) v k x q = inl (rw (follow-unsure (t ∷ ts) a l e))
+    agree-on t ts rec a l o i h (unsure e) v k x q = inl (rw (follow-unsure g (t ∷ ts) a l e))
     agree-on t ts rec a l o i h (sure b′ e) v k x q = inr (agree-sure (t ∷ ts) a b′ l i e x)
     agree-on t ts rec a l o i h (stands s ks e m d z) v k x q = agree-step t ts rec a l s ks i h e m d z (v ks refl) k x q
 
@@ -183,17 +150,17 @@ module _ (g : Grammar) (bytes : List ℕ) (suits : Suits g bytes) where
 
   again-unsure : (ts : List ℕ) (a : ℕ) (l : Learned) (d : List ℕ) → length d ≡ length (l .words) → meaning (slots (length (l .words))) (l .said) ≡ undecided
       → follow g a ts (learned (l .said) d) ≡ learned ((follow g a ts l) .said) d
-  again-unsure ts a l d n e = let e′ : meaning (slots (length d)) (l .said) ≡ undecided = rw n e in rw (follow-unsure ts a (learned (l .said) d) e′, follow-unsure ts a l e)
+  again-unsure ts a l d n e = let e′ : meaning (slots (length d)) (l .said) ≡ undecided = rw n e in rw (follow-unsure g ts a (learned (l .said) d) e′, follow-unsure g ts a l e)
 
   again-sure : (ts : List ℕ) (a b : ℕ) (l : Learned) (d : List ℕ) → length d ≡ length (l .words) → meaning (slots (length (l .words))) (l .said) ≡ chosen b
       → follow g a ts (learned (l .said) d) ≡ learned ((follow g a ts l) .said) d
-  again-sure ts a b l d n e = let e′ : meaning (slots (length d)) (l .said) ≡ chosen b = rw n e in rw (follow-sure ts a b (learned (l .said) d) e′, follow-sure ts a b l e)
+  again-sure ts a b l d n e = let e′ : meaning (slots (length d)) (l .said) ≡ chosen b = rw n e in rw (follow-sure g ts a b (learned (l .said) d) e′, follow-sure g ts a b l e)
 
   again-none : Again []
   again-none a l o d h (unsure e) k j x n = again-unsure [] a l d n e
   again-none a l o d h (sure b e) k j x n = again-sure [] a b l d n e
   again-none a l o d h (stands s ks e _ _ _) k j x n =
-      let e′ : meaning (slots (length d)) (l .said) ≡ at s = rw n e in rw (follow-over a s (learned (l .said) d) e′, follow-over a s l e)
+      let e′ : meaning (slots (length d)) (l .said) ≡ at s = rw n e in rw (follow-over g a s (learned (l .said) d) e′, follow-over g a s l e)
 
   again-on : (t : ℕ) (ts : List ℕ) → Again ts → Again (t ∷ ts)
   again-on t ts rec a l o d h (unsure e) k j x n = again-unsure (t ∷ ts) a l d n e
@@ -203,12 +170,12 @@ module _ (g : Grammar) (bytes : List ℕ) (suits : Suits g bytes) where
       let y = ask-step g bytes suits (l .words) a s t h m (k t (List·Memᴰ·head refl)) z in
       let l′ = askStep g (l .words) a s t in
       let more : Tokens ts = λ u v. k u (List·Memᴰ·tail v) in
-      let x′ : Extends g ((follow g a ts l′) .words) d = subst (λ (f : Learned). Extends g (f .words) d) (follow-on t ts a s l e) x in
+      let x′ : Extends g ((follow g a ts l′) .words) d = subst (λ (f : Learned). Extends g (f .words) d) (follow-on g t ts a s l e) x in
       let grown = follow-grows ts a l′ (stepOutcome g t (keptIn (l .words) s)) (y .coherent) (asked-meant y) more in
       let said = again-step g bytes suits (l .words) d a s t h m (k t (List·Memᴰ·head refl)) z j (extends-trans g _ _ _ (grown .extends) x′) in
       let n′ : length d ≡ length (l′ .words) = n ∙ sym (y .extends .as-long) in
-      follow-on t ts a s (learned (l .said) d) e′ ∙ ap (follow g a ts) said
-      ∙ (rw (follow-on t ts a s l e) (rec a l′ (stepOutcome g t (keptIn (l .words) s)) d (y .coherent) (asked-meant y) more j x′ n′))
+      follow-on g t ts a s (learned (l .said) d) e′ ∙ ap (follow g a ts) said
+      ∙ (rw (follow-on g t ts a s l e) (rec a l′ (stepOutcome g t (keptIn (l .words) s)) d (y .coherent) (asked-meant y) more j x′ n′))
 
   follow-again : (ts : List ℕ) → Again ts
   follow-again [] = again-none
