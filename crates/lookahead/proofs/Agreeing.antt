@@ -1,20 +1,25 @@
 -- What an outcome may say where an alternative can read the rest: FULL, that alternative, or a state in which it is followed.
-use mathlib.Core.Path.{_≡_, refl, sym, _∙_}
+use mathlib.Core.Path.{_≡_, refl, sym, ap, subst, _∙_}
 use mathlib.Core.Bool.{Bool, true, false, _&&_, not, cond}
 use mathlib.Core.Option.{Option, none, some}
 use mathlib.Core.List.{List, [], _∷_, List·Memᴰ·not-nil}
 use Prim.Native.Nat.{ℕ, suc, _<_}
 use lib.Dec.{T, ltb}
-use lib.ListN.{length}
+use lib.ListN.{length, getElem?}
+use native.Mathlib.Omega.{arith}
+use borrow.Author.Tests.{ltb-true, ltb-false}
 use Rattle.base.proofs.Booleans.{clash, true→T}
-use Rattle.grammar.specs.Grammar.{Grammar, first}
+use Rattle.grammar.specs.Limits.{endPlace, endMark}
+use Rattle.grammar.specs.Grammar.{Grammar, admits, first}
 use Rattle.grammar.specs.Ordered.{Ordered}
 use Rattle.derivation.specs.Runs.{Run}
+use Rattle.derivation.proofs.Notes.{get-lt}
 use Rattle.lookahead.specs.Configs.{Config, config, In, Closes, from}
 use Rattle.lookahead.specs.Closing.{maxKept, close}
 use Rattle.lookahead.specs.Order.{kept?, kept}
 use Rattle.lookahead.specs.Outcomes.{Outcome, full, alternative, state, agreed, shared, settled, resolved, judged, limited, outcome}
 use Rattle.lookahead.specs.Outcomes.{onward, startConfigs, stepConfigs, startOutcome, stepOutcome}
+use Rattle.lookahead.proofs.Bounds.{Bounded}
 use Rattle.lookahead.proofs.CloseLaws.{close-some}
 use Rattle.lookahead.proofs.OrderLaws.{kept-right}
 use Rattle.lookahead.specs.Rules.{Waits}
@@ -109,3 +114,41 @@ module _ (g : Grammar) (ordered : Ordered g) where
         rest = f .rest;
         covers = refl;
       })
+
+  -- the last token is the end mark
+  abbrev pub Marked : List ℕ → Type 0
+  Marked w = (i t : ℕ) → getElem? w i ≡ some t → suc i ≡ length w → t ≡ endMark
+
+  module _ (bounded : Bounded g) where
+    -- over the end mark: all that passes it stands past the end, and is kept
+    step-last : {ks : List Config} {b : ℕ} {w : List ℕ} {i : ℕ} (h : Followed ks b w i) → suc i ≡ length w → h .faced .token ≡ endMark
+        → Allows b w (suc i) (stepOutcome g (h .faced .token) ks)
+    unfolding stepOutcome
+    step-last {ks} {b} {w} {i} h l e = go (outcome g (stepConfigs g (f .token) ks)) refl
+      where
+        f : Faced g ordered (h .start) b w i
+        f = h .faced
+
+        place : f .member .place ≡ endPlace
+        place = bounded .end-only (f .member .place) (f .kind) (f .faces) (subst (λ (t : ℕ). T (admits g (f .kind) t)) e (f .passes))
+
+        closes : Closes g (stepConfigs g (f .token) ks) (onward (f .member))
+        closes = from (step-exact g (f .token) ks (onward (f .member)) .1 (record { source = f .member; held = h .held; kind = f .kind; faces = f .faces; passes = f .passes; is = refl }))
+
+        go : (o : Outcome) → outcome g (stepConfigs g (f .token) ks) ≡ o → Allows b w (suc i) o
+        go full q = any
+        go (alternative b′) q =
+            let z : b′ ≡ b = sym (outcome-alternative g (stepConfigs g (f .token) ks) q (onward (f .member)) closes (waits-right g (onward (f .member)) .1 (Waits.past (ap suc place)))) ∙ f .same in
+            rw z this
+        go (state ls) q = over l
+
+    -- and so a step agrees from every state in which the alternative is followed
+    pub step-agrees : {ks : List Config} {b : ℕ} {w : List ℕ} {i : ℕ} → Marked w → (h : Followed ks b w i) → Allows b w (suc i) (stepOutcome g (h .faced .token) ks)
+    step-agrees {ks} {b} {w} {i} m h = go (ltb (suc i) (length w)) refl
+      where
+        go : (x : Bool) → ltb (suc i) (length w) ≡ x → Allows b w (suc i) (stepOutcome g (h .faced .token) ks)
+        go true e = step-allows h (ltb-true (suc i) (length w) e)
+        go false e =
+            let l = get-lt w i (h .faced .stands) in
+            let z : suc i ≡ length w = omega (arith, ltb-false (suc i) (length w) e) in
+            step-last h z (m i (h .faced .token) (h .faced .stands) z)
