@@ -5,6 +5,9 @@ pub mod AddLaws
 pub mod CloseLaws
 pub mod KeyLaws
 pub mod PackLaws
+pub mod ExactLaws
+pub mod HeldLaws
+pub mod GrowLaws
 pub mod OrderLaws
 pub mod StepLaws
 pub mod Bounds

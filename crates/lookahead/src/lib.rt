@@ -1,1 +1,6 @@
-// Nothing runs here: what lookahead learns of a grammar, as definitions and laws. The crates above cite them.
+// What lookahead learns of a grammar.
+mod config;
+mod members;
+mod rules;
+
+pub use rules::Outcome;

@@ -1,0 +1,5 @@
+pub enum Outcome {
+    Full,
+    Alternative(u32),
+    State(usize),
+}
