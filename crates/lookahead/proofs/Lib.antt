@@ -8,6 +8,8 @@ pub mod PackLaws
 pub mod ExactLaws
 pub mod HeldLaws
 pub mod GrowLaws
+pub mod GrowSteps
+pub mod FollowLaws
 pub mod OrderLaws
 pub mod StepLaws
 pub mod Bounds

@@ -1,4 +1,5 @@
 // What lookahead learns of a grammar.
+mod close;
 mod config;
 mod members;
 mod rules;
