@@ -10,6 +10,7 @@ pub mod HeldLaws
 pub mod GrowLaws
 pub mod GrowSteps
 pub mod FollowLaws
+pub mod WorklistLaws
 pub mod OrderLaws
 pub mod StepLaws
 pub mod Bounds
