@@ -11,6 +11,7 @@ pub mod GrowLaws
 pub mod GrowSteps
 pub mod FollowLaws
 pub mod WorklistLaws
+pub mod SortLaws
 pub mod OrderLaws
 pub mod StepLaws
 pub mod Bounds

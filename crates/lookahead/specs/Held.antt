@@ -2,13 +2,13 @@
 use mathlib.Core.Path.{_≡_}
 use mathlib.Core.Option.{Option, none, some}
 use mathlib.Core.List.{List, [], _∷_}
-use Prim.Native.Nat.{ℕ, zero, suc, _-_, _≤_, _<_}
+use Prim.Native.Nat.{ℕ, zero, suc, _+_, _-_, _≤_, _<_}
 use lib.ListN.{length, getD}
 use Rattle.lookahead.specs.declared.members.Added.{Added}
 use Rattle.lookahead.specs.declared.members.Added.the-variants.{Count, Full}
 use Rattle.lookahead.specs.Configs.{Config}
 use Rattle.lookahead.specs.Closing.{maxMembers, maxEntries, maxKept}
-use Rattle.lookahead.specs.Order.{stackKey, headKey}
+use Rattle.lookahead.specs.Order.{stackKey, headKey, insert}
 use Rattle.lookahead.specs.Packing.{unpack}
 
 -- a head and a stack key with no digit too many, so that equal words are equal configurations; and the stack is not too deep
@@ -49,6 +49,12 @@ RoomAfter Full hs ss = Unit {0}
 pub record Grows (r : Added) (hs ss : List ℕ) (ms : Option (List Config)) : Type 0 where
   pub is : heldAfter r hs ss ≡ ms
   pub room : RoomAfter r hs ss
+
+-- c among those behind f and up to n, by its packed value; what stands before f stays
+pub record Inserted (hs ss hs′ ss′ : List ℕ) (f n : ℕ) (c : Config) : Type 0 where
+  pub room : Room hs′ ss′ n
+  pub before : (k : ℕ) → k < f → heldAt hs′ ss′ k ≡ heldAt hs ss k
+  pub are : held hs′ ss′ f (n - f) ≡ insert c (held hs ss (f + 1) (n - (f + 1)))
 
 -- these configurations stand from f on up to n
 pub record Stands (hs ss : List ℕ) (f n : ℕ) (ks : List Config) : Type 0 where

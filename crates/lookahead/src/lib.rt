@@ -1,6 +1,7 @@
 // What lookahead learns of a grammar.
 mod close;
 mod config;
+mod kept;
 mod members;
 mod rules;
 
