@@ -1,18 +1,18 @@
 -- Exact words: what the code makes of them is exact again, and equal words are equal configurations.
 use mathlib.Core.Path.{_≡_, refl, sym, subst, ap, _∙_}
 use mathlib.Core.Logic.{_⊎_, inl, inr}
-use mathlib.Core.Bool.{Bool, true, false}
+use mathlib.Core.Bool.{true, false}
 use mathlib.Core.List.{List, [], _∷_, List·Memᴰ·head, List·Memᴰ·tail, List·Memᴰ·not-nil, List·Memᴰ·cases-cons}
 use Prim.Native.Nat.{ℕ, zero, suc, _+_, _-_, _*_, _/_, _%_, _^_, _≤_, _<_}
 use native.Mathlib.Nat.{mod-lt, mod-eq-of-lt}
 use native.Mathlib.Omega.{arith}
 use native.Mathlib.Decide.{decLt}
-use lib.Dec.{T, eqb, ltb, eqb→eq}
+use lib.Dec.{T, eqb, ltb}
 use lib.ListN.{length}
 use lib.Bits.{bitAnd, and-mask}
 use lib.Pow.{mod-pow-add, pow-mono, pow-pos}
 use borrow.Author.Tests.{eq-eqb, ne-eqb, lt-ltb, le-ltb}
-use Rattle.base.proofs.Booleans.{clash, same}
+use Rattle.base.proofs.Booleans.{same}
 use Rattle.base.proofs.Bits.{same?, shl-one}
 use Rattle.lookahead.specs.Configs.{Config, config, In}
 use Rattle.lookahead.specs.Closing.{maxEntries, sameConfig}

@@ -1,9 +1,8 @@
 -- The code's moves: productions by their words in the tables, occurrences by the codes of places.
-use mathlib.Core.Path.{_≡_, refl, sym, subst, ap, _∙_}
+use mathlib.Core.Path.{_≡_, refl, sym, ap, _∙_}
 use mathlib.Core.Logic.{_⊎_, inl, inr}
 use mathlib.Core.Bool.{Bool, true, false, cond}
-use mathlib.Core.Option.{Option, none, some}
-use mathlib.Core.List.{List, [], _∷_, _++_, map}
+use mathlib.Core.List.{List, [], _∷_, map}
 use Prim.Native.Nat.{ℕ, zero, suc, _+_, _-_, _*_, _/_, _%_, _≤_, _<_}
 use native.Mathlib.Numerals.{add-one}
 use native.Mathlib.Omega.{arith}
@@ -11,20 +10,19 @@ use native.Mathlib.Decide.{decLe}
 use lib.Dec.{eqb}
 use lib.ListN.{length, getD, take, drop, length-take, length-map, drop-of-length-le}
 use lib.Seq.{slice, slice-cons, drop-cons}
-use borrow.Author.Tests.{eq-eqb, ne-eqb}
-use Rattle.base.proofs.Booleans.{clash}
+use borrow.Author.Tests.{ne-eqb}
 use Rattle.base.proofs.Bits.{same?, eqb-iff}
 use Rattle.grammar.specs.declared.Symbol.{Symbol}
 use Rattle.grammar.specs.declared.Symbol.the-variants.{Token, Nonterminal, End}
 use Rattle.grammar.specs.declared.Place.{Place}
-use Rattle.grammar.specs.Limits.{endPlace, maxPlaces}
-use Rattle.grammar.specs.Grammar.{Grammar, nowhere, placeAt, facing, owner, alternatives}
-use Rattle.grammar.specs.Tables.{placeWords, tableWords, symbolOf, placeOf, ruleAt, grammarIn, nonterminalsIn}
+use Rattle.grammar.specs.Limits.{endPlace}
+use Rattle.grammar.specs.Grammar.{nowhere, placeAt, facing, owner}
+use Rattle.grammar.specs.Tables.{placeWords, symbolOf, placeOf, ruleAt, grammarIn, nonterminalsIn}
 use Rattle.grammar.proofs.WordLaws.{code-end, code-token, code-nonterminal, place-in, place-past}
 use Rattle.derivation.specs.Ready.{Ready}
-use Rattle.derivation.proofs.FirstLaws.{rule-within, rules-are, first-in}
+use Rattle.derivation.proofs.FirstLaws.{rules-are, first-in}
 use Rattle.derivation.proofs.ReadyLaws.{ready-size, ready-call}
-use Rattle.lookahead.specs.Configs.{Config, config, calls?, behindFrom, follows, entered, returned, movesAt, moves}
+use Rattle.lookahead.specs.Configs.{Config, config, calls?, behindFrom, entered}
 
 -- ---- the productions of a nonterminal
 -- into the productions whose words stand from k up to e in the tables

@@ -1,18 +1,17 @@
 -- Members added in the arrays: the code's ways through `add`, and from one addition to a list of them.
-use mathlib.Core.Path.{_≡_, refl, sym, subst, ap, _∙_}
+use mathlib.Core.Path.{_≡_, refl, sym, ap, _∙_}
 use mathlib.Core.Bool.{Bool, true, false, _&&_, cond}
-use mathlib.Core.Option.{Option, none, some}
+use mathlib.Core.Option.{none, some}
 use mathlib.Core.List.{List, [], _∷_, _++_}
-use Prim.Native.Nat.{ℕ, suc, _+_, _≤_, _<_}
+use Prim.Native.Nat.{ℕ, _+_, _<_}
 use native.Mathlib.Omega.{arith}
-use lib.Dec.{T, leb, ltb}
-use lib.ListN.{length, getD, set, length-set}
+use lib.Dec.{leb, ltb}
+use lib.ListN.{length, set, length-set}
 use borrow.Author.Tests.{lt-ltb, le-ltb, le-leb, lt-leb}
-use Rattle.base.proofs.Booleans.{clash, true→T}
-use Rattle.lookahead.specs.declared.members.Added.{Added}
+use Rattle.base.proofs.Booleans.{true→T}
 use Rattle.lookahead.specs.declared.members.Added.the-variants.{Count, Full}
 use Rattle.lookahead.specs.Configs.{Config, In}
-use Rattle.lookahead.specs.Closing.{maxMembers, maxEntries, member?, shallow, add, addAll}
+use Rattle.lookahead.specs.Closing.{maxMembers, maxEntries, member?, shallow, add}
 use Rattle.lookahead.specs.Packing.{unpack}
 use Rattle.lookahead.specs.Held.{Exact, heldAt, held, Room, heldAfter, RoomAfter, Grows}
 use Rattle.lookahead.proofs.ListLaws.{in-get, get-below}

@@ -12,6 +12,8 @@ pub mod GrowSteps
 pub mod FollowLaws
 pub mod WorklistLaws
 pub mod SortLaws
+pub mod JudgeLaws
+pub mod LearnLaws
 pub mod OrderLaws
 pub mod StepLaws
 pub mod Bounds

@@ -2,14 +2,13 @@
 use mathlib.Core.Path.{_≡_, refl, sym, ap, _∙_}
 use mathlib.Core.Bool.{cond}
 use mathlib.Core.Option.{Option, none, some}
-use mathlib.Core.List.{List, [], _∷_, _++_, map, map-append}
+use mathlib.Core.List.{List, [], _∷_, map, map-append}
 use Prim.Native.Nat.{ℕ, zero, suc, _+_, _-_, _≤_, _<_}
 use native.Mathlib.Numerals.{add-one}
 use native.Mathlib.Omega.{arith}
 use lib.Dec.{eqb}
 use lib.ListN.{length, getElem?}
 use borrow.Author.Tests.{eq-eqb, ne-eqb}
-use Rattle.base.proofs.Booleans.{clash}
 use Rattle.grammar.specs.declared.Symbol.{Symbol}
 use Rattle.grammar.specs.declared.Symbol.the-variants.{Token, Nonterminal, End}
 use Rattle.grammar.specs.declared.Place.{Place}
@@ -26,7 +25,7 @@ use Rattle.lookahead.specs.Closing.{maxMembers, add, addAll, closeFrom}
 use Rattle.lookahead.specs.Held.{heldAt, held, Room, Grows}
 use Rattle.lookahead.proofs.ListLaws.{get-below}
 use Rattle.lookahead.proofs.HeldLaws.{length-held, get-held}
-use Rattle.lookahead.proofs.GrowSteps.{then, grow-room, grow-cast, grow-count, then-on, then-stop, addAll-none, addAll-one, addAll-append}
+use Rattle.lookahead.proofs.GrowSteps.{then, grow-room, grow-count, then-on, then-stop, addAll-none, addAll-one, addAll-append}
 
 -- ---- back
 pub empty-stack : (s : List ℕ) {n : ℕ} → n ≡ length s → n ≡ 0 → s ≡ []

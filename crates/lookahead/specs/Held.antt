@@ -35,6 +35,11 @@ pub record Room (hs ss : List ℕ) (n : ℕ) : Type 0 where
   pub stacks : length ss ≡ maxMembers
   pub exact : (k : ℕ) → k < n → Exact (getD hs k 0) (getD ss k 0)
 
+-- arrays of the right lengths
+pub record Blank (hs ss : List ℕ) : Type 0 where
+  pub heads : length hs ≡ maxMembers
+  pub stacks : length ss ≡ maxMembers
+
 -- the members after an answer
 unfoldable pub heldAfter : Added → List ℕ → List ℕ → Option (List Config)
 unfolding held

@@ -1,14 +1,16 @@
 -- What an answer of `start` and `step` tells, with the words that they leave.
 use mathlib.Core.Path.{_≡_}
+use mathlib.Core.Option.{Option, none, some}
 use mathlib.Core.List.{List}
 use Prim.Native.Nat.{ℕ, _*_}
 use lib.ListN.{length, take}
+use Rattle.grammar.specs.Grammar.{Grammar}
 use Rattle.lookahead.specs.declared.rules.Outcome as told
 use Rattle.lookahead.specs.declared.rules.Outcome.the-variants.{Full, Alternative, State}
 use Rattle.lookahead.specs.Configs.{Config}
-use Rattle.lookahead.specs.Order.{stackKey}
+use Rattle.lookahead.specs.Order.{kept}
 use Rattle.lookahead.specs.Packing.{packAll}
-use Rattle.lookahead.specs.Outcomes.{Outcome, full, alternative, state}
+use Rattle.lookahead.specs.Outcomes.{Outcome, full, alternative, state, limited}
 
 -- the words that a state of at most 64 configurations needs
 abbrev pub keptWords : ℕ
@@ -27,8 +29,14 @@ Tells Full ws o = o ≡ full
 Tells (Alternative b) ws o = o ≡ alternative b
 Tells (State n) ws o = TellsState n ws o
 
+-- the outcome of a closed set, if there is one
+unfoldable pub outcomeOf : Grammar → Option (List Config) → Outcome
+unfolding kept limited
+outcomeOf g none = full
+outcomeOf g (some ms) = limited (kept g ms)
+
 -- the rules' answer on configurations ks, before any word is written
-unfoldable pub Rules : told.Outcome → List Config → Outcome → Type 0
-Rules Full ks o = o ≡ full
-Rules (Alternative b) ks o = o ≡ alternative b
-Rules (State n) ks o = (o ≡ state ks) × (length ks ≡ n)
+unfoldable pub Judges : told.Outcome → List Config → Outcome → Type 0
+Judges Full ks o = o ≡ full
+Judges (Alternative b) ks o = o ≡ alternative b
+Judges (State n) ks o = (o ≡ state ks) × (length ks ≡ n)

@@ -4,7 +4,7 @@ use crate::members::Added;
 use grammar::Symbol;
 ghost use mathlib.Core.Path.{_≡_};
 ghost use mathlib.Core.List.{[], _∷_, map};
-ghost use Prim.Native.Nat.{ℕ, suc, _≤_, _<_};
+ghost use Prim.Native.Nat.{ℕ, suc, _<_};
 ghost use lib.ListN.{length};
 ghost use Rattle.grammar.specs.Grammar.{facing, owner};
 ghost use Rattle.grammar.specs.Tables.{grammarIn, nonterminalsIn, tableWords};

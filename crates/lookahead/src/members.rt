@@ -1,13 +1,10 @@
 // The members of a closed set: their heads in one array, their stacks in another, side by side in the order in which they came.
 use crate::config::Config;
 ghost use mathlib.Core.Path.{_≡_};
-ghost use Prim.Native.Nat.{suc, _+_, _*_, _^_, _≤_, _<_};
-ghost use mathlib.Core.List.{_∷_};
+ghost use Prim.Native.Nat.{_+_, _<_};
 ghost use lib.ListN.{length, getD, set};
-ghost use Rattle.lookahead.specs.Configs.{config};
 ghost use Rattle.lookahead.specs.Closing.{member?, add};
 ghost use Rattle.lookahead.specs.Packing.{unpack};
-ghost use Rattle.lookahead.specs.Outcomes.{onward};
 ghost use Rattle.lookahead.specs.Held.{Exact, held, Room, Grows};
 
 // The members that a closed set may have.

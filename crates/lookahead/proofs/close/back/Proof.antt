@@ -1,10 +1,9 @@
+-- `lookahead::close::back` meets its contract.
 use native.Mathlib.Omega.{arith}
+use borrow.Author.Needs.{needs}
 use Rattle.lookahead.proofs.GrowSteps.{grow-cast, grow-room}
 use Rattle.lookahead.proofs.FollowLaws.{owner-small}
 use Rattle.lookahead.proofs.WorklistLaws.{empty-stack, back-pop, back-full, back-start, back-other}
-use Rattle.grammar.specs.Tables.{grammarIn}
-use mathlib.Core.Path.{sym}
-use borrow.Author.Needs.{needs}
 use Rattle.lookahead.proofs.close.back.Statement.{statement}
 use Rattle.lookahead.proofs.close.back.Tie as tie
 

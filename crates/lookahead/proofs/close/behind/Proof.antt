@@ -1,17 +1,17 @@
+-- `lookahead::close::behind` meets its contract.
+use mathlib.Core.List.{[], map}
+use mathlib.Core.Path.{_≡_, sym, ap, _∙_}
+use Prim.Native.Nat.{ℕ, _≤_, _-_}
 use native.Mathlib.Omega.{arith}
 use borrow.Author.Needs.{needs}
-use Rattle.lookahead.proofs.GrowSteps.{grow-room, grow-cast, left-on, left-stop, left-none}
-use Rattle.lookahead.proofs.FollowLaws.{behinds, behinds-all, behinds-hit, behinds-miss, behinds-none}
+use Rattle.grammar.specs.Tables.{grammarIn}
+use Rattle.derivation.proofs.ReadyLaws.{ready-size}
 use Rattle.lookahead.specs.Held.{held, Room}
 use Rattle.lookahead.specs.Packing.{unpack}
 use Rattle.lookahead.specs.Closing.{addAll, add}
 use Rattle.lookahead.specs.Configs.{config, behindFrom}
-use Rattle.derivation.proofs.ReadyLaws.{ready-size}
-use Rattle.grammar.specs.Tables.{grammarIn}
-use lib.ListN.{length}
-use Prim.Native.Nat.{ℕ, _≤_, _-_}
-use mathlib.Core.List.{[], map}
-use mathlib.Core.Path.{_≡_, sym, ap, _∙_}
+use Rattle.lookahead.proofs.GrowSteps.{grow-room, grow-cast, left-on, left-stop, left-none}
+use Rattle.lookahead.proofs.FollowLaws.{behinds, behinds-all, behinds-hit, behinds-miss, behinds-none}
 use Rattle.lookahead.proofs.close.behind.Statement.{statement}
 use Rattle.lookahead.proofs.close.behind.Tie as tie
 

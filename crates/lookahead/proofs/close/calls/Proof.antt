@@ -1,6 +1,6 @@
-use Rattle.lookahead.specs.Configs.{calls?}
-use Rattle.lookahead.proofs.FollowLaws.{calls-is}
+-- `lookahead::close::calls` meets its contract.
 use borrow.Author.Needs.{needs}
+use Rattle.lookahead.proofs.FollowLaws.{calls-is}
 use Rattle.lookahead.proofs.close.calls.Statement.{statement}
 use Rattle.lookahead.proofs.close.calls.Tie as tie
 

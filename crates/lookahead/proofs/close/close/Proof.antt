@@ -1,13 +1,14 @@
+-- `lookahead::close::close` meets its contract.
+use mathlib.Core.Path.{_≡_, refl}
+use Prim.Native.Nat.{_-_}
 use native.Mathlib.Omega.{arith}
+use borrow.Author.Needs.{needs}
+use Rattle.grammar.specs.Tables.{grammarIn}
+use Rattle.lookahead.specs.Held.{held, Room}
+use Rattle.lookahead.specs.Closing.{closeFrom}
 use Rattle.lookahead.proofs.WorklistLaws.{close-on, close-stop, close-end}
 use Rattle.lookahead.proofs.GrowSteps.{grow-room}
 use Rattle.lookahead.proofs.HeldLaws.{said-at, exact-at}
-use Rattle.lookahead.specs.Held.{held, Room}
-use Rattle.lookahead.specs.Closing.{closeFrom}
-use Rattle.grammar.specs.Tables.{grammarIn}
-use Prim.Native.Nat.{_-_}
-use mathlib.Core.Path.{_≡_, refl}
-use borrow.Author.Needs.{needs}
 use Rattle.lookahead.proofs.close.close.Statement.{statement}
 use Rattle.lookahead.proofs.close.close.Tie as tie
 

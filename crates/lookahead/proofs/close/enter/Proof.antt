@@ -1,16 +1,16 @@
+-- `lookahead::close::enter` meets its contract.
+use mathlib.Core.Path.{_≡_, ap}
+use Prim.Native.Nat.{_≤_, _-_}
 use native.Mathlib.Omega.{arith}
 use borrow.Author.Needs.{needs}
-use Rattle.lookahead.proofs.GrowSteps.{grow-room, left-on, left-stop, left-none}
-use Rattle.lookahead.proofs.FollowLaws.{entering, entering-first, entering-none, entering-all, first-small}
+use Rattle.grammar.specs.Tables.{grammarIn}
+use Rattle.derivation.proofs.FirstLaws.{rule-within}
 use Rattle.lookahead.specs.Held.{held, Room}
 use Rattle.lookahead.specs.Packing.{unpack}
 use Rattle.lookahead.specs.Closing.{addAll}
 use Rattle.lookahead.specs.Configs.{entered}
-use Rattle.derivation.proofs.FirstLaws.{rule-within}
-use Rattle.grammar.specs.Tables.{grammarIn}
-use lib.ListN.{length}
-use Prim.Native.Nat.{_≤_, _-_}
-use mathlib.Core.Path.{_≡_, sym, ap, _∙_}
+use Rattle.lookahead.proofs.GrowSteps.{grow-room, left-on, left-stop, left-none}
+use Rattle.lookahead.proofs.FollowLaws.{entering, entering-first, entering-none, entering-all, first-small}
 use Rattle.lookahead.proofs.close.enter.Statement.{statement}
 use Rattle.lookahead.proofs.close.enter.Tie as tie
 

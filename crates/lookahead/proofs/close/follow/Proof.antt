@@ -1,9 +1,7 @@
-use native.Mathlib.Omega.{arith}
-use Rattle.grammar.specs.declared.Symbol.the-variants.{Nonterminal}
-use Rattle.derivation.proofs.ReadyLaws.{ready-call, ready-size}
-use Rattle.lookahead.proofs.GrowSteps.{grow-cast}
-use Rattle.lookahead.proofs.WorklistLaws.{place-faces, place-owner, at-token, at-call, at-end, at-called}
+-- `lookahead::close::follow` meets its contract.
 use borrow.Author.Needs.{needs}
+use Rattle.lookahead.proofs.GrowSteps.{grow-cast}
+use Rattle.lookahead.proofs.WorklistLaws.{place-owner, at-token, at-call, at-end, at-called}
 use Rattle.lookahead.proofs.close.follow.Statement.{statement}
 use Rattle.lookahead.proofs.close.follow.Tie as tie
 

@@ -1,9 +1,10 @@
-use native.Mathlib.Omega.{arith}
-use Rattle.lookahead.specs.Closing.{add}
+-- `lookahead::close::push` meets its contract.
 use mathlib.Core.Path.{ap}
+use native.Mathlib.Omega.{arith}
+use borrow.Author.Needs.{needs}
+use Rattle.lookahead.specs.Closing.{add}
 use Rattle.lookahead.proofs.GrowSteps.{grow-cast}
 use Rattle.lookahead.proofs.GrowLaws.{add-deep}
-use borrow.Author.Needs.{needs}
 use Rattle.lookahead.proofs.close.push.Statement.{statement}
 use Rattle.lookahead.proofs.close.push.Tie as tie
 

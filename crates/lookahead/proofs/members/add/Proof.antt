@@ -1,5 +1,6 @@
-use Rattle.lookahead.proofs.GrowLaws.{add-member, add-full, add-new}
+-- `lookahead::members::add` meets its contract.
 use borrow.Author.Needs.{needs}
+use Rattle.lookahead.proofs.GrowLaws.{add-member, add-full, add-new}
 use Rattle.lookahead.proofs.members.add.Statement.{statement}
 use Rattle.lookahead.proofs.members.add.Tie as tie
 

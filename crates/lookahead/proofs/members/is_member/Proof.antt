@@ -1,12 +1,12 @@
-use borrow.Author.Needs.{needs}
-use native.Mathlib.Omega.{arith}
+-- `lookahead::members::is_member` meets its contract.
+use mathlib.Core.Path.{_≡_, ap}
 use Prim.Native.Nat.{_-_, _≤_}
-use mathlib.Core.Path.{_≡_, refl, ap}
+use native.Mathlib.Omega.{arith}
+use borrow.Author.Needs.{needs}
 use Rattle.lookahead.specs.Held.{held}
-use Rattle.lookahead.specs.Closing.{sameConfig, member?}
-use Rattle.lookahead.specs.Configs.{Config}
+use Rattle.lookahead.specs.Closing.{member?}
 use Rattle.lookahead.specs.Packing.{unpack}
-use Rattle.lookahead.proofs.HeldLaws.{test-at, any-hit, any-next, any-end, held-all, exact-at, find-hit, find-next, find-end}
+use Rattle.lookahead.proofs.HeldLaws.{held-all, exact-at, find-hit, find-next, find-end}
 use Rattle.lookahead.proofs.members.is_member.Statement.{statement}
 use Rattle.lookahead.proofs.members.is_member.Tie as tie
 
