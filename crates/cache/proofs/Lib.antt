@@ -14,3 +14,6 @@ pub mod RecordLaws
 pub mod AgainLaws
 pub mod BeginLaws
 pub mod PredictLaws
+pub mod PackSteps
+pub mod SizeLaws
+pub mod BeginSteps

@@ -2,6 +2,8 @@
 pub mod Layout
 pub mod Words
 pub mod Begin
+pub mod Bytes
+pub mod Beginning
 pub mod Recording
 pub mod Predict
 pub mod Coherent
