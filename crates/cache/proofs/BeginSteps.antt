@@ -17,7 +17,7 @@ use Rattle.soundness.specs.Check.{judged, checkOf}
 use Rattle.cache.specs.Layout.{minWords, lengthAt, bytesAt}
 use Rattle.cache.specs.Begin.{Begun, begun, packBytes, sizeWords, beginWords, begin12, beginRules, beginning, begun?}
 use Rattle.cache.specs.Bytes.{startsWith, sizesHeld, bytesHeld}
-use Rattle.cache.proofs.ShortBytes.{decode-short}
+use Rattle.cache.proofs.ByteLaws.{decode-few}
 
 -- ---- refusal 13
 module _ (bytes c : List ℕ) where
@@ -68,5 +68,5 @@ module _ (bytes c : List ℕ) {v : Verdict} (e : v ≡ checkOf bytes) where
   sound-short h = go (decode bytes) refl (sym e ∙ h)
     where
       go : (d : Parsed Rules) → decode bytes ≡ d → judged d ≡ Sound → length bytes < 2 ^ 10
-      go (got y m) z q = let l = decode-short bytes y m z in omega arith
+      go (got y m) z q = let l = decode-few bytes y m z in omega arith
       go (refused f) z q = clash (cc)
