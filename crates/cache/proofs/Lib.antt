@@ -17,3 +17,5 @@ pub mod PredictLaws
 pub mod PackSteps
 pub mod SizeLaws
 pub mod BeginSteps
+pub mod SlotLaws
+pub mod StateSteps

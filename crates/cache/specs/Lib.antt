@@ -5,5 +5,6 @@ pub mod Begin
 pub mod Bytes
 pub mod Beginning
 pub mod Recording
+pub mod ByWords
 pub mod Predict
 pub mod Coherent
