@@ -18,7 +18,7 @@ use Rattle.positions.proofs.WordLaws.{length-put}
 use Rattle.derivation.specs.Cells.{derives?}
 use Rattle.derivation.specs.Ready.{Ready}
 use Rattle.derivation.proofs.ReadyLaws.{ready-next}
-use Rattle.chart.specs.Chart.{spot, cellHas, Lent, ChartedFrom, Filled}
+use Rattle.chart.specs.Chart.{spot, cellHas, Lent, ChartedFrom, KeptBehind, Filled}
 use Rattle.chart.specs.Ends.{endHas, leadBy, RightEnds}
 use Rattle.chart.specs.Row.{Row, Derived, Behind}
 use Rattle.chart.proofs.LeadLaws.{cell-exact}
@@ -107,8 +107,8 @@ row-next t w P i ws us r s n e h l c =
     let q : suc (i - 1) ≡ i = omega arith in
     record { ready = r; size = s; lent = lent-kept e n; here = omega arith; later = rw q c }
 
-pub filled : (t w ws us : List ℕ) (i : ℕ) → i ≡ 0 → ChartedFrom t w us i → length us ≡ length ws → Filled t w ws us
-filled t w ws us i z c e = record { charted = rw z at c; kept = e }
+pub filled : (t w ws us : List ℕ) {P : ℕ} (i : ℕ) → i ≡ 0 → P ≡ grammarIn t .size → ChartedFrom t w us i → length us ≡ length ws → KeptBehind P (length w) ws us → Filled t w ws us
+filled t w ws us i z s c e b = record { charted = rw z at c; kept = e; behind = λ j l. b .word j (rw s l) }
 
 -- the cell behind the next one to be written is right
 pub written-behind : (t w : List ℕ) (P i p : ℕ) (ws : List ℕ) → 0 < p → Written t w P i p ws → Behind t w P ws i (p - 1)

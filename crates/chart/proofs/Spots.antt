@@ -1,5 +1,5 @@
 -- Where cells stand in the working space: in it, and apart from each other; what putting one changes.
-use mathlib.Core.Path.{_≡_}
+use mathlib.Core.Path.{_≡_, refl, _∙_}
 use mathlib.Core.Logic.{_⊎_, inl, inr}
 use mathlib.Core.List.{List}
 use Prim.Native.Nat.{ℕ, suc, _+_, _*_, _≤_, _<_}
@@ -9,17 +9,29 @@ use native.Mathlib.Decide.{decLt}
 use lib.ListN.{length}
 use Rattle.positions.specs.Positions.{positionCount, setWords, member}
 use Rattle.positions.specs.Words.{setAt, putAt}
-use Rattle.positions.proofs.WordLaws.{member-set, put-same, put-other}
-use Rattle.chart.specs.Chart.{spot, cellHas, Lent}
+use Rattle.positions.proofs.WordLaws.{member-set, put-word, put-same, put-other}
+use Rattle.chart.specs.Chart.{spot, cellsEnd, cellHas, Lent, KeptBehind}
 
--- a cell of the note and the grammar is in the space
+-- a cell of the note and the grammar is among the cells, and these are in the space
+pub spot-below : (P n p i : ℕ) → p < P → i ≤ n → spot P p i + setWords ≤ cellsEnd P n
+spot-below P n p i l k = let m : i * P ≤ n * P = mul-le-mul-right P k in omega (arith, suc-mul n P)
+
 pub spot-in : (P n p i : ℕ) (ws : List ℕ) → Lent P n ws → p < P → i ≤ n → spot P p i + setWords ≤ length ws
-spot-in P n p i ws h l k =
-    let m : i * P ≤ n * P = mul-le-mul-right P k in
-    omega (arith, h .room, suc-mul n P, mul-comm P (suc n))
+spot-in P n p i ws h l k = omega (arith, spot-below P n p i l k, h .room, mul-comm P (suc n))
 
 pub lent-kept : {P n : ℕ} {ws us : List ℕ} → length us ≡ length ws → Lent P n ws → Lent P n us
 lent-kept e h = record { short = h .short; room = omega (arith, h .room) }
+
+-- what stands behind the cells: nothing is changed, a cell is put, one change after another
+pub behind-none : {P n : ℕ} {ws : List ℕ} → KeptBehind P n ws ws
+behind-none = record { word = λ j l. refl }
+
+pub behind-put : (P n p i : ℕ) {ws us vs : List ℕ} (s : List ℕ) → KeptBehind P n ws us → p < P → i ≤ n → vs ≡ putAt us (spot P p i) s → KeptBehind P n ws vs
+behind-put P n p i {ws} {us} s h l k e =
+    record { word = λ j m. rw e (put-word us (spot P p i) j s (inr (omega (arith, spot-below P n p i l k))) ∙ h .word j m) }
+
+pub behind-on : {P n : ℕ} {ws us vs : List ℕ} → KeptBehind P n ws us → KeptBehind P n us vs → KeptBehind P n ws vs
+behind-on h k = record { word = λ j l. k .word j l ∙ h .word j l }
 
 -- a cell that is read
 pub cell-member : (P : ℕ) (ws : List ℕ) (p i j : ℕ) {s : List ℕ} → s ≡ setAt ws (spot P p i) → j < positionCount → member s j ≡ cellHas P ws p i j

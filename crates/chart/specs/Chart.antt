@@ -3,7 +3,7 @@ use mathlib.Core.Path.{_≡_}
 use mathlib.Core.Bool.{Bool}
 use mathlib.Core.List.{List}
 use Prim.Native.Nat.{ℕ, suc, _+_, _*_, _≤_, _<_}
-use lib.ListN.{length}
+use lib.ListN.{length, getD}
 use Rattle.base.specs.Rounds.{anyOf}
 use Rattle.grammar.specs.Grammar.{alternatives}
 use Rattle.grammar.specs.Tables.{grammarIn}
@@ -48,7 +48,12 @@ Charted t w ws = ChartedFrom t w ws 0
 unfoldable pub EndsOf : List ℕ → List ℕ → ℕ → ℕ → List ℕ → Type 0
 EndsOf t ws a i r = (j : ℕ) → j < positionCount → member r j ≡ anyOf (λ f. cellHas (grammarIn t .size) ws f i j) (alternatives (grammarIn t) a)
 
--- filling leaves all cells right
+-- every word behind the cells is as it was
+pub record KeptBehind (P n : ℕ) (ws after : List ℕ) : Type 0 where
+  pub word : (j : ℕ) → cellsEnd P n ≤ j → getD after j 0 ≡ getD ws j 0
+
+-- filling leaves all cells right, and what stands behind them as it was
 pub record Filled (t w ws after : List ℕ) : Type 0 where
   pub charted : Charted t w after
   pub kept : length after ≡ length ws
+  pub behind : (j : ℕ) → cellsEnd (grammarIn t .size) (length w) ≤ j → getD after j 0 ≡ getD ws j 0

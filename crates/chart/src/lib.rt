@@ -10,3 +10,4 @@ mod row;
 pub use row::cell;
 pub use row::ends_of;
 pub use row::fill;
+pub use row::onward;

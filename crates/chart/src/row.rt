@@ -10,7 +10,7 @@ ghost use Rattle.soundness.specs.Closures.{Corners};
 ghost use Rattle.positions.specs.Positions.{setWords};
 ghost use Rattle.positions.specs.Words.{setAt};
 ghost use Rattle.derivation.specs.Ready.{Ready};
-ghost use Rattle.chart.specs.Chart.{spot, Lent, LentAt, ChartedFrom, EndsOf, Filled};
+ghost use Rattle.chart.specs.Chart.{spot, Lent, LentAt, ChartedFrom, EndsOf, KeptBehind, Filled};
 ghost use Rattle.chart.specs.Ends.{endWords, RightEnds};
 ghost use Rattle.chart.specs.Row.{Row, EndIs, Through, Onward, Ahead, Behind, Derived};
 
@@ -23,7 +23,7 @@ pub fn cell(ws: &[u32], places: usize, p: usize, i: usize) -> Positions
 }
 
 // The set `begun`, and where place q leads to from each member of s, from `from` up to the note's end at n.
-fn join_cells(
+pub fn onward(
     ws: &[u32],
     places: usize,
     n: usize,
@@ -70,7 +70,7 @@ pub fn through(
     if positions::full(r, first, n) {
         return r;
     }
-    join_cells(ws, places, n, s, r, second, q)
+    onward(ws, places, n, s, r, second, q)
 }
 
 // Where the productions of nonterminal a that begin at i end.
@@ -144,7 +144,7 @@ fn derived(
 // Every cell of position i, the last place first.
 fn write_row(tables: &[u16], note: &[u16], ws: &mut [u32], ends: &[u32], places: usize, i: usize)
     requires { ⌜ Row (now tables) (now note) places i (now ws) × (length (now ends) ≡ endWords) × RightEnds (now tables) (now note) i (now ends) ⌝ }
-    ensures { λ _. ⌜ ChartedFrom (now (tables .entry)) (now (note .entry)) (now (ws .exit)) i ⌝ }
+    ensures { λ _. ⌜ ChartedFrom (now (tables .entry)) (now (note .entry)) (now (ws .exit)) i × KeptBehind places (length (now (note .entry))) (now (ws .entry)) (now (ws .exit)) ⌝ }
 {
     let mut p = places;
     while 0 < p {
@@ -157,7 +157,7 @@ fn write_row(tables: &[u16], note: &[u16], ws: &mut [u32], ends: &[u32], places:
 // The cells of position i.
 fn settle(tables: &[u16], note: &[u16], ws: &mut [u32], corners: &[u32], places: usize, i: usize)
     requires { ⌜ Row (now tables) (now note) places i (now ws) × (length (now corners) ≡ maxNonterminals) × Corners (grammarIn (now tables)) (nonterminalsIn (now tables)) (now corners) ⌝ }
-    ensures { λ _. ⌜ ChartedFrom (now (tables .entry)) (now (note .entry)) (now (ws .exit)) i ⌝ }
+    ensures { λ _. ⌜ ChartedFrom (now (tables .entry)) (now (note .entry)) (now (ws .exit)) i × KeptBehind places (length (now (note .entry))) (now (ws .entry)) (now (ws .exit)) ⌝ }
 {
     let mut ends = [0u32; 160];
     crate::ends::settle(tables, note, ws, &mut ends, corners, places, i);

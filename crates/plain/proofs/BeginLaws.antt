@@ -79,7 +79,7 @@ module _ (t : List ℕ) (h : Ready t) (w : List ℕ) (row : List ℕ) where
         fits = rw length-set (omega arith);
         position = omega arith;
         held = rw s (open-start (grammarIn t) (ready-ordered t h) (marked w) (length w) (reads t h w) (endPlace ∷ []) (quiet t h w) 0 b f q);
-        good = λ m y. (sets m y ∙ ap (λ (S : List ℕ). runs? (grammarIn t) (marked w) S m) (sym s), tt);
+        good = λ m y. (λ _. sets m y ∙ ap (λ (S : List ℕ). runs? (grammarIn t) (marked w) S m) (sym s), tt);
         rest =
             ap (λ (r : ℕ). after (take 1 (set row 0 b)) (onward t w (steps r (length w) 0 1) (f ∷ returnsOf vs (ground t w) 1) 0 r)) n
             ∙ (ap (λ (S : List ℕ). after (take 1 (set row 0 b)) (onward t w (steps (length row - 1) (length w) 0 1) (f ∷ S) 0 (length row - 1))) s

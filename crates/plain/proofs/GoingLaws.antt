@@ -26,7 +26,7 @@ use Rattle.derivation.proofs.FrameWords.{Held, held-pop, held-match, held-pick,
 use Rattle.derivation.proofs.ReadyLaws.{ready-ordered, ready-call}
 use Rattle.derivation.proofs.MarkedCells.{length-marked}
 use Rattle.chart.specs.Chart.{Lent, Charted}
-use Rattle.plain.specs.Frames.{frameHas}
+use Rattle.plain.specs.Frames.{frameHas, EveryFrame}
 use Rattle.plain.specs.Machine.{ground}
 use Rattle.plain.specs.Going.{after, steps, onward, Going}
 use Rattle.plain.proofs.GoodLaws.{good-match, good-pop, good-push}
@@ -85,7 +85,7 @@ module _ (t : List ℕ) (h : Ready t) (w : List ℕ) where
           fits = x .fits;
           position = x .position;
           held = held-pop (grammarIn t) (ready-ordered t h) (marked w) (length w) reads (endPlace ∷ []) quiet (ground t w) ws d e (x .held);
-          good = good-pop (grammarIn t) (marked w) (ground t w) ws d p i e (omega (arith, length-marked w, x .position)) (x .good);
+          good = good-pop (grammarIn t) (marked w) (ground t w) ws EveryFrame d p i e (omega (arith, length-marked w, x .position)) (x .good);
           rest =
               let k : ℕ = 2 * (length row - count) + (suc (length w) - i) + suc (suc d) in
               let z : k ≡ steps (length row - count) (length w) i d = omega arith in
@@ -103,7 +103,7 @@ module _ (t : List ℕ) (h : Ready t) (w : List ℕ) where
           fits = x .fits;
           position = omega arith;
           held = held-match (grammarIn t) (ready-ordered t h) (marked w) (length w) reads (endPlace ∷ []) quiet (ground t w) ws d e f a (x .held);
-          good = good-match (grammarIn t) (marked w) (ground t w) ws d p i e f a (x .good);
+          good = good-match (grammarIn t) (marked w) (ground t w) ws EveryFrame d p i e f a (x .good);
           rest =
               let k : ℕ = 2 * (length row - count) + (suc (length w) - i) + suc d in
               let z : k ≡ steps (length row - count) (length w) (suc i) d = omega arith in
@@ -126,7 +126,7 @@ module _ (t : List ℕ) (h : Ready t) (w : List ℕ) where
           fits = rw length-set (omega arith);
           position = x .position;
           held = held-pick (grammarIn t) (ready-ordered t h) (marked w) (length w) reads (endPlace ∷ []) quiet (ground t w) ws vs d b e q pushed (x .held);
-          good = good-push (grammarIn t) (marked w) (ground t w) ws vs d p i b (omega (arith, length-marked w, x .lent .short)) e q pushed sets (x .good);
+          good = good-push (grammarIn t) (marked w) (ground t w) ws vs EveryFrame d p i b (omega (arith, length-marked w, x .lent .short)) e q pushed (λ _. sets) (x .good);
           rest =
               let r : ℕ = length row - suc count in
               let k : ℕ = 2 * (length row - count) + (suc (length w) - i) + suc d in

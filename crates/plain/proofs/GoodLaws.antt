@@ -31,23 +31,30 @@ module _ (g : Grammar) (w : List ℕ) (base : ℕ) where
   derives-call p i j m b e d x y = derives-complete g w (Der.expand {b = b} e d (derives-sound g w x .1) (derives-sound g w y .1))
 
   -- ---- a token is matched, a production is at its end
-  pub good-match : (ws : List ℕ) (d p i : ℕ) {k u : ℕ} → facing g p ≡ Token k → getElem? w i ≡ some u → T (admits g k u) → Good g w ws base d p i
-      → Good g w ws base d (suc p) (suc i)
+  pub good-match : (ws : List ℕ) (K : ℕ → Type 0) (d p i : ℕ) {k u : ℕ} → facing g p ≡ Token k → getElem? w i ≡ some u → T (admits g k u) → Good g w ws base K d p i
+      → Good g w ws base K d (suc p) (suc i)
   unfolding Good
-  good-match ws zero p i e f a h = tt
-  good-match ws (suc d) p i e f a h = λ m x. h m (derives-token p i m e f a x)
+  good-match ws K zero p i e f a h = tt
+  good-match ws K (suc d) p i e f a h = λ m x. h m (derives-token p i m e f a x)
 
-  pub good-pop : (ws : List ℕ) (d p i : ℕ) → facing g p ≡ End → i ≤ length w → Good g w ws base (suc d) p i
-      → Good g w ws base d (getD ws (base + frameWords * d) 0) i
+  pub good-pop : (ws : List ℕ) (K : ℕ → Type 0) (d p i : ℕ) → facing g p ≡ End → i ≤ length w → Good g w ws base K (suc d) p i
+      → Good g w ws base K d (getD ws (base + frameWords * d) 0) i
   unfolding Good
-  good-pop ws d p i e l h = h i (derives-end p i e l) .1
+  good-pop ws K d p i e l h = h i (derives-end p i e l) .1
+
+  -- ---- fewer sets stand
+  pub good-fewer : (ws : List ℕ) (K L : ℕ → Type 0) (d p i : ℕ) → ((k : ℕ) → k < d → L k → K k) → Good g w ws base K d p i → Good g w ws base L d p i
+  unfolding Good
+  good-fewer ws K L zero p i f h = tt
+  good-fewer ws K L (suc d) p i f h =
+      λ m x. (λ y. h m x .0 (f d (omega arith) y), good-fewer ws K L d (getD ws (base + frameWords * d) 0) m (λ k l. f k (omega arith)) (h m x .1))
 
   -- ---- a production is entered
-  good-behind : (ws : List ℕ) (d p i m : ℕ) {a f : ℕ} (b : ℕ) → facing g p ≡ Nonterminal a → first g a b ≡ some f → T (derives? g w f i m) → Good g w ws base d p i
-      → Good g w ws base d (suc p) m
+  good-behind : (ws : List ℕ) (K : ℕ → Type 0) (d p i m : ℕ) {a f : ℕ} (b : ℕ) → facing g p ≡ Nonterminal a → first g a b ≡ some f → T (derives? g w f i m) → Good g w ws base K d p i
+      → Good g w ws base K d (suc p) m
   unfolding Good
-  good-behind ws zero p i m b e q x h = tt
-  good-behind ws (suc d) p i m b e q x h = λ j y. h j (derives-call p i m j b e q x y)
+  good-behind ws K zero p i m b e q x h = tt
+  good-behind ws K (suc d) p i m b e q x h = λ j y. h j (derives-call p i m j b e q x y)
 
   -- words that agree below frame d have the same sets
   has-same : (ws vs : List ℕ) (k m : ℕ) → m < positionCount → ((j : ℕ) → base ≤ j → j < base + frameWords * suc k → getD vs j 0 ≡ getD ws j 0)
@@ -55,23 +62,24 @@ module _ (g : Grammar) (w : List ℕ) (base : ℕ) where
   unfolding frameHas memberAt
   has-same ws vs k m l h = ap (λ (x : ℕ). testBit x (m % 32)) (h (base + frameWords * k + 1 + m / 32) (omega arith) (omega arith))
 
-  good-same : (ws vs : List ℕ) (d p i : ℕ) → length w < positionCount → ((j : ℕ) → base ≤ j → j < base + frameWords * d → getD vs j 0 ≡ getD ws j 0)
-      → Good g w ws base d p i → Good g w vs base d p i
+  pub good-same : (ws vs : List ℕ) (K : ℕ → Type 0) (d p i : ℕ) → length w < positionCount → ((j : ℕ) → base ≤ j → j < base + frameWords * d → getD vs j 0 ≡ getD ws j 0)
+      → Good g w ws base K d p i → Good g w vs base K d p i
   unfolding Good
-  good-same ws vs zero p i l h x = tt
-  good-same ws vs (suc d) p i l h x = λ m y.
+  good-same ws vs K zero p i l h x = tt
+  good-same ws vs K (suc d) p i l h x = λ m y.
       let z = der-in (derives-sound g w y .1) in
       let e = has-same ws vs d m (omega arith) h in
       let r = returns-same ws vs base (suc d) h in
       let q = h (base + frameWords * d) (omega arith) (omega arith) in
-      let k = good-same ws vs d (getD ws (base + frameWords * d) 0) m l (λ j a b. h j a (omega arith)) (x m y .1) in
-      (e ∙ (x m y .0 ∙ ap (λ (S : List ℕ). runs? g w S m) (sym r)), rw q k)
+      let k = good-same ws vs K d (getD ws (base + frameWords * d) 0) m l (λ j a b. h j a (omega arith)) (x m y .1) in
+      (λ a. e ∙ (x m y .0 a ∙ ap (λ (S : List ℕ). runs? g w S m) (sym r)), rw q k)
 
-  pub good-push : (ws vs : List ℕ) (d p i : ℕ) {a f : ℕ} (b : ℕ) → length w < positionCount → facing g p ≡ Nonterminal a → first g a b ≡ some f
-      → Pushed ws vs base d (suc p) → ((m : ℕ) → T (derives? g w f i m) → frameHas vs base d m ≡ runs? g w (suc p ∷ returnsOf ws base d) m)
-      → Good g w ws base d p i → Good g w vs base (suc d) f i
+  -- the new frame's set is looked at only if it is to stand
+  pub good-push : (ws vs : List ℕ) (K : ℕ → Type 0) (d p i : ℕ) {a f : ℕ} (b : ℕ) → length w < positionCount → facing g p ≡ Nonterminal a → first g a b ≡ some f
+      → Pushed ws vs base d (suc p) → (K d → (m : ℕ) → T (derives? g w f i m) → frameHas vs base d m ≡ runs? g w (suc p ∷ returnsOf ws base d) m)
+      → Good g w ws base K d p i → Good g w vs base K (suc d) f i
   unfolding Good
-  good-push ws vs d p i b l e q x y h = λ m z.
+  good-push ws vs K d p i b l e q x y h = λ m z.
       let r = pushed-returns ws vs base d (suc p) x in
-      let k = good-same ws vs d (suc p) m l (x .rest) (good-behind ws d p i m b e q z h) in
-      (y m z ∙ ap (λ (S : List ℕ). runs? g w S m) (sym r), rw (x .top) k)
+      let k = good-same ws vs K d (suc p) m l (x .rest) (good-behind ws K d p i m b e q z h) in
+      (λ u. y u m z ∙ ap (λ (S : List ℕ). runs? g w S m) (sym r), rw (x .top) k)

@@ -7,7 +7,7 @@ use Prim.Native.Nat.{ℕ, suc, _+_, _-_, _*_, _≤_, _<_}
 use native.Mathlib.Omega.{arith}
 use lib.Dec.{T, eqb, eqb→eq, eqb-refl}
 use lib.ListN.{length}
-use Rattle.base.proofs.Booleans.{clash, and-T, T-and, same}
+use Rattle.base.proofs.Booleans.{clash, T→true, and-T, T-and, same}
 use Rattle.base.proofs.Lists.{anyOf-T, T-anyOf, upFrom-get}
 use Rattle.base.proofs.Lowest.{lowest-same}
 use Rattle.grammar.specs.declared.Symbol.the-variants.{Nonterminal}
@@ -29,7 +29,7 @@ use Rattle.derivation.proofs.RunLaws.{der-le, der-in, run-token, run-end, run-e
 use Rattle.derivation.proofs.ReadyLaws.{ready-first, ready-next, ready-call, ready-ordered}
 use Rattle.derivation.proofs.MarkedCells.{length-marked, get-mark, derives-inside, derives-marked}
 use Rattle.chart.specs.Chart.{spot, cellHas, ChartedFrom, Charted, EndsOf}
-use Rattle.plain.specs.Frames.{frameHas, Good, Serving}
+use Rattle.plain.specs.Frames.{frameHas, EveryFrame, Good, Serving}
 use Rattle.plain.specs.Choice.{Leading, endsIn, orZero, lowestIn}
 use Rattle.plain.proofs.GoodLaws.{derives-call}
 
@@ -43,6 +43,12 @@ module _ (t : List ℕ) (h : Ready t) (w ws : List ℕ) (charted : Charted t w w
   unfolding ChartedFrom cellHas
   cell-is p i j l m k =
       member-set ws (spot (grammarIn t .size) p i) j (omega arith) ∙ (charted p i j l (omega arith) m (omega arith) ∙ derives-marked t h w p i j k)
+
+  pub cell-holds : (p i j : ℕ) → p < grammarIn t .size → i ≤ length w → T (derives? (grammarIn t) (marked w) p i j) → T (cellHas (grammarIn t .size) ws p i j)
+  unfolding ChartedFrom
+  cell-holds p i j l m x =
+      let k = derives-inside t h w p i j l m x in
+      rw (charted p i j l (omega arith) m (omega arith), derives-marked t h w p i j k) x
 
   -- so sets meet a cell where derivations of its place end in them
   meet-out : (p i : ℕ) (s : List ℕ) → p < grammarIn t .size → i ≤ length w → T (meetsOf (setAt ws (spot (grammarIn t .size) p i)) s)
@@ -80,21 +86,27 @@ module _ (t : List ℕ) (h : Ready t) (w ws : List ℕ) (charted : Charted t w w
       T-anyOf (λ m. derives? (grammarIn t) (marked w) p i m && runs? (grammarIn t) (marked w) S m) (cuts i (length (marked w))) (j - i)
       (upFrom-get (suc (length (marked w)) - i) i j a (omega arith)) (T-and (derives? (grammarIn t) (marked w) p i j) (runs? (grammarIn t) (marked w) S j) x y)
 
+  -- a place over a stack derives the rest exactly if it can end in a set that is right there
+  pub meets-runs : (q m : ℕ) (rest S : List ℕ) → q < grammarIn t .size → m ≤ length w
+      → ((j : ℕ) → j ≤ length w → T (derives? (grammarIn t) (marked w) q m j) → member rest j ≡ runs? (grammarIn t) (marked w) S j)
+      → meetsOf (setAt ws (spot (grammarIn t .size) q m)) rest ≡ runs? (grammarIn t) (marked w) (q ∷ S) m
+  meets-runs q m rest S l k below = same (meetsOf (setAt ws (spot (grammarIn t .size) q m)) rest) (runs? (grammarIn t) (marked w) (q ∷ S) m) to from
+    where
+      to : T (meetsOf (setAt ws (spot (grammarIn t .size) q m)) rest) → T (runs? (grammarIn t) (marked w) (q ∷ S) m)
+      to x = let (j, n, y, z) = meet-out q m rest l k x in run-in q m j S y (rw (sym (below j n y)) z)
+
+      from : T (runs? (grammarIn t) (marked w) (q ∷ S) m) → T (meetsOf (setAt ws (spot (grammarIn t .size) q m)) rest)
+      from x = let (j, y, z) = run-out q m S x in meet-in q m j rest l k y (rw (below j (derives-inside t h w q m j l k y) y) z)
+
   -- ---- an alternative serves exactly if it can end in a set that is right
   serves-is : (S : List ℕ) (q a i b : ℕ) (s : List ℕ) → i ≤ length w → Serving (grammarIn t) (marked w) S q a i s
       → endsIn (grammarIn t .size) ws i s (first (grammarIn t) a b) ≡ serves? (grammarIn t) (marked w) (q ∷ S) i (first (grammarIn t) a b)
   unfolding Serving endsIn serves?
   serves-is S q a i b s l right = go (first (grammarIn t) a b) refl
     where
-      to : (f : ℕ) → first (grammarIn t) a b ≡ some f → T (meetsOf (setAt ws (spot (grammarIn t .size) f i)) s) → T (runs? (grammarIn t) (marked w) (f ∷ q ∷ S) i)
-      to f e x = let (j, k, y, z) = meet-out f i s (ready-first t h a b f e) l x in run-in f i j (q ∷ S) y (rw (sym (right b f j e y)) z)
-
-      from : (f : ℕ) → first (grammarIn t) a b ≡ some f → T (runs? (grammarIn t) (marked w) (f ∷ q ∷ S) i) → T (meetsOf (setAt ws (spot (grammarIn t .size) f i)) s)
-      from f e x = let (j, y, z) = run-out f i (q ∷ S) x in meet-in f i j s (ready-first t h a b f e) l y (rw (right b f j e y) z)
-
       go : (o : Option ℕ) → first (grammarIn t) a b ≡ o → endsIn (grammarIn t .size) ws i s o ≡ serves? (grammarIn t) (marked w) (q ∷ S) i o
       go none e = refl
-      go (some f) e = same (meetsOf (setAt ws (spot (grammarIn t .size) f i)) s) (runs? (grammarIn t) (marked w) (f ∷ q ∷ S) i) (to f e) (from f e)
+      go (some f) e = meets-runs f i s (q ∷ S) (ready-first t h a b f e) l (λ j _ y. right b f j e y)
 
   -- so the code's choice is the plain chooser's
   pub lowest-is : (S : List ℕ) (q a i : ℕ) (s : List ℕ) → i ≤ length w → Serving (grammarIn t) (marked w) S q a i s
@@ -134,16 +146,13 @@ module _ (t : List ℕ) (h : Ready t) (w ws : List ℕ) (charted : Charted t w w
       from m x = let z = ends-there m (runs-iff (grammarIn t) (marked w) (endPlace ∷ []) m .0 x .1) in rw z (eqb-refl (length w))
 
   pub serving-over : (ends rest r : List ℕ) (base d p a i : ℕ) → i ≤ length w → facing (grammarIn t) p ≡ Nonterminal a
-      → Good (grammarIn t) (marked w) ws base (suc d) p i → EndsOf t ws a i ends → rest ≡ setAt ws (base + frameWords * d + 1)
+      → Good (grammarIn t) (marked w) ws base EveryFrame (suc d) p i → EndsOf t ws a i ends → rest ≡ setAt ws (base + frameWords * d + 1)
       → Leading (grammarIn t .size) ws (length w) ends (suc p) rest r → Serving (grammarIn t) (marked w) (returnsOf ws base (suc d)) (suc p) a i r
-  unfolding Serving Good EndsOf Leading frameHas ChartedFrom
+  unfolding Serving Good EndsOf Leading frameHas
   serving-over ends rest r base d p a i l e good ending q leading b f m c x =
-      same (member r m) (runs? (grammarIn t) (marked w) (suc p ∷ returnsOf ws base (suc d)) m) to from
+      leading m inside ∙ rw (T→true (member ends m) held) (meets-runs (suc p) m rest (returnsOf ws base (suc d)) next inside below)
     where
-      P : ℕ
-      P = grammarIn t .size
-
-      next : suc p < P
+      next : suc p < grammarIn t .size
       next = ready-next t h p (ready-call t h p a e) (λ z. clash (cc))
 
       inside : m ≤ length w
@@ -154,23 +163,10 @@ module _ (t : List ℕ) (h : Ready t) (w ws : List ℕ) (charted : Charted t w w
           → member rest j ≡ runs? (grammarIn t) (marked w) (returnsOf ws base (suc d)) j
       below j k y =
           ap (λ (s : List ℕ). member s j) q ∙ (member-set ws (base + frameWords * d + 1) j (omega arith)
-          ∙ good j (derives-call (grammarIn t) (marked w) base p i m j b e c x y) .0)
-
-      to : T (member r m) → T (runs? (grammarIn t) (marked w) (suc p ∷ returnsOf ws base (suc d)) m)
-      to y =
-          let z = and-T (member ends m) (meetsOf (setAt ws (spot P (suc p) m)) rest) (rw (leading m inside) at y) in
-          let (j, k, u, v) = meet-out (suc p) m rest next inside (z .1) in
-          run-in (suc p) m j (returnsOf ws base (suc d)) u (rw (sym (below j k u)) v)
+          ∙ good j (derives-call (grammarIn t) (marked w) base p i m j b e c x y) .0 tt)
 
       held : T (member ends m)
       held =
           let (n, o) = first-pos (grammarIn t) a b f c in
-          let z : T (cellHas P ws f i m) = rw (charted f i m (ready-first t h a b f c) (omega arith) l (omega (arith, inside)), derives-marked t h w f i m inside) x in
-          rw (ending m (omega (arith, inside))) (T-anyOf (λ f. cellHas P ws f i m) (alternatives (grammarIn t) a) n o z)
-
-      from : T (runs? (grammarIn t) (marked w) (suc p ∷ returnsOf ws base (suc d)) m) → T (member r m)
-      from y =
-          let (j, u, v) = run-out (suc p) m (returnsOf ws base (suc d)) y in
-          let k = derives-inside t h w (suc p) m j next inside u in
-          let z = meet-in (suc p) m j rest next inside u (rw (below j k u) v) in
-          rw (leading m inside) (T-and (member ends m) (meetsOf (setAt ws (spot P (suc p) m)) rest) held z)
+          rw (ending m (omega (arith, inside)))
+          (T-anyOf (λ f. cellHas (grammarIn t .size) ws f i m) (alternatives (grammarIn t) a) n o (cell-holds f i m (ready-first t h a b f c) l x))

@@ -2,7 +2,7 @@
 use mathlib.Core.Path.{_≡_}
 use mathlib.Core.Bool.{Bool}
 use mathlib.Core.List.{List, _∷_}
-use Prim.Native.Nat.{ℕ, zero, suc, _+_, _*_}
+use Prim.Native.Nat.{ℕ, zero, suc, _+_, _*_, _<_}
 use lib.Dec.{T}
 use lib.ListN.{getD, set}
 use mathlib.Core.Option.{some}
@@ -20,13 +20,21 @@ frameHas ws base k m = memberAt ws (base + frameWords * k + 1) m
 unfoldable pub pushOf : List ℕ → ℕ → ℕ → ℕ → List ℕ → List ℕ
 pushOf ws base k q s = putAt (set ws (base + frameWords * k) q) (base + frameWords * k + 1) s
 
--- The sets of d frames are right for place p at position i over them: wherever p's production can end, the topmost frame's set says whether all frames
--- derive the rest from there; and so on, from there, for the frames below. Elsewhere the sets may say anything: nobody asks them there.
-unfoldable pub Good : Grammar → List ℕ → List ℕ → ℕ → ℕ → ℕ → ℕ → Type 0
-Good g w ws base zero p i = Unit {0}
-Good g w ws base (suc d) p i =
+-- which frames' sets stand: every frame's, or those of the lowest n frames
+abbrev pub EveryFrame : ℕ → Type 0
+EveryFrame k = Unit {0}
+
+abbrev pub FramesBelow : ℕ → ℕ → Type 0
+FramesBelow n k = k < n
+
+-- The sets of those of d frames of which K speaks are right for place p at position i over them: wherever p's production can end, the topmost frame's set
+-- says whether all frames derive the rest from there; and so on, from there, for the frames below. Elsewhere the sets may say anything: nobody asks them
+-- there.
+unfoldable pub Good : Grammar → List ℕ → List ℕ → ℕ → (ℕ → Type 0) → ℕ → ℕ → ℕ → Type 0
+Good g w ws base K zero p i = Unit {0}
+Good g w ws base K (suc d) p i =
     (m : ℕ) → T (derives? g w p i m)
-    → (frameHas ws base d m ≡ runs? g w (returnsOf ws base (suc d)) m) × Good g w ws base d (getD ws (base + frameWords * d) 0) m
+    → (K d → frameHas ws base d m ≡ runs? g w (returnsOf ws base (suc d)) m) × Good g w ws base K d (getD ws (base + frameWords * d) 0) m
 
 -- wherever a production of a that begins at i can end, s says whether place q over the stack S derives the rest from there
 unfoldable pub Serving : Grammar → List ℕ → List ℕ → ℕ → ℕ → ℕ → List ℕ → Type 0

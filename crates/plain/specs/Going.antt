@@ -11,7 +11,7 @@ use Rattle.derivation.specs.Machine.{lowest, Outcome, prefix, run}
 use Rattle.derivation.specs.Space.{returnsOf}
 use Rattle.derivation.proofs.FrameWords.{Held}
 use Rattle.chart.specs.Chart.{Lent, Charted}
-use Rattle.plain.specs.Frames.{Good}
+use Rattle.plain.specs.Frames.{EveryFrame, Good}
 use Rattle.plain.specs.Machine.{ground}
 
 -- the alternatives of a list, and then this outcome
@@ -33,5 +33,5 @@ pub record Going (t w : List ℕ) (end : Outcome) (row ws : List ℕ) (count p i
   pub fits : count ≤ length row
   pub position : i ≤ suc (length w)
   pub held : Held (grammarIn t) (endPlace ∷ []) (length w) ws (ground t w) d p i
-  pub good : Good (grammarIn t) (marked w) ws (ground t w) d p i
+  pub good : Good (grammarIn t) (marked w) ws (ground t w) EveryFrame d p i
   pub rest : after (take count row) (onward t w (steps (length row - count) (length w) i d) (p ∷ returnsOf ws (ground t w) d) i (length row - count)) ≡ end

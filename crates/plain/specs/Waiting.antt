@@ -10,7 +10,7 @@ use Rattle.grammar.specs.Tables.{grammarIn}
 use Rattle.derivation.specs.Runs.{marked}
 use Rattle.derivation.proofs.FrameWords.{Held}
 use Rattle.chart.specs.Chart.{Lent, Charted}
-use Rattle.plain.specs.Frames.{Good}
+use Rattle.plain.specs.Frames.{EveryFrame, Good}
 use Rattle.plain.specs.Machine.{ground}
 
 pub record Waiting (t w ws : List ℕ) (d p a i : ℕ) : Type 0 where
@@ -18,4 +18,4 @@ pub record Waiting (t w ws : List ℕ) (d p a i : ℕ) : Type 0 where
   pub charted : Charted t w ws
   pub calls : facing (grammarIn t) p ≡ Nonterminal a
   pub held : Held (grammarIn t) (endPlace ∷ []) (length w) ws (ground t w) d p i
-  pub good : Good (grammarIn t) (marked w) ws (ground t w) d p i
+  pub good : Good (grammarIn t) (marked w) ws (ground t w) EveryFrame d p i

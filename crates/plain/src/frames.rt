@@ -4,7 +4,7 @@ use positions::Positions;
 ghost use mathlib.Core.Path.{_≡_};
 ghost use Prim.Native.Nat.{suc, _+_, _*_, _≤_, _<_};
 ghost use lib.ListN.{length, getD};
-ghost use Rattle.positions.specs.Words.{setAt};
+ghost use Rattle.positions.specs.Words.{setAt, putAt};
 ghost use Rattle.derivation.specs.Space.{frameWords};
 ghost use Rattle.plain.specs.Frames.{pushOf};
 
@@ -27,11 +27,19 @@ pub fn rest(ws: &[u32], base: usize, k: usize) -> Positions
     positions::read(ws, base + FRAME * k + 1)
 }
 
+// The set of frame k becomes s.
+pub fn put_rest(ws: &mut [u32], base: usize, k: usize, s: Positions)
+    requires { ⌜ base + frameWords * suc k ≤ length (now ws) ⌝ }
+    ensures { λ _. ⌜ now (ws .exit) ≡ putAt (now (ws .entry)) (base + frameWords * k + 1) (s .words) ⌝ }
+{
+    positions::put(ws, base + FRAME * k + 1, s);
+}
+
 // Frame k: return place q, and the positions s.
 pub fn push(ws: &mut [u32], base: usize, k: usize, q: usize, s: Positions)
     requires { ⌜ (base + frameWords * suc k ≤ length (now ws)) × (q < 4294967296) ⌝ }
     ensures { λ _. ⌜ now (ws .exit) ≡ pushOf (now (ws .entry)) base k q (s .words) ⌝ }
 {
     ws[base + FRAME * k] = base::word(q);
-    positions::put(ws, base + FRAME * k + 1, s);
+    put_rest(ws, base, k, s);
 }

@@ -25,7 +25,7 @@ pub enum Outcome {
 }
 
 // The first place of alternative b of nonterminal a.
-fn first(tables: &[u16], a: usize, b: usize) -> usize
+pub fn first(tables: &[u16], a: usize, b: usize) -> usize
     requires { ⌜ Ready (now tables) × Named (now tables) a b ⌝ }
     ensures { λ r. ⌜ first (grammarIn (now (tables .entry))) a b ≡ some r ⌝ }
 {
@@ -34,7 +34,7 @@ fn first(tables: &[u16], a: usize, b: usize) -> usize
 }
 
 // The token at position i; behind the note's last token stands the end mark.
-fn token_at(note: &[u16], i: usize) -> usize
+pub fn token_at(note: &[u16], i: usize) -> usize
     requires { ⌜ i ≤ length (now note) ⌝ }
     ensures { λ r. ⌜ getElem? (marked (now (note .entry))) i ≡ some r ⌝ }
 {
@@ -45,7 +45,7 @@ fn token_at(note: &[u16], i: usize) -> usize
 }
 
 // The lowest alternative of a by which a position in s is come to from i, 0 if there is none. If there is one, q with s is pushed as frame d.
-fn choose(
+pub fn choose(
     tables: &[u16],
     ws: &mut [u32],
     places: usize,
@@ -68,7 +68,7 @@ fn choose(
 }
 
 // Place p over d frames faces nonterminal a, at position i: the lowest alternative that serves, 0 if none does; and the place behind p as frame d.
-fn call(
+pub fn call(
     tables: &[u16],
     note: &[u16],
     ws: &mut [u32],

@@ -82,7 +82,7 @@ impl Reading {
 }
 
 // Zeros from entry `from` on.
-fn clear_from(row: &mut [u16], from: usize)
+pub fn clear_from(row: &mut [u16], from: usize)
     requires { ⌜ from ≤ length (now row) ⌝ }
     ensures { λ _. ⌜ now (row .exit) ≡ take from (now (row .entry)) ++ replicate (length (now (row .entry)) - from) 0 ⌝ }
 {
@@ -114,7 +114,7 @@ fn no_sentence(tables: &[u16], note: &[u16], row: &mut [u16], ws: &[u32], places
 }
 
 // What follows from how the machine stopped: where the row was full, the note alone decides between 10 and 14.
-fn finish(
+pub fn finish(
     tables: &[u16],
     note: &[u16],
     row: &mut [u16],

@@ -4,3 +4,4 @@ pub mod StepLaws
 pub mod LockStep
 pub mod NoteLaws
 pub mod Demand3Laws
+pub mod RestLaws

@@ -2,3 +2,4 @@
 pub mod Machine
 pub mod Quick
 pub mod Demand3
+pub mod Sets

@@ -33,11 +33,11 @@ full-requires c κs = omega (arith, c .before .before .before .before .before .b
 returns-3 : tie.Need-returns-3
 returns-3 c = everywhere _ _ _ _ _ (omega (arith, c .before .before .before .before .before .before .before .before .pre .0 .short)) _ _ _ (c .before .before .before .before .before .before .next .ensures) (omega arith) (c .before .before .before .before .cell .ensures) (c .before .before .before .next2 .ensures) (c .before .before .before .before .before .before .before .before .pre .2) (c .before .full .ensures) (c .if3 .taken)
 
-join-cells-requires : tie.Need-join-cells-requires
-join-cells-requires c κs = (c .before .before .before .before .before .before .before .before .pre .0, c .before .before .before .before .before .before .before .before .pre .1)
+onward-requires : tie.Need-onward-requires
+onward-requires c κs = (c .before .before .before .before .before .before .before .before .pre .0, c .before .before .before .before .before .before .before .before .pre .1)
 
 returns-4 : tie.Need-returns-4
-returns-4 c = more-members _ _ _ _ _ (omega (arith, c .before .before .before .before .before .before .before .before .before .pre .0 .short)) _ _ _ (c .before .before .before .before .before .before .before .next .ensures) (omega arith) (c .before .before .before .before .before .cell .ensures) (c .before .before .before .before .next2 .ensures) _ (c .join-cells .ensures)
+returns-4 c = more-members _ _ _ _ _ (omega (arith, c .before .before .before .before .before .before .before .before .before .pre .0 .short)) _ _ _ (c .before .before .before .before .before .before .before .next .ensures) (omega arith) (c .before .before .before .before .before .cell .ensures) (c .before .before .before .before .next2 .ensures) _ (c .onward .ensures)
 
 pub through-spec : {M : Type 1} → statement M
 through-spec =
@@ -52,5 +52,5 @@ through-spec =
     returns-2
     full-requires
     returns-3
-    join-cells-requires
+    onward-requires
     returns-4)

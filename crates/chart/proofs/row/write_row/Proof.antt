@@ -4,19 +4,20 @@ use Prim.Native.Nat.{_≤_, _-_}
 use native.Mathlib.Omega.{arith}
 use lib.ListN.{length}
 use borrow.Author.Needs.{needs}
-use Rattle.chart.proofs.Spots.{spot-in}
+use Rattle.chart.specs.Chart.{KeptBehind}
+use Rattle.chart.proofs.Spots.{spot-in, behind-none, behind-put}
 use Rattle.chart.proofs.RowLaws.{Written, written-none, written-on, written-all, written-behind}
 use Rattle.chart.proofs.row.write_row.Statement.{statement}
 use Rattle.chart.proofs.row.write_row.Tie as tie
 
 abbrev Inv-loop : tie.InvT-loop
-Inv-loop tables note ws₀ ends places i p₀ ws p = (p ≤ places) × (length ws ≡ length ws₀) × Written tables note places i p ws
+Inv-loop tables note ws₀ ends places i p₀ ws p = (p ≤ places) × (length ws ≡ length ws₀) × Written tables note places i p ws × KeptBehind places (length note) ws₀ ws
 
 abbrev μ-loop : tie.MeasureT-loop
 μ-loop tables note ws₀ ends places i p₀ ws p = p
 
 loop-holds : tie.Need-loop-holds Inv-loop μ-loop
-loop-holds c = (omega arith, refl, written-none _ _ _ _ _ (c .before .before .before .before .pre .0))
+loop-holds c = (omega arith, refl, written-none _ _ _ _ _ (c .before .before .before .before .pre .0), behind-none)
 
 sub-p : tie.Need-sub-p Inv-loop μ-loop
 sub-p c = search needs
@@ -40,13 +41,13 @@ loop-less : tie.Need-loop-less Inv-loop μ-loop
 loop-less c = search needs
 
 loop-again : tie.Need-loop-again Inv-loop μ-loop
-loop-again c = (omega arith, omega arith, written-on _ _ _ _ _ _ _ _ (omega arith) (omega arith) (c .before .before .before .before .before .before .before .loop .inv .2) (c .before .before .before .before .before .before .before .before .before .before .before .before .pre .2) (c .before .before .before .before .derived .ensures) (c .before .before .put .ensures))
+loop-again c = (omega arith, omega arith, written-on _ _ _ _ _ _ _ _ (omega arith) (omega arith) (c .before .before .before .before .before .before .before .loop .inv .2) (c .before .before .before .before .before .before .before .before .before .before .before .before .pre .2) (c .before .before .before .before .derived .ensures) (c .before .before .put .ensures), behind-put _ _ _ _ _ (c .before .before .before .before .before .before .before .loop .inv .3) (omega arith) (c .before .before .before .before .before .before .before .loop .inv .2 .row .here) (c .before .before .put .ensures))
 
 same-length : tie.Need-same-length Inv-loop μ-loop
 same-length c = search needs
 
 returns : tie.Need-returns Inv-loop μ-loop
-returns c = written-all _ _ _ _ _ _ (omega arith) (c .before .loop .inv .2)
+returns c = (written-all _ _ _ _ _ _ (omega arith) (c .before .loop .inv .2), c .before .loop .inv .3)
 
 pub write-row-spec : {M : Type 1} → statement M
 write-row-spec =

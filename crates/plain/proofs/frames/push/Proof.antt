@@ -22,23 +22,14 @@ mul-ws-2 c = search needs
 slice-write-ws : tie.Need-slice-write-ws
 slice-write-ws c = search needs
 
-mul-put : tie.Need-mul-put
-mul-put c = search needs
-
-add-put : tie.Need-add-put
-add-put c = search needs
-
-add-put-2 : tie.Need-add-put-2
-add-put-2 c = search needs
-
-put-requires : tie.Need-put-requires
-put-requires c κs = simp length-set (omega arith)
+put-rest-requires : tie.Need-put-rest-requires
+put-rest-requires c κs = simp length-set (omega arith)
 
 same-length : tie.Need-same-length
-same-length c = let a = c .before .before .before .before .before .before .args in ap length (push-is (a .ws .now) (a .base) (a .k) (a .q) (a .s .words) (c .before .before .before .before .word .ensures) (c .before .before .put .ensures)) ∙ length-push (a .ws .now) (a .base) (a .k) (a .q) (a .s .words)
+same-length c = let a = c .before .before .before .before .before .before .args in ap length (push-is (a .ws .now) (a .base) (a .k) (a .q) (a .s .words) (c .before .before .before .before .word .ensures) (c .before .before .put-rest .ensures)) ∙ length-push (a .ws .now) (a .base) (a .k) (a .q) (a .s .words)
 
 returns : tie.Need-returns
-returns c = push-is _ _ _ _ _ (c .before .before .before .before .word .ensures) (c .before .before .put .ensures)
+returns c = push-is _ _ _ _ _ (c .before .before .before .before .word .ensures) (c .before .before .put-rest .ensures)
 
 pub push-spec : {M : Type 1} → statement M
 push-spec =
@@ -49,9 +40,6 @@ push-spec =
     add-ws
     mul-ws-2
     slice-write-ws
-    mul-put
-    add-put
-    add-put-2
-    put-requires
+    put-rest-requires
     same-length
     returns)

@@ -1,4 +1,4 @@
--- `chart::row::join_cells` meets its contract.
+-- `chart::row::onward` meets its contract.
 use mathlib.Core.Path.{_≡_}
 use mathlib.Core.Bool.{true}
 use Prim.Native.Nat.{_-_, _≤_, _<_}
@@ -7,8 +7,8 @@ use borrow.Author.Needs.{needs}
 use Rattle.positions.specs.Positions.{positionCount, member}
 use Rattle.chart.proofs.Spots.{spot-in}
 use Rattle.chart.proofs.ThroughLaws.{Going, going-begins, going-on, going-ends, next-behind}
-use Rattle.chart.proofs.row.join_cells.Statement.{statement}
-use Rattle.chart.proofs.row.join_cells.Tie as tie
+use Rattle.chart.proofs.row.onward.Statement.{statement}
+use Rattle.chart.proofs.row.onward.Tie as tie
 
 abbrev Inv-loop : tie.InvT-loop
 Inv-loop ws places n s from q r₀ m₀ r m = (m ≤ positionCount) × (m < positionCount → member (s .words) m ≡ true) × Going places ws n (s .words) q (r₀ .words) from m (r .words)
@@ -43,8 +43,8 @@ loop-again c = (c .next2 .ensures .most, c .next2 .ensures .found, going-on _ _ 
 returns : tie.Need-returns Inv-loop μ-loop
 returns c = going-ends _ _ _ _ _ _ _ _ _ (c .before .loop .inv .2) (omega arith)
 
-pub join-cells-spec : {M : Type 1} → statement M
-join-cells-spec =
+pub onward-spec : {M : Type 1} → statement M
+onward-spec =
     tie.close
     (tie.spec
     Inv-loop
