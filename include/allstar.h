@@ -20,6 +20,19 @@ extern "C" {
  * and stores the place: a byte for 1 to 5, a nonterminal for 6 and 7, else 0. */
 uint32_t allstar_check(const uint8_t *grammar, size_t length, uint64_t *place);
 
+/* Begins a cache for a grammar. Lent are
+ *   the grammar     bytes of any length; they are checked
+ *   the cache       words of any number; it may hold anything. A cache of L words has S slots, S the whole part of (L - 2048) / 320, at most 1024: so many states can be
+ *                   learned, and longer caches hold no more. The shortest has one slot, 2,368 words; 329,728 words have 1,024
+ * Answers 0 if the cache has begun, else the number of the refusal, the first that applies in this order:
+ *   1 to 7   the grammar, as in allstar_check
+ *   12       the cache has fewer than 2,368 words
+ * and stores the place: as in allstar_check for 1 to 7, else 0.
+ *
+ * The cache afterwards: begun, each of its words is settled, whatever it held: it holds the grammar bytes and its own length, and nothing is learned. After a refusal it is
+ * untouched. A begun cache belongs to these grammar bytes and to this length; a caller keeps both, lends the whole cache, and leaves its words alone. */
+uint32_t allstar_begin(const uint8_t *grammar, size_t grammar_length, uint32_t *cache, size_t cache_length, uint64_t *place);
+
 /* Reads a note by a grammar, without a cache: the plain reading. Lent are
  *   the grammar     bytes of any length; they are checked in every call
  *   the note        its tokens, at most 128

@@ -1,11 +1,17 @@
--- A reading told in numbers is the answer of the definitions.
+-- Beginnings and readings told in numbers are the answers of the definitions.
 use mathlib.Core.Path.{_≡_}
 use mathlib.Core.List.{List}
 use Prim.Native.Nat.{ℕ}
 use Rattle.derivation.specs.Plain.{Answer, answer}
+use Rattle.cache.specs.Begin.{Begun, begun}
+use Rattle.cache.specs.declared.beginning.Beginning.{Beginning}
+use Rattle.cache.specs.Beginning.{beginningNumber, beginningPlace, begunBy}
 use Rattle.plain.specs.declared.reading.Reading.{Reading}
 use Rattle.plain.specs.Reading.{readingNumber, readingPlace, readingCount, answered}
 
 pub told : (r : Reading) (row : List ℕ) {n p c : ℕ} {x : Answer} → n ≡ readingNumber r → p ≡ readingPlace r → c ≡ readingCount r → answered r row ≡ x
     → answer n p c row ≡ x
 told r row e f g h = rw (e, f, g) h
+
+pub told-begun : (b : Beginning) (c : List ℕ) {n p : ℕ} {x : Begun} → n ≡ beginningNumber b → p ≡ beginningPlace b → begunBy b c ≡ x → begun n p c ≡ x
+told-begun b c e f h = rw (e, f) h

@@ -2,6 +2,7 @@
 ghost use mathlib.Core.Path.{_≡_};
 ghost use lib.ListN.{length};
 ghost use Rattle.derivation.specs.Plain.{answer, plainReading};
+ghost use Rattle.cache.specs.Begin.{begun, beginning};
 ghost use Rattle.soundness.specs.Check.{checkOf, verdictNumber, verdictPlace};
 
 // Checks a grammar. Answers document 01's number, 0 if it is sound, and stores the place.
@@ -13,6 +14,16 @@ pub extern "C" fn allstar_check(grammar: &[u8], place: &mut u64) -> u32
     let verdict = soundness::check(grammar);
     *place = verdict.place() as u64;
     verdict.number()
+}
+
+// Begins a cache for a grammar. Answers document 01's number, 0 if the cache has begun, stores the place, and leaves the cache as beginning does.
+#[no_mangle]
+pub extern "C" fn allstar_begin(grammar: &[u8], cache: &mut [u32], place: &mut u64) -> u32
+    ensures { λ r. ⌜ begun r (now (place .exit)) (now (cache .exit)) ≡ beginning (now (grammar .entry)) (now (cache .entry)) ⌝ }
+{
+    let beginning = cache::begin(grammar, cache);
+    *place = beginning.place() as u64;
+    beginning.number()
 }
 
 // Reads a note plainly. Answers document 01's number, 0 if the note was read, stores the place and the count of row entries, and leaves the row as the

@@ -15,3 +15,8 @@ pub mod AgainLaws
 pub mod BeginLaws
 pub mod FollowLaws
 pub mod PredictLaws
+pub mod PackSteps
+pub mod SizeLaws
+pub mod BeginSteps
+pub mod SlotLaws
+pub mod StateSteps

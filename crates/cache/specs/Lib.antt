@@ -2,6 +2,9 @@
 pub mod Layout
 pub mod Words
 pub mod Begin
+pub mod Bytes
+pub mod Beginning
 pub mod Recording
+pub mod ByWords
 pub mod Predict
 pub mod Coherent

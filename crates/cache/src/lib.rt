@@ -1,1 +1,9 @@
-// Nothing runs here yet: the words of the lookahead cache, how it begins, what is recorded and what it predicts, as definitions.
+// The lookahead cache: how it begins, and what is looked up and recorded in it.
+mod beginning;
+mod bytes;
+mod recording;
+mod slots;
+
+pub use beginning::Beginning;
+pub use beginning::begin;
+pub use beginning::is_begun;

@@ -24,7 +24,7 @@ use Rattle.chart.specs.Row.{Through, Begun, Derived}
 use Rattle.chart.proofs.LeadLaws.{lead-place}
 use Rattle.chart.proofs.Spots.{cell-member}
 use Rattle.chart.proofs.ThroughLaws.{through-first, through-same}
-use Rattle.chart.proofs.GatherLaws.{get-some}
+use Rattle.derivation.proofs.FirstLaws.{get-some}
 
 get-none : (l : List ℕ) (k : ℕ) → length l ≤ k → getElem? l k ≡ none
 get-none [] k h = refl

@@ -30,4 +30,5 @@ pub mod StarredReadings
 pub mod Demand2Iff
 pub mod MachineDepth
 pub mod ReadyLaws
+pub mod FirstLaws
 pub mod MarkedCells

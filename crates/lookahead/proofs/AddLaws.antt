@@ -45,13 +45,13 @@ same-config c d t =
     let s = same-list (c .stack) (d .stack) (k .1) in
     λ i. record { place = p i; alternative = a i; stack = s i }
 
-config-same : (c : Config) → T (sameConfig c c)
+pub config-same : (c : Config) → T (sameConfig c c)
 unfolding sameConfig
 config-same c =
     T-and (eqb (c .place) (c .place)) (eqb (c .alternative) (c .alternative) && sameList (c .stack) (c .stack)) (eqb-refl (c .place))
     (T-and (eqb (c .alternative) (c .alternative)) (sameList (c .stack) (c .stack)) (eqb-refl (c .alternative)) (list-same (c .stack)))
 
-member-in : (d : Config) (ms : List Config) → T (member? d ms) → In d ms
+pub member-in : (d : Config) (ms : List Config) → T (member? d ms) → In d ms
 unfolding member?
 member-in d ms t = let h = anyOf-T (λ (c : Config). sameConfig d c) ms t in Memᴰ·cast (same-config d (h .1) (h .3)) (get-in ms (h .0) (h .2))
 

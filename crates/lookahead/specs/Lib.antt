@@ -6,3 +6,5 @@ pub mod Packing
 pub mod Outcomes
 pub mod Rules
 pub mod Worked
+pub mod Held
+pub mod Told

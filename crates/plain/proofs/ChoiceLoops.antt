@@ -22,7 +22,7 @@ use Rattle.positions.specs.Words.{setAt}
 use Rattle.positions.proofs.SetLaws.{member-empty, member-with, length-with}
 use Rattle.derivation.specs.Ready.{Ready}
 use Rattle.chart.specs.Chart.{spot}
-use Rattle.chart.proofs.GatherLaws.{rule-within, rules-are, first-at}
+use Rattle.derivation.proofs.FirstLaws.{rule-within, rules-are, first-at}
 use Rattle.plain.specs.Choice.{Leading, endsIn, orZero, lowestIn}
 
 -- ---- over the members of `ends`: m is the next one, r what was kept before it

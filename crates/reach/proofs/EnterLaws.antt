@@ -17,7 +17,7 @@ use Rattle.grammar.proofs.WordLaws.{length-starts-in}
 use Rattle.grammar.proofs.PlaceLaws.{length-startsAll}
 use Rattle.derivation.specs.Ready.{Ready}
 use Rattle.derivation.proofs.ReadyLaws.{ready-size}
-use Rattle.chart.proofs.GatherLaws.{rule-within, rules-are, first-at, first-in}
+use Rattle.derivation.proofs.FirstLaws.{rule-within, rules-are, first-at, first-in}
 use Rattle.reach.specs.Sets.{Added, PointOf}
 use Rattle.reach.specs.Passes.{Opening}
 use Rattle.reach.proofs.AddLaws.{added-as, none-added, both-added, or-first, or-second}

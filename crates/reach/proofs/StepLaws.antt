@@ -24,7 +24,7 @@ use Rattle.derivation.proofs.RunLaws.{der-le, der-in}
 use Rattle.derivation.proofs.CellLaws.{derives-sound, derives-complete}
 use Rattle.derivation.proofs.ReadyLaws.{ready-first, ready-next, ready-size}
 use Rattle.chart.specs.Chart.{cellHas, ChartedFrom, Charted, EndsOf}
-use Rattle.chart.proofs.GatherLaws.{get-some}
+use Rattle.derivation.proofs.FirstLaws.{get-some}
 use Rattle.reach.specs.Sets.{Inside, Added, PointOf}
 use Rattle.reach.specs.Passes.{Opening, Leads, match, call, return}
 use Rattle.reach.proofs.AddLaws.{added-as, none-added, both-added, or-true}

@@ -4,7 +4,7 @@ use borrow.Author.Needs.{needs}
 use mathlib.Core.Path.{_≡_, refl}
 use Prim.Native.Nat.{_≤_, _-_}
 use lib.ListN.{length}
-use Rattle.chart.proofs.GatherLaws.{rule-within}
+use Rattle.derivation.proofs.FirstLaws.{rule-within}
 use Rattle.reach.specs.Sets.{Added}
 use Rattle.reach.proofs.EnterLaws.{Opened, first-small, enter-begin, enter-new, enter-old, enter-end}
 use Rattle.reach.proofs.enter.Statement.{statement}

@@ -7,7 +7,8 @@ use Rattle.chart.specs.Chart.{cellHas}
 use Rattle.chart.specs.Ends.{endHas, lead}
 use Rattle.chart.proofs.GrownLaws.{grown-one, looked-one}
 use Rattle.chart.proofs.BegunLaws.{begun-members}
-use Rattle.chart.proofs.GatherLaws.{Gathering, gather-begins, gather-more, gather-ends, rule-within, first-in}
+use Rattle.derivation.proofs.FirstLaws.{rule-within, first-in}
+use Rattle.chart.proofs.GatherLaws.{Gathering, gather-begins, gather-more, gather-ends}
 use Rattle.chart.proofs.ends.grow.Statement.{statement}
 use Rattle.chart.proofs.ends.grow.Tie as tie
 

@@ -6,7 +6,8 @@ use borrow.Author.Needs.{needs}
 use Rattle.grammar.specs.Tables.{grammarIn}
 use Rattle.chart.specs.Chart.{cellHas}
 use Rattle.chart.proofs.Spots.{spot-in, cell-member, sized}
-use Rattle.chart.proofs.GatherLaws.{Gathering, gather-begins, gather-more, gather-cells, rule-within, first-in}
+use Rattle.derivation.proofs.FirstLaws.{rule-within, first-in}
+use Rattle.chart.proofs.GatherLaws.{Gathering, gather-begins, gather-more, gather-cells}
 use Rattle.chart.proofs.row.ends_of.Statement.{statement}
 use Rattle.chart.proofs.row.ends_of.Tie as tie
 

@@ -1,0 +1,60 @@
+-- Recording as the code does it: the configurations of a state are words, and the word that records an outcome is named by its address.
+use mathlib.Core.Bool.{Bool, _&&_, cond}
+use mathlib.Core.Option.{Option, none, some}
+use mathlib.Core.List.{List}
+use Prim.Native.Nat.{ℕ, suc, min}
+use lib.Dec.{eqb, ltb}
+use lib.ListN.{length, set}
+use lib.Seq.{sets}
+use Rattle.base.specs.Search.{lowestFrom}
+use Rattle.lookahead.specs.Closing.{sameList}
+use Rattle.cache.specs.Layout.{slots, heldAt, slotAt, countAt, configsAt, fullWord, stateWord}
+use Rattle.cache.specs.Words.{held, decision, keptWords}
+use Rattle.cache.specs.Recording.{Learned, learned}
+use Rattle.cache.specs.declared.recording.Found.{Found}
+use Rattle.cache.specs.declared.recording.Found.the-variants.{Slot, Nowhere}
+
+-- slot s holds these words for decision a
+unfoldable pub holdsWords : List ℕ → ℕ → List ℕ → ℕ → Bool
+unfolding decision keptWords sameList
+holdsWords c a ws s = let same = sameList (keptWords c s) ws in eqb (decision c s) a && same
+
+-- the slots that are searched: those that hold states
+unfoldable pub searched : List ℕ → ℕ
+unfolding held slots
+searched c = min (held c) (slots (length c))
+
+-- the slot that holds them
+unfoldable pub findWords : List ℕ → ℕ → List ℕ → Option ℕ
+unfolding lowestFrom holdsWords searched
+findWords c a ws = lowestFrom (holdsWords c a ws) 0 (searched c)
+
+-- what the search found
+abbrev pub foundIn : Option ℕ → Found
+foundIn none = Nowhere
+foundIn (some s) = Slot s
+
+-- a state of n configurations in the next slot
+unfoldable pub addWords : List ℕ → ℕ → ℕ → List ℕ → List ℕ
+unfolding held
+addWords c a n ws = set (sets (set (set c (slotAt (held c)) a) (countAt (held c)) n) (configsAt (held c)) ws) heldAt (suc (held c))
+
+-- word i records the outcome w
+abbrev pub sayWord : ℕ → List ℕ → ℕ → Learned
+sayWord i c w = learned w (set c i w)
+
+-- a state that no slot holds
+unfoldable pub newWords : ℕ → List ℕ → ℕ → ℕ → List ℕ → Learned
+unfolding held slots addWords
+newWords i c a n ws =
+    let new = sayWord i (addWords c a n ws) (stateWord (held c)) in
+    cond (ltb (held c) (slots (length c))) new (learned fullWord c)
+
+-- a state of n configurations
+abbrev pub onFound : ℕ → List ℕ → ℕ → ℕ → List ℕ → Option ℕ → Learned
+onFound i c a n ws none = newWords i c a n ws
+onFound i c a n ws (some s) = sayWord i c (stateWord s)
+
+unfoldable pub stateWords : ℕ → List ℕ → ℕ → ℕ → List ℕ → Learned
+unfolding findWords newWords
+stateWords i c a n ws = onFound i c a n ws (findWords c a ws)
