@@ -15,7 +15,7 @@ use Rattle.grammar.proofs.WordLaws.{length-starts-in}
 use Rattle.grammar.proofs.PlaceLaws.{length-startsAll}
 use Rattle.derivation.specs.Ready.{Ready}
 use Rattle.derivation.proofs.Stretches.{get-in}
-use Rattle.chart.proofs.GatherLaws.{rules-are, rule-within}
+use Rattle.derivation.proofs.FirstLaws.{rules-are, rule-within}
 
 starts-length : (o : ℕ) (l : List (List Symbol)) → length (startsEach o l) ≡ length l
 unfolding startsEach

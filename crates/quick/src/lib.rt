@@ -1,1 +1,2 @@
-// Nothing runs here yet: what the quick reading answers and leaves, as definitions, and demand 3 as a theorem about them.
+// The quick reading: alternatives are predicted by what the lookahead cache has learned; derivation cells are worked out only where that says nothing.
+mod choosing;
