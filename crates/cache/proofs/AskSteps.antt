@@ -1,24 +1,22 @@
 -- What lookahead tells, recorded by words, is what the definitions record of the outcome; and asking by the code's ways out.
 use mathlib.Core.Path.{_≡_, refl, sym, ap, _∙_}
-use mathlib.Core.Bool.{Bool, true, false}
 use mathlib.Core.Option.{Option, none, some}
 use mathlib.Core.List.{List}
-use Prim.Native.Nat.{ℕ, _+_, _-_, _*_, _≤_, _<_}
+use Prim.Native.Nat.{ℕ, _+_, _-_, _*_, _≤_}
 use native.Mathlib.Omega.{arith}
-use lib.Dec.{eqb, ltb}
 use lib.ListN.{length, set, take, drop, length-take}
 use borrow.Author.Tests.{eq-eqb, ne-eqb}
 use Rattle.grammar.specs.Grammar.{Grammar}
 use Rattle.lookahead.specs.Configs.{Config}
 use Rattle.lookahead.specs.Closing.{maxKept}
 use Rattle.lookahead.specs.Packing.{packAll, unpackAll}
-use Rattle.lookahead.specs.Outcomes.{Outcome, full, alternative, state, startOutcome, stepOutcome}
-use Rattle.lookahead.specs.Told.{keptWords, TellsState, Tells}
+use Rattle.lookahead.specs.Outcomes.{Outcome, state, startOutcome, stepOutcome}
+use Rattle.lookahead.specs.Told.{keptWords, Tells}
 use Rattle.lookahead.specs.declared.rules.Outcome as told
 use Rattle.lookahead.specs.declared.rules.Outcome.the-variants.{Full, Alternative, State}
 use Rattle.lookahead.proofs.PackLaws.{length-packAll}
-use Rattle.cache.specs.Layout.{slots, configsAt, startAt, stepAt, fullWord, stateWord}
-use Rattle.cache.specs.Words.{word, held, startOf, stepOf, keptCount, keptIn, setStart, setStep, addState}
+use Rattle.cache.specs.Layout.{configsAt, startAt, stepAt, fullWord, stateWord}
+use Rattle.cache.specs.Words.{word, startOf, stepOf, keptCount, keptIn, addState}
 use Rattle.cache.specs.Words as words
 use Rattle.cache.specs.Recording.{Learned, learned, holds?, find, recordNew, recordOutcome, askStart, askStep}
 use Rattle.cache.specs.ByWords.{holdsWords, searched, findWords, addWords, sayWord, newWords, onFound, stateWords, outcomeWords, Room}

@@ -6,10 +6,9 @@ ghost use lib.ListN.{length};
 ghost use Rattle.grammar.specs.Limits.{maxKinds};
 ghost use Rattle.grammar.specs.Tables.{grammarIn, nonterminalsIn};
 ghost use Rattle.derivation.specs.Ready.{Ready};
-ghost use Rattle.lookahead.specs.Outcomes.{startOutcome, stepOutcome};
-ghost use Rattle.lookahead.specs.Packing.{unpackAll};
+ghost use Rattle.lookahead.specs.Outcomes.{stepOutcome};
 ghost use Rattle.lookahead.specs.Told.{keptWords, Tells};
-ghost use Rattle.cache.specs.Layout.{minWords, slots, startAt, stepAt};
+ghost use Rattle.cache.specs.Layout.{minWords, slots};
 ghost use Rattle.cache.specs.Words.{startOf, stepOf, keptIn};
 ghost use Rattle.cache.specs.Recording.{learned, askStart, askStep};
 

@@ -2,8 +2,7 @@
 use Rattle.cache.proofs.AskSteps.{kept-few, part-short, part-kept}
 use Rattle.cache.proofs.SlotLaws.{slot-few}
 use Rattle.cache.proofs.WordLaws.{slot-within}
-use mathlib.Core.Path.{refl}
-use lib.ListN.{length-set, length}
+use lib.ListN.{length}
 use native.Mathlib.Omega.{arith}
 use borrow.Author.Needs.{needs}
 use Rattle.cache.proofs.asking.step_outcome.Statement.{statement}

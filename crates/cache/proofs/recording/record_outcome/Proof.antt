@@ -1,8 +1,5 @@
 -- `cache::recording::record_outcome` meets its contract.
 use Rattle.cache.proofs.AskSteps.{room-state, record-full, record-alternative, record-is}
-use mathlib.Core.Path.{refl}
-use lib.ListN.{length-set}
-use native.Mathlib.Omega.{arith}
 use borrow.Author.Needs.{needs}
 use Rattle.cache.proofs.recording.record_outcome.Statement.{statement}
 use Rattle.cache.proofs.recording.record_outcome.Tie as tie

@@ -1,8 +1,5 @@
 -- `cache::slots::start_of` meets its contract.
 use Rattle.cache.specs.Words.{startOf}
-use mathlib.Core.Path.{refl}
-use lib.ListN.{length-set}
-use native.Mathlib.Omega.{arith}
 use borrow.Author.Needs.{needs}
 use Rattle.cache.proofs.slots.start_of.Statement.{statement}
 use Rattle.cache.proofs.slots.start_of.Tie as tie

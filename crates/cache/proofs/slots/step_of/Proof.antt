@@ -3,10 +3,9 @@ use Rattle.cache.specs.Words.{stepOf}
 use Prim.Native.Nat.{ℕ}
 use Rattle.cache.proofs.SlotLaws.{slot-few}
 use Rattle.cache.proofs.WordLaws.{slot-within}
-use mathlib.Core.Path.{refl, ap}
-use lib.ListN.{length-set, length, getD}
+use mathlib.Core.Path.{ap}
+use lib.ListN.{length, getD}
 use native.Mathlib.Omega.{arith}
-use borrow.Author.Needs.{needs}
 use Rattle.cache.proofs.slots.step_of.Statement.{statement}
 use Rattle.cache.proofs.slots.step_of.Tie as tie
 
