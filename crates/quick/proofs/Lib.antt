@@ -5,3 +5,6 @@ pub mod LockStep
 pub mod NoteLaws
 pub mod Demand3Laws
 pub mod RestLaws
+pub mod AskLaws
+pub mod ServeLaws
+pub mod SettleLaws
