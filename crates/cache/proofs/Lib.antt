@@ -20,3 +20,4 @@ pub mod SizeLaws
 pub mod BeginSteps
 pub mod SlotLaws
 pub mod StateSteps
+pub mod AskSteps

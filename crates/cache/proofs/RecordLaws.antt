@@ -48,11 +48,11 @@ byWord c i a o b = elim b as (λ _. Learned) [ true ↦ recordOutcome (putAt i) 
 abbrev pub ask : List ℕ → ℕ → ℕ → Outcome → Learned
 ask c i a o = byWord c i a o (eqb (word c i) 0)
 
-start-ask : (g : Grammar) (c : List ℕ) (a : ℕ) → askStart g c a ≡ ask c (startAt a) a (startOutcome g a)
+pub start-ask : (g : Grammar) (c : List ℕ) (a : ℕ) → askStart g c a ≡ ask c (startAt a) a (startOutcome g a)
 unfolding askStart startOf setStart
 start-ask g c a = refl
 
-step-ask : (g : Grammar) (c : List ℕ) (a s t : ℕ) → askStep g c a s t ≡ ask c (stepAt s t) a (stepOutcome g t (keptIn c s))
+pub step-ask : (g : Grammar) (c : List ℕ) (a s t : ℕ) → askStep g c a s t ≡ ask c (stepAt s t) a (stepOutcome g t (keptIn c s))
 unfolding askStep stepOf setStep
 step-ask g c a s t = refl
 

@@ -2,12 +2,14 @@
 use mathlib.Core.Bool.{Bool, _&&_, cond}
 use mathlib.Core.Option.{Option, none, some}
 use mathlib.Core.List.{List}
-use Prim.Native.Nat.{ℕ, suc, min}
+use Prim.Native.Nat.{ℕ, suc, _*_, _≤_, min}
 use lib.Dec.{eqb, ltb}
-use lib.ListN.{length, set}
+use lib.ListN.{length, set, take}
 use lib.Seq.{sets}
 use Rattle.base.specs.Search.{lowestFrom}
-use Rattle.lookahead.specs.Closing.{sameList}
+use Rattle.lookahead.specs.Closing.{sameList, maxKept}
+use Rattle.lookahead.specs.declared.rules.Outcome.{Outcome}
+use Rattle.lookahead.specs.declared.rules.Outcome.the-variants.{Full, Alternative, State}
 use Rattle.cache.specs.Layout.{slots, heldAt, slotAt, countAt, configsAt, fullWord, stateWord}
 use Rattle.cache.specs.Words.{held, decision, keptWords}
 use Rattle.cache.specs.Recording.{Learned, learned}
@@ -58,3 +60,16 @@ onFound i c a n ws (some s) = sayWord i c (stateWord s)
 unfoldable pub stateWords : ℕ → List ℕ → ℕ → ℕ → List ℕ → Learned
 unfolding findWords newWords
 stateWords i c a n ws = onFound i c a n ws (findWords c a ws)
+
+-- an outcome that was told, with words for its state
+unfoldable pub outcomeWords : ℕ → List ℕ → ℕ → Outcome → List ℕ → Learned
+unfolding stateWords
+outcomeWords i c a Full ws = sayWord i c fullWord
+outcomeWords i c a (Alternative b) ws = sayWord i c b
+outcomeWords i c a (State n) ws = stateWords i c a n (take (3 * n) ws)
+
+-- a state that was told has no more configurations than may be kept, and its words
+unfoldable pub Room : Outcome → List ℕ → Type 0
+Room Full ws = Unit {0}
+Room (Alternative b) ws = Unit {0}
+Room (State n) ws = (n ≤ maxKept) × (3 * n ≤ length ws)

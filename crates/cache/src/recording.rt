@@ -1,4 +1,5 @@
 // States and outcomes are looked up, and recorded.
+use lookahead::Outcome;
 ghost use mathlib.Core.Path.{_≡_};
 ghost use Prim.Native.Nat.{_+_, _*_, _≤_, _<_, _^_};
 ghost use lib.ListN.{length, take};
@@ -6,7 +7,7 @@ ghost use Rattle.lookahead.specs.Closing.{maxKept};
 ghost use Rattle.cache.specs.Layout.{minWords, maxSlots, slotWords, slots, slotAt};
 ghost use Rattle.cache.specs.Words.{held};
 ghost use Rattle.cache.specs.Recording.{learned};
-ghost use Rattle.cache.specs.ByWords.{holdsWords, findWords, foundIn, addWords, sayWord, newWords, stateWords};
+ghost use Rattle.cache.specs.ByWords.{holdsWords, findWords, foundIn, addWords, sayWord, newWords, stateWords, Room, outcomeWords};
 
 // What a search for a state finds.
 pub enum Found {
@@ -88,5 +89,17 @@ fn record_state(cache: &mut [u32], i: usize, a: usize, ws: &[u32], n: usize) -> 
     match found {
         Found::Slot(s) => say(cache, i, base::word(18 + s)),
         Found::Nowhere => new_state(cache, i, a, ws, n),
+    }
+}
+
+// Records an outcome of decision a, which lookahead told, in word i.
+pub fn record_outcome(cache: &mut [u32], i: usize, a: usize, outcome: Outcome, kept: &[u32]) -> u32
+    requires { ⌜ (minWords ≤ length (now cache)) × (i < length (now cache)) × (a < 2 ^ 32) × Room outcome (now kept) ⌝ }
+    ensures { λ r. ⌜ learned r (now (cache .exit)) ≡ outcomeWords i (now (cache .entry)) a outcome (now (kept .entry)) ⌝ }
+{
+    match outcome {
+        Outcome::Full => say(cache, i, 17),
+        Outcome::Alternative(b) => say(cache, i, b),
+        Outcome::State(n) => record_state(cache, i, a, kept, n),
     }
 }

@@ -3,10 +3,10 @@ ghost use mathlib.Core.Path.{_≡_};
 ghost use Prim.Native.Nat.{_+_, _*_, _≤_, _<_};
 ghost use lib.ListN.{length, take, drop};
 ghost use lib.Seq.{sets};
-ghost use Rattle.grammar.specs.Limits.{maxKinds};
+ghost use Rattle.grammar.specs.Limits.{maxKinds, maxNonterminals};
 ghost use Rattle.lookahead.specs.Closing.{sameList};
 ghost use Rattle.cache.specs.Layout.{minWords, maxSlots, slots, slotAt, stepAt, configsAt};
-ghost use Rattle.cache.specs.Words.{held, decision, keptCount};
+ghost use Rattle.cache.specs.Words.{held, startOf, stepOf, decision, keptCount};
 ghost use Rattle.cache.specs.ByWords.{searched};
 
 // The slots of a cache of n words.
@@ -29,6 +29,14 @@ pub fn held(cache: &[u32]) -> usize
     ensures { λ r. ⌜ r ≡ held (now (cache .entry)) ⌝ }
 {
     base::number(cache[4])
+}
+
+// What is recorded for the start of decision a.
+pub fn start_of(cache: &[u32], a: usize) -> u32
+    requires { ⌜ (minWords ≤ length (now cache)) × (a < maxNonterminals) ⌝ }
+    ensures { λ r. ⌜ r ≡ startOf (now (cache .entry)) a ⌝ }
+{
+    cache[32 + a]
 }
 
 // How many slots are searched for a state.
@@ -74,6 +82,14 @@ pub fn decision(cache: &[u32], s: usize) -> usize
     ensures { λ r. ⌜ r ≡ decision (now (cache .entry)) s ⌝ }
 {
     base::number(cache[slot_at(s)])
+}
+
+// What is recorded for the step of slot s over token t.
+pub fn step_of(cache: &[u32], s: usize, t: usize) -> u32
+    requires { ⌜ (s < slots (length (now cache))) × (t ≤ maxKinds) ⌝ }
+    ensures { λ r. ⌜ r ≡ stepOf (now (cache .entry)) s t ⌝ }
+{
+    cache[step_at(s, t)]
 }
 
 // How many configurations slot s keeps.

@@ -13,3 +13,6 @@ pub mod RestLaws
 pub mod TableLaws
 pub mod PickLaws
 pub mod CountLaws
+pub mod AskLaws
+pub mod ServeLaws
+pub mod SettleLaws

@@ -1,5 +1,5 @@
 -- A frame's set that is put changes nothing else; and what words have in common that differ only in sets of frames.
-use mathlib.Core.Path.{_≡_, refl, sym, ap, _∙_}
+use mathlib.Core.Path.{_≡_, refl, ap, _∙_}
 use mathlib.Core.Logic.{_⊎_, inl, inr}
 use mathlib.Core.List.{List}
 use Prim.Native.Nat.{ℕ, zero, suc, _+_, _*_, _/_, _%_, _≤_, _<_}
@@ -15,7 +15,7 @@ use Rattle.derivation.specs.Space.{frameWords, returnsOf}
 use Rattle.chart.specs.Chart.{spot, cellsEnd, cellHas, ChartedFrom, Charted}
 use Rattle.chart.proofs.Spots.{spot-below, lent-kept}
 use Rattle.plain.specs.Frames.{frameHas}
-use Rattle.quick.specs.Sets.{returnAt, SetsOnly, Framed}
+use Rattle.quick.specs.Sets.{SetsOnly, Framed}
 
 -- words that agree where a set stands
 set-same : (ws vs : List ℕ) (at : ℕ) → ((j : ℕ) → at ≤ j → j < at + setWords → getD vs j 0 ≡ getD ws j 0) → setAt vs at ≡ setAt ws at

@@ -1,4 +1,5 @@
 -- The quick reading, and demand 3.
+pub mod Known
 pub mod Machine
 pub mod Quick
 pub mod Going

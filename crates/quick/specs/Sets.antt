@@ -37,14 +37,14 @@ pub record Framed (P n base known d : ℕ) (ws : List ℕ) : Type 0 where
 
 -- the sets from `known` on hold every position at which they can be asked from place p at position i: the topmost where p can end, each other one where
 -- the return place above it can end from a position in the set above
-pub record Asked (P n base known d p i : ℕ) (ws after : List ℕ) : Type 0 where
+pub record AskedDown (P n base known d p i : ℕ) (ws after : List ℕ) : Type 0 where
   pub kept : SetsOnly base known d ws after
   pub top : (k m : ℕ) → known ≤ k → suc k ≡ d → m < positionCount → T (cellHas P ws p i m) → T (frameHas after base k m)
   pub under : (k m j : ℕ) → known ≤ k → suc k < d → m ≤ n → j < positionCount → T (frameHas after base (suc k) m)
       → T (cellHas P ws (returnAt ws base (suc k)) m j) → T (frameHas after base k j)
 
 -- each set from `known` on keeps those of its positions from which the return place can end in the set below
-pub record Served (P n base known d : ℕ) (ws after : List ℕ) : Type 0 where
+pub record ServedUp (P n base known d : ℕ) (ws after : List ℕ) : Type 0 where
   pub kept : SetsOnly base known d ws after
   pub sets : (k m : ℕ) → known ≤ suc k → suc k < d → m ≤ n
       → frameHas after base (suc k) m ≡ (frameHas ws base (suc k) m && meetsOf (setAt ws (spot P (returnAt ws base (suc k)) m)) (setAt after (base + frameWords * k + 1)))

@@ -1,2 +1,4 @@
 // The quick reading: alternatives are predicted by what the lookahead cache has learned; derivation cells are worked out only where that says nothing.
 mod choosing;
+mod predict;
+mod sets;

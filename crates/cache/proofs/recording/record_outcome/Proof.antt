@@ -1,0 +1,58 @@
+-- `cache::recording::record_outcome` meets its contract.
+use Rattle.cache.proofs.AskSteps.{room-state, record-full, record-alternative, record-is}
+use borrow.Author.Needs.{needs}
+use Rattle.cache.proofs.recording.record_outcome.Statement.{statement}
+use Rattle.cache.proofs.recording.record_outcome.Tie as tie
+
+enum-told : tie.Need-enum-told
+enum-told c = search needs
+
+say-requires : tie.Need-say-requires
+say-requires c κs = search needs
+
+enum-known-outcome : tie.Need-enum-known-outcome
+enum-known-outcome c = search needs
+
+say-requires-2 : tie.Need-say-requires-2
+say-requires-2 c κs = search needs
+
+enum-known-outcome-2 : tie.Need-enum-known-outcome-2
+enum-known-outcome-2 c = search needs
+
+record-state-requires : tie.Need-record-state-requires
+record-state-requires c κs = let r = room-state _ (c .before .before .before .before .before .before .args .kept .now) (c .before .before .outcome2 .given .1) (c .before .before .before .before .before .before .pre .3) in (c .before .before .before .before .before .before .pre .0, c .before .before .before .before .before .before .pre .1, c .before .before .before .before .before .before .pre .2, r .0, r .1)
+
+same-length : tie.Need-same-length
+same-length c = search needs
+
+returns : tie.Need-returns
+returns c = record-full _ _ _ _ _ (c .before .before .before .before .enum-told .given .1) (c .before .before .say .ensures)
+
+same-length-2 : tie.Need-same-length-2
+same-length-2 c = search needs
+
+returns-2 : tie.Need-returns-2
+returns-2 c = record-alternative _ _ _ _ _ (c .before .before .before .before .before .outcome .given .1) (c .before .before .say2 .ensures)
+
+same-length-3 : tie.Need-same-length-3
+same-length-3 c = search needs
+
+returns-3 : tie.Need-returns-3
+returns-3 c = record-is _ _ _ _ _ (c .before .before .before .before .before .outcome2 .given .1) (c .before .before .record-state .ensures)
+
+pub record-outcome-spec : {M : Type 1} → statement M
+record-outcome-spec =
+    tie.close
+    (tie.spec
+    enum-told
+    say-requires
+    enum-known-outcome
+    say-requires-2
+    enum-known-outcome-2
+    record-state-requires
+    same-length
+    returns
+    same-length-2
+    returns-2
+    same-length-3
+    returns-3)

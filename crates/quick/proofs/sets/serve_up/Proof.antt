@@ -1,0 +1,72 @@
+-- `quick::sets::serve_up` meets its contract.
+use mathlib.Core.Path.{_≡_, refl}
+use Prim.Native.Nat.{_≤_, _-_}
+use native.Mathlib.Omega.{arith}
+use lib.ListN.{length}
+use borrow.Author.Needs.{needs}
+use Rattle.quick.specs.Sets.{ServedUp}
+use Rattle.chart.proofs.Spots.{lent-kept}
+use Rattle.quick.proofs.ServeLaws.{serving-begins, serving-place, serving-more, serving-ends}
+use Rattle.quick.proofs.sets.serve_up.Statement.{statement}
+use Rattle.quick.proofs.sets.serve_up.Tie as tie
+
+abbrev Inv-loop : tie.InvT-loop
+Inv-loop ws₀ places n base known d k₀ ws k = (known ≤ k) × (k ≤ d) × (length ws ≡ length ws₀) × ServedUp places n base known k ws₀ ws
+
+abbrev μ-loop : tie.MeasureT-loop
+μ-loop ws₀ places n base known d k₀ ws k = d - k
+
+loop-holds : tie.Need-loop-holds Inv-loop μ-loop
+loop-holds c = (omega arith, c .before .pre .most, refl, serving-begins _ _ _ _ _)
+
+rest-requires : tie.Need-rest-requires Inv-loop μ-loop
+rest-requires c κs = search needs
+
+return-place-requires : tie.Need-return-place-requires Inv-loop μ-loop
+return-place-requires c κs = search needs
+
+sub-rest : tie.Need-sub-rest Inv-loop μ-loop
+sub-rest c = search needs
+
+rest-requires-2 : tie.Need-rest-requires-2 Inv-loop μ-loop
+rest-requires-2 c κs = search needs
+
+serving-requires : tie.Need-serving-requires Inv-loop μ-loop
+serving-requires c κs = (lent-kept (omega arith) (c .before .before .before .before .before .before .before .before .before .before .pre .lent), serving-place _ _ _ _ _ _ (c .before .before .before .before .before .before .before .before .before .before .pre) _ _ (c .before .before .before .before .before .before .before .before .loop .inv .3) (c .before .before .before .before .before .before .before .before .loop .inv .0) (omega arith) (c .before .before .before .return-place .ensures))
+
+put-rest-requires : tie.Need-put-rest-requires Inv-loop μ-loop
+put-rest-requires c κs = search needs
+
+add-k : tie.Need-add-k Inv-loop μ-loop
+add-k c = search needs
+
+loop-less : tie.Need-loop-less Inv-loop μ-loop
+loop-less c = search needs
+
+loop-again : tie.Need-loop-again Inv-loop μ-loop
+loop-again c = (omega arith, omega arith, omega arith, serving-more _ _ _ _ _ _ (c .before .before .before .before .before .before .before .before .before .before .before .before .before .before .before .pre) _ _ (c .before .before .before .before .before .before .before .before .before .before .before .before .before .loop .inv .3) (c .before .before .before .before .before .before .before .before .before .before .before .before .before .loop .inv .0) (omega arith) (c .before .before .before .before .before .before .before .before .return-place .ensures) _ (c .before .before .before .before .before .before .before .before .before .before .rest .ensures) (c .before .before .before .before .before .before .rest2 .ensures) (c .before .before .before .before .serving .ensures) (c .before .before .put-rest .ensures))
+
+same-length : tie.Need-same-length Inv-loop μ-loop
+same-length c = search needs
+
+returns : tie.Need-returns Inv-loop μ-loop
+returns c = serving-ends _ _ _ _ _ _ (c .before .loop .inv .3) (omega arith)
+
+pub serve-up-spec : {M : Type 1} → statement M
+serve-up-spec =
+    tie.close
+    (tie.spec
+    Inv-loop
+    μ-loop
+    loop-holds
+    rest-requires
+    return-place-requires
+    sub-rest
+    rest-requires-2
+    serving-requires
+    put-rest-requires
+    add-k
+    loop-less
+    loop-again
+    same-length
+    returns)
