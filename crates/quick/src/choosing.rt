@@ -81,7 +81,7 @@ fn full(
 }
 
 // Place p over d frames faces nonterminal a at position i: what is taken, and the place behind p as frame d.
-pub fn pick(
+pub fn decide(
     tables: &[u16],
     note: &[u16],
     cache: &mut [u32],

@@ -19,7 +19,7 @@ pub fn predict(tables: &[u16], note: &[u16], cache: &mut [u32], a: usize, i: usi
     ensures { λ r. ⌜ learned r (now (cache .exit)) ≡ predict (grammarIn (now (tables .entry))) (now (cache .entry)) a (drop i (marked (now (note .entry)))) ⌝ }
 {
     let n = note.len();
-    let slots = cache::slots(cache.len());
+    let slots = cache::slot_count(cache.len());
     let mut said = cache::ask_start(tables, cache, a);
     let mut j = i;
     while FULL < said {
