@@ -1,0 +1,112 @@
+use Rattle.quick.proofs.predict.predict.Statement.{statement}
+use Rattle.quick.proofs.predict.predict.Tie as tie
+use Rattle.quick.proofs.predict.predict.Reads as reads
+use Rattle.quick.proofs.predict.predict.Lts as lts
+use Rattle.base.proofs.number.Reads as number-reads
+use Rattle.cache.proofs.ask_start.Reads as ask-start-reads
+use Rattle.cache.proofs.ask_step.Reads as ask-step-reads
+use Rattle.cache.proofs.slot_count.Reads as slots-reads
+use Rattle.plain.proofs.machine.token_at.Reads as token-at-reads
+
+abbrev Inv-loop : tie.InvT-loop
+Inv-loop tables note cache₀ a i n slots said₀ j₀ cache said j = ?
+
+abbrev μ-loop : tie.MeasureT-loop
+μ-loop tables note cache₀ a i n slots said₀ j₀ cache said j = ?
+
+-- src/predict.rt:22:9
+slots-requires : tie.Need-slots-requires Inv-loop μ-loop
+slots-requires c κs = ?
+
+-- src/predict.rt:23:9
+ask-start-requires : tie.Need-ask-start-requires Inv-loop μ-loop
+ask-start-requires c κs = ?
+
+-- src/predict.rt:25:5
+loop-holds : tie.Need-loop-holds Inv-loop μ-loop
+loop-holds c = ?
+
+-- src/predict.rt:26:17
+number-requires : tie.Need-number-requires Inv-loop μ-loop
+number-requires c κs = ?
+
+-- src/predict.rt:26:17
+sub-s : tie.Need-sub-s Inv-loop μ-loop
+sub-s c = ?
+
+-- src/predict.rt:28:13
+same-length : tie.Need-same-length Inv-loop μ-loop
+same-length c = ?
+
+-- src/predict.rt:28:13
+returns : tie.Need-returns Inv-loop μ-loop
+returns c = ?
+
+-- src/predict.rt:31:13
+same-length-2 : tie.Need-same-length-2 Inv-loop μ-loop
+same-length-2 c = ?
+
+-- src/predict.rt:31:13
+returns-2 : tie.Need-returns-2 Inv-loop μ-loop
+returns-2 c = ?
+
+-- src/predict.rt:33:13
+token-at-requires : tie.Need-token-at-requires Inv-loop μ-loop
+token-at-requires c κs = ?
+
+-- src/predict.rt:34:9
+ask-step-requires : tie.Need-ask-step-requires Inv-loop μ-loop
+ask-step-requires c κs = ?
+
+-- src/predict.rt:35:9
+add-j : tie.Need-add-j Inv-loop μ-loop
+add-j c = ?
+
+-- src/predict.rt:25:5
+loop-less : tie.Need-loop-less Inv-loop μ-loop
+loop-less c = ?
+
+-- src/predict.rt:25:5
+loop-again : tie.Need-loop-again Inv-loop μ-loop
+loop-again c = ?
+
+-- src/predict.rt:38:9
+same-length-3 : tie.Need-same-length-3 Inv-loop μ-loop
+same-length-3 c = ?
+
+-- src/predict.rt:38:9
+returns-3 : tie.Need-returns-3 Inv-loop μ-loop
+returns-3 c = ?
+
+-- src/predict.rt:17:1
+same-length-4 : tie.Need-same-length-4 Inv-loop μ-loop
+same-length-4 c = ?
+
+-- src/predict.rt:17:1
+returns-4 : tie.Need-returns-4 Inv-loop μ-loop
+returns-4 c = ?
+
+pub predict-spec : {M : Type 1} → statement M
+predict-spec =
+    tie.close
+    (tie.spec
+    Inv-loop
+    μ-loop
+    slots-requires
+    ask-start-requires
+    loop-holds
+    number-requires
+    sub-s
+    same-length
+    returns
+    same-length-2
+    returns-2
+    token-at-requires
+    ask-step-requires
+    add-j
+    loop-less
+    loop-again
+    same-length-3
+    returns-3
+    same-length-4
+    returns-4)
