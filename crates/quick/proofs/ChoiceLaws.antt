@@ -36,7 +36,7 @@ in-drop (suc i) [] m = m
 in-drop (suc i) (x ∷ l) m = List·Memᴰ·tail (in-drop i l m)
 
 module _ (g : Grammar) (w : List ℕ) where
-  settle-words : (S : List ℕ) (a i : ℕ) (l : Learned) → (settle g w S a i l) .words ≡ l .words
+  pub settle-words : (S : List ℕ) (a i : ℕ) (l : Learned) → (settle g w S a i l) .words ≡ l .words
   unfolding settle
   settle-words S a i l = go (named? (length (alternatives g a)) (l .said))
     where

@@ -13,6 +13,9 @@ pub mod RestLaws
 pub mod TableLaws
 pub mod PickLaws
 pub mod CountLaws
+pub mod NamedLaws
+pub mod ChoseLaws
+pub mod OpeningLaws
 pub mod AskLaws
 pub mod ServeLaws
 pub mod SettleLaws

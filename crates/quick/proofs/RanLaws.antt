@@ -27,11 +27,10 @@ use Rattle.plain.proofs.GoingLaws.{frames-in}
 use Rattle.plain.proofs.CallLaws.{some-of}
 use Rattle.plain.proofs.RanLaws.{no-token}
 use Rattle.quick.specs.Machine.{Picked, quickChoice, Ended, stopped}
-use Rattle.quick.specs.Quick.{quickNote}
 use Rattle.quick.specs.Going.{Going, choiceAt, Chose, Ran}
 use Rattle.quick.proofs.GoingLaws.{going-pop, going-match, going-prepared, going-pick, going-none, going-other, going-full, going-unserved, going-accepted, going-left}
 
-none-of : {r : ℕ} (o : Option ℕ) → r ≡ orZero o → r ≡ 0 → (o ≡ some 0 → ⊥) → o ≡ none
+pub none-of : {r : ℕ} (o : Option ℕ) → r ≡ orZero o → r ≡ 0 → (o ≡ some 0 → ⊥) → o ≡ none
 none-of none e z n = refl
 none-of (some b) e z n = absurd (n (ap some (sym e ∙ z)))
 
@@ -64,23 +63,23 @@ turn-pop t h w {end} {row} {ws} {c} {count} {p} {i} {d} {known} {base} {r} x n e
         rw (y, q ∙ (let u : getD ws (base + frameWords * (d - 1)) 0 ≡ getD ws (ground t w + frameWords * k) 0 = rw (b, y) in u)) (going-pop t h w x e)
 
 -- ---- ways out
-module _ (t : List ℕ) (h : Ready t) (w : List ℕ) {row₀ ws₀ c₀ row ws c : List ℕ} {count p i d known : ℕ} (x : Going t w (quickNote (grammarIn t) w (length row₀) c₀) row ws c count p i d known)
+module _ (t : List ℕ) (h : Ready t) (w : List ℕ) {end : Ended} {row₀ ws₀ row ws c : List ℕ} {count p i d known : ℕ} (x : Going t w end row ws c count p i d known)
     (e : length row ≡ length row₀) (f : length ws ≡ length ws₀) where
-  stops : {r : Outcome} → stopped (outcomeIn r row) c ≡ quickNote (grammarIn t) w (length row₀) c₀ → ((count : ℕ) → r ≡ Accepted count → count ≤ length row) → Ran t w row₀ ws₀ c₀ r known row ws c
+  stops : {r : Outcome} → stopped (outcomeIn r row) c ≡ end → ((count : ℕ) → r ≡ Accepted count → count ≤ length row) → Ran t w end row₀ ws₀ r known row ws c
   stops q l = record { ended = q; within = l; row-kept = e; space-kept = f; charted = x .charted }
 
-  pub out-none : {k : ℕ} → facing (grammarIn t) p ≡ Token k → length w < i → Ran t w row₀ ws₀ c₀ Stuck known row ws c
+  pub out-none : {k : ℕ} → facing (grammarIn t) p ≡ Token k → length w < i → Ran t w end row₀ ws₀ Stuck known row ws c
   out-none q l = stops (going-none t h w x q (no-token (marked w) i (omega (arith, length-marked w)))) (λ c z. clash (cc))
 
-  pub out-other : {k u : ℕ} → facing (grammarIn t) p ≡ Token k → getElem? (marked w) i ≡ some u → (u ≡ k → ⊥) → Ran t w row₀ ws₀ c₀ Stuck known row ws c
+  pub out-other : {k u : ℕ} → facing (grammarIn t) p ≡ Token k → getElem? (marked w) i ≡ some u → (u ≡ k → ⊥) → Ran t w end row₀ ws₀ Stuck known row ws c
   unfolding admits
   out-other {k} {u} q g n = stops (going-other t h w x q g (ne-eqb k u (λ z. n (sym z)))) (λ c z. clash (cc))
 
-  pub out-full : {a : ℕ} → facing (grammarIn t) p ≡ Nonterminal a → count ≡ length row → Ran t w row₀ ws₀ c₀ Full known row ws c
+  pub out-full : {a : ℕ} → facing (grammarIn t) p ≡ Nonterminal a → count ≡ length row → Ran t w end row₀ ws₀ Full known row ws c
   out-full q z = stops (going-full t h w x q (omega arith)) (λ c z. clash (cc))
 
   pub out-unserved : {a r known′ : ℕ} {after c′ : List ℕ} → facing (grammarIn t) p ≡ Nonterminal a → (count ≡ length row → ⊥) → Chose t w ws after c c′ d p a i known′ r → r ≡ 0
-      → ((choiceAt t w ws c d p a i) .choice ≡ some 0 → ⊥) → Ran t w row₀ ws₀ c₀ Stuck known′ row after c′
+      → ((choiceAt t w ws c d p a i) .choice ≡ some 0 → ⊥) → Ran t w end row₀ ws₀ Stuck known′ row after c′
   out-unserved {a} q n y z u =
       record {
         ended = ap (stopped stuck) (y .words) ∙ going-unserved t h w x q (omega (arith, x .fits)) (none-of ((choiceAt t w ws c d p a i) .choice) (y .chosen) z u);
@@ -90,9 +89,9 @@ module _ (t : List ℕ) (h : Ready t) (w : List ℕ) {row₀ ws₀ c₀ row ws c
         charted = y .charted;
       }
 
-module _ (t : List ℕ) (h : Ready t) (w : List ℕ) {row₀ ws₀ c₀ row ws c : List ℕ} {count p i d known : ℕ} (x : Going t w (quickNote (grammarIn t) w (length row₀) c₀) row ws c count p i d known)
+module _ (t : List ℕ) (h : Ready t) (w : List ℕ) {end : Ended} {row₀ ws₀ row ws c : List ℕ} {count p i d known : ℕ} (x : Going t w end row ws c count p i d known)
     (e : length row ≡ length row₀) (f : length ws ≡ length ws₀) (z : d ≡ 0) (q : facing (grammarIn t) p ≡ End) where
-  pub out-accepted : i ≡ length w + 1 → Ran t w row₀ ws₀ c₀ (Accepted count) known row ws c
+  pub out-accepted : i ≡ length w + 1 → Ran t w end row₀ ws₀ (Accepted count) known row ws c
   out-accepted l =
       record {
         ended = going-accepted t h w (rw z at x) q (l ∙ add-one (length w));
@@ -102,6 +101,6 @@ module _ (t : List ℕ) (h : Ready t) (w : List ℕ) {row₀ ws₀ c₀ row ws c
         charted = x .charted;
       }
 
-  pub out-left : (i ≡ length w + 1 → ⊥) → Ran t w row₀ ws₀ c₀ Stuck known row ws c
+  pub out-left : (i ≡ length w + 1 → ⊥) → Ran t w end row₀ ws₀ Stuck known row ws c
   out-left n =
       record { ended = going-left t h w (rw z at x) q (λ l. n (l ∙ sym (add-one (length w)))); within = λ c y. clash (cc); row-kept = e; space-kept = f; charted = x .charted }

@@ -22,7 +22,6 @@ use Rattle.plain.specs.Machine.{ground, waiting, Called, outcomeIn, Counted}
 use Rattle.plain.specs.Going.{after, steps}
 use Rattle.cache.specs.Layout.{minWords}
 use Rattle.quick.specs.Machine.{Picked, quickChoice, Ended, stopped, quickRun}
-use Rattle.quick.specs.Quick.{quickNote}
 
 -- the alternatives of a list, and then this end
 abbrev pub beyond : List ℕ → Ended → Ended
@@ -88,9 +87,23 @@ pub record Found (t w ws after : List ℕ) (d p a i r : ℕ) : Type 0 where
   pub prepared : Prepared t w ws mid d p i d
   pub called : Called t w mid after d p a i r
 
--- how the machine stopped, with the row, the working space and the cache that it left
-pub record Ran (t w row ws c : List ℕ) (r : Outcome) (known : ℕ) (row′ ws′ c′ : List ℕ) : Type 0 where
-  pub ended : stopped (outcomeIn r row′) c′ ≡ quickNote (grammarIn t) w (length row) c
+-- the same for nonterminal 0 over the end place, with which a reading begins
+pub record Began (t w ws after c c′ : List ℕ) (known r : ℕ) : Type 0 where
+  pub chosen : r ≡ orZero ((quickChoice (grammarIn t) (marked w) c (endPlace ∷ []) 0 0) .choice)
+  pub words : c′ ≡ (quickChoice (grammarIn t) (marked w) c (endPlace ∷ []) 0 0) .words
+  pub kept : length after ≡ length ws
+  pub charted : 0 < known → Charted t w after
+  pub pushed : ¬ (r ≡ 0) → getD after (ground t w + frameWords * 0) 0 ≡ endPlace
+  pub sets : (f m : ℕ) → 0 < known → first (grammarIn t) 0 r ≡ some f → T (derives? (grammarIn t) (marked w) f 0 m)
+      → frameHas after (ground t w) 0 m ≡ runs? (grammarIn t) (marked w) (endPlace ∷ []) m
+
+-- where the machine goes from there: the first entry is in the row, the end place is frame 0
+abbrev pub ahead : List ℕ → List ℕ → List ℕ → List ℕ → List ℕ → ℕ → Ended
+ahead t w row ws c f = beyond (take 1 row) (onward t w (steps (length row - 1) (length w) 0 1) (f ∷ returnsOf ws (ground t w) 1) 0 (length row - 1) c)
+
+-- how the machine stopped, with the row, the working space and the cache that it left; its end is that of the definitions
+pub record Ran (t w : List ℕ) (end : Ended) (row ws : List ℕ) (r : Outcome) (known : ℕ) (row′ ws′ c′ : List ℕ) : Type 0 where
+  pub ended : stopped (outcomeIn r row′) c′ ≡ end
   pub within : Counted r row′
   pub row-kept : length row′ ≡ length row
   pub space-kept : length ws′ ≡ length ws

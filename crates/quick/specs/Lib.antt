@@ -3,5 +3,6 @@ pub mod Known
 pub mod Machine
 pub mod Quick
 pub mod Going
+pub mod Stop
 pub mod Demand3
 pub mod Sets

@@ -19,7 +19,7 @@ pub struct Pick {
 }
 
 // Frame d, of a predicted alternative: the return place q alone. How many sets stand after that.
-fn push(ws: &mut [u32], base: usize, known: usize, d: usize, q: usize) -> usize
+pub fn push(ws: &mut [u32], base: usize, known: usize, d: usize, q: usize) -> usize
     requires { ⌜ (base + frameWords * suc d ≤ length (now ws)) × (q < 4294967296) ⌝ }
     ensures { λ r. ⌜ (now (ws .exit) ≡ set (now (ws .entry)) (base + frameWords * d) q) × (r ≡ min known d) ⌝ }
 {
