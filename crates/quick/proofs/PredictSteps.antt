@@ -7,16 +7,21 @@ use native.Mathlib.Numerals.{add-one}
 use native.Mathlib.Omega.{arith}
 use mathlib.Core.Bool.{Bool, true, false}
 use lib.Dec.{ltb}
-use lib.ListN.{length, getElem?, drop, drop-of-length-le}
+use lib.ListN.{length, getD, getElem?, drop, drop-of-length-le}
 use borrow.Author.Tests.{ltb-true, ltb-false}
-use Rattle.grammar.specs.Grammar.{Grammar}
+use Rattle.grammar.specs.Limits.{maxKinds}
+use Rattle.grammar.specs.Grammar.{Grammar, compile}
+use Rattle.grammar.specs.Tables.{grammarIn}
 use Rattle.derivation.specs.Runs.{marked}
-use Rattle.derivation.proofs.Notes.{drop-of-get}
+use Rattle.derivation.specs.Ready.{Ready}
+use Rattle.derivation.proofs.Notes.{drop-of-get, get-lt}
 use Rattle.derivation.proofs.MarkedCells.{length-marked}
 use Rattle.cache.specs.Layout.{slots, fullWord, stateWord}
 use Rattle.cache.specs.Recording.{Learned, learned, askStart, askStep}
 use Rattle.cache.specs.Predict.{follow, predict}
 use Rattle.cache.proofs.FollowLaws.{meaning-none, meaning-full, meaning-beyond, meaning-chosen, meaning-state, follow-unsure, follow-sure, follow-over, follow-on}
+use Rattle.plain.proofs.CallLaws.{token-mark, token-note}
+use Rattle.quick.specs.Known.{Known}
 
 module _ (g : Grammar) (a : ℕ) (w : List ℕ) where
   -- where a prediction stands: this was said of what lies before position j, and the rest is left
@@ -55,3 +60,30 @@ module _ (g : Grammar) (a : ℕ) (w : List ℕ) where
         go false e =
             let z : said ≡ fullWord = omega (arith, ltb-false said fullWord e) in
             ap (λ (v : ℕ). learned v c) z ∙ sym (follow-unsure g (drop j (marked w)) a (learned said c) (rw z (meaning-full (slots (length c))))) ∙ x .is
+
+-- a prediction begins as its decision's start says
+pub predict-starts : (g : Grammar) (c : List ℕ) (a : ℕ) (ts : List ℕ) {l : Learned} → l ≡ askStart g c a → follow g a ts l ≡ predict g c a ts
+unfolding predict
+predict-starts g c a ts e = ap (follow g a ts) e
+
+-- what was asked kept the length
+pub words-kept : {l m : Learned} {n : ℕ} → l ≡ m → length (m .words) ≡ n → length (l .words) ≡ n
+words-kept e k = ap (λ (l : Learned). length (l .words)) e ∙ k
+
+-- tokens of a known note, and the end mark, are within the limits
+pub token-small : (t : List ℕ) → Ready t → (w : List ℕ) → Known (grammarIn t .kinds) w → (j : ℕ) {u : ℕ} → getElem? (marked w) j ≡ some u → u ≤ maxKinds
+unfolding compile
+token-small t h w k j {u} e = go (ltb j (length w)) refl
+  where
+    kinds : grammarIn t .kinds ≤ maxKinds
+    kinds = rw (h .says) (h .limited .kinds-most)
+
+    go : (b : Bool) → ltb j (length w) ≡ b → u ≤ maxKinds
+    go true q =
+        let l = ltb-true j (length w) q in
+        let z : some (getD w j 0) ≡ some u = sym (token-note w j l refl) ∙ e in
+        let y : getD w j 0 ≡ u = cc in omega (arith, k j l .1, kinds)
+    go false q =
+        let n : j < length (marked w) = get-lt (marked w) j e in
+        let z : some 0 ≡ some u = sym (token-mark w j (omega (arith, ltb-false j (length w) q, length-marked w))) ∙ e in
+        let y : 0 ≡ u = cc in omega arith

@@ -1,3 +1,6 @@
+use mathlib.Core.Path.{ap}
+use native.Mathlib.Omega.{arith}
+use lib.ListN.{set}
 use borrow.Author.Needs.{needs}
 use Rattle.quick.proofs.choosing.push.Statement.{statement}
 use Rattle.quick.proofs.choosing.push.Tie as tie
@@ -31,7 +34,7 @@ same-length c = search needs
 
 -- src/choosing.rt:28:9
 returns : tie.Need-returns
-returns c = ?
+returns c = (cc, omega arith)
 
 -- src/choosing.rt:22:1
 same-length-2 : tie.Need-same-length-2
@@ -39,7 +42,7 @@ same-length-2 c = search needs
 
 -- src/choosing.rt:22:1
 returns-2 : tie.Need-returns-2
-returns-2 c = ?
+returns-2 c = (cc, omega arith)
 
 pub push-spec : {M : Type 1} → statement M
 push-spec =
