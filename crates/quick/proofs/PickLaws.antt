@@ -42,7 +42,7 @@ module _ (g : Grammar) (w S : List ℕ) (a i : ℕ) where
 
   named-false : (n b : ℕ) → (0 < b → n < b) → named? n b ≡ false
   named-false n zero h = refl
-  named-false n (suc b) h = rw (lt-leb (suc b) n (h (omega arith)), and-none) 
+  named-false n (suc b) h = rw (lt-leb (suc b) n (h (omega arith)), and-none)
 
   pub settle-full : (l : Learned) → (0 < l .said → length (alternatives g a) < l .said) → settle g w S a i l ≡ picked (lowest g w S a i) (l .words)
   unfolding settle

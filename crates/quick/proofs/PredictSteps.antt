@@ -19,6 +19,7 @@ use Rattle.derivation.proofs.MarkedCells.{length-marked}
 use Rattle.cache.specs.Layout.{slots, fullWord, stateWord}
 use Rattle.cache.specs.Recording.{Learned, learned, askStart, askStep}
 use Rattle.cache.specs.Predict.{follow, predict}
+use Rattle.cache.proofs.LengthLaws.{length-askStart, length-askStep}
 use Rattle.cache.proofs.FollowLaws.{meaning-none, meaning-full, meaning-beyond, meaning-chosen, meaning-state, follow-unsure, follow-sure, follow-over, follow-on}
 use Rattle.plain.proofs.CallLaws.{token-mark, token-note}
 use Rattle.quick.specs.Known.{Known}
@@ -28,26 +29,25 @@ module _ (g : Grammar) (a : ℕ) (w : List ℕ) where
   pub record Asking (end : Learned) (j said : ℕ) (c : List ℕ) : Type 0 where
     pub is : follow g a (drop j (marked w)) (learned said c) ≡ end
 
-  pub asking-begins : (c : List ℕ) (i : ℕ) {said : ℕ} {c′ : List ℕ} → learned said c′ ≡ askStart g c a → Asking (predict g c a (drop i (marked w))) i said c′
-  unfolding predict
-  asking-begins c i e = record { is = ap (follow g a (drop i (marked w))) e }
-
   module _ {end : Learned} {j said : ℕ} {c : List ℕ} (x : Asking end j said c) where
-    pub asking-on : {s t : ℕ} {said′ : ℕ} {c′ : List ℕ} → fullWord < said → s ≡ said - 18 → s < slots (length c) → getElem? (marked w) j ≡ some t
-        → learned said′ c′ ≡ askStep g c a s t → Asking end (j + 1) said′ c′
-    asking-on {s} {t} l e k q z =
-        rw (add-one j)
-        (record { is = ap (follow g a (drop (suc j) (marked w))) z
-        ∙ sym (follow-on g t (drop (suc j) (marked w)) a s (learned said c) (meaning-state (slots (length c)) said s (omega arith) k))
-        ∙ ap (λ (ts : List ℕ). follow g a ts (learned said c)) (sym (drop-of-get (marked w) j q)) ∙ x .is })
+    -- a step, r being what was said as a number
+    module _ {r : ℕ} (e : r ≡ said) (l : fullWord < said) {n : ℕ} (k : n ≡ slots (length c)) where
+      pub asking-on : {t : ℕ} {said′ : ℕ} {c′ : List ℕ} → r - 18 < n → getElem? (marked w) j ≡ some t → learned said′ c′ ≡ askStep g c a (r - 18) t → Asking end (j + 1) said′ c′
+      asking-on {t} h q z =
+          rw (add-one j)
+          (record {
+            is = ap (follow g a (drop (suc j) (marked w))) z
+                ∙ sym (follow-on g t (drop (suc j) (marked w)) a (r - 18) (learned said c) (meaning-state (slots (length c)) said (r - 18) (omega arith) (omega arith)))
+                ∙ ap (λ (ts : List ℕ). follow g a ts (learned said c)) (sym (drop-of-get (marked w) j q)) ∙ x .is;
+          })
 
-    pub asking-beyond : {s n : ℕ} → fullWord < said → s ≡ said - 18 → n ≡ slots (length c) → n ≤ s → learned fullWord c ≡ end
-    asking-beyond l e k h = sym (follow-unsure g (drop j (marked w)) a (learned said c) (meaning-beyond (slots (length c)) said l (omega arith))) ∙ x .is
+      pub asking-beyond : n ≤ r - 18 → learned fullWord c ≡ end
+      asking-beyond h = sym (follow-unsure g (drop j (marked w)) a (learned said c) (meaning-beyond (slots (length c)) said l (omega arith))) ∙ x .is
 
-    pub asking-over : {s n : ℕ} → fullWord < said → s ≡ said - 18 → n ≡ slots (length c) → (s < n) → length w < j → learned fullWord c ≡ end
-    asking-over {s} l e k h m =
-        sym (follow-over g a s (learned said c) (meaning-state (slots (length c)) said s (omega arith) (omega arith)))
-        ∙ ap (λ (ts : List ℕ). follow g a ts (learned said c)) (sym (drop-of-length-le (marked w) {i = j} (omega (arith, length-marked w)))) ∙ x .is
+      pub asking-over : r - 18 < n → length w < j → learned fullWord c ≡ end
+      asking-over h m =
+          sym (follow-over g a (r - 18) (learned said c) (meaning-state (slots (length c)) said (r - 18) (omega arith) (omega arith)))
+          ∙ ap (λ (ts : List ℕ). follow g a ts (learned said c)) (sym (drop-of-length-le (marked w) {i = j} (omega (arith, length-marked w)))) ∙ x .is
 
     pub asking-none : said ≡ 0 → learned fullWord c ≡ end
     asking-none e = sym (follow-unsure g (drop j (marked w)) a (learned said c) (rw e (meaning-none (slots (length c))))) ∙ x .is
@@ -66,9 +66,16 @@ pub predict-starts : (g : Grammar) (c : List ℕ) (a : ℕ) (ts : List ℕ) {l :
 unfolding predict
 predict-starts g c a ts e = ap (follow g a ts) e
 
--- what was asked kept the length
-pub words-kept : {l m : Learned} {n : ℕ} → l ≡ m → length (m .words) ≡ n → length (l .words) ≡ n
+-- what is asked keeps the cache's length, so the count of its slots
+words-kept : {l m : Learned} {n : ℕ} → l ≡ m → length (m .words) ≡ n → length (l .words) ≡ n
 words-kept e k = ap (λ (l : Learned). length (l .words)) e ∙ k
+
+module _ (g : Grammar) (c : List ℕ) (a : ℕ) {n said : ℕ} {c′ : List ℕ} where
+  pub start-slots : learned said c′ ≡ askStart g c a → n ≡ slots (length c) → n ≡ slots (length c′)
+  start-slots e k = k ∙ ap slots (sym (words-kept e (length-askStart g c a)))
+
+  pub step-slots : (s t : ℕ) → learned said c′ ≡ askStep g c a s t → n ≡ slots (length c) → n ≡ slots (length c′)
+  step-slots s t e k = k ∙ ap slots (sym (words-kept e (length-askStep g c a s t)))
 
 -- tokens of a known note, and the end mark, are within the limits
 pub token-small : (t : List ℕ) → Ready t → (w : List ℕ) → Known (grammarIn t .kinds) w → (j : ℕ) {u : ℕ} → getElem? (marked w) j ≡ some u → u ≤ maxKinds

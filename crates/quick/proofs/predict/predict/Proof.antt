@@ -9,7 +9,7 @@ use Rattle.derivation.specs.Runs.{marked}
 use Rattle.cache.specs.Layout as layout
 use Rattle.cache.specs.Recording.{learned}
 use Rattle.cache.specs.Predict.{follow}
-use Rattle.quick.proofs.PredictSteps.{Asking, asking-on, asking-beyond, asking-over, asking-none, asking-some, predict-starts, token-small}
+use Rattle.quick.proofs.PredictSteps.{Asking, asking-on, asking-beyond, asking-over, asking-none, asking-some, predict-starts, start-slots, step-slots, token-small}
 use Rattle.quick.proofs.predict.predict.Statement.{statement}
 use Rattle.quick.proofs.predict.predict.Tie as tie
 use Rattle.quick.proofs.predict.predict.Reads as reads
@@ -37,7 +37,7 @@ ask-start-requires c κs = ((c .before .before .before .before .before .pre .0),
 
 -- src/predict.rt:25:5
 loop-holds : tie.Need-loop-holds Inv-loop μ-loop
-loop-holds c = (record { is = refl }, omega arith, omega arith, refl)
+loop-holds c = (record { is = refl }, omega arith, start-slots _ _ _ (c .before .before .ask-start .ensures) (c .before .before .before .before .slots .ensures), refl)
 
 -- src/predict.rt:26:17
 number-requires : tie.Need-number-requires Inv-loop μ-loop
@@ -53,7 +53,7 @@ same-length c = search needs
 
 -- src/predict.rt:28:13
 returns : tie.Need-returns Inv-loop μ-loop
-returns c = asking-beyond _ _ _ (c .before .before .before .loop .inv .0) (omega arith) (omega arith) (c .before .before .before .loop .inv .2) (omega arith) ∙ predict-starts _ _ _ _ (c .before .before .before .before .before .before .ask-start .ensures)
+returns c = asking-beyond _ _ _ (c .before .before .before .loop .inv .0) (c .before .number .ensures) (omega arith) (c .before .before .before .loop .inv .2) (omega arith) ∙ predict-starts _ _ _ _ (c .before .before .before .before .before .before .ask-start .ensures)
 
 -- src/predict.rt:31:13
 same-length-2 : tie.Need-same-length-2 Inv-loop μ-loop
@@ -61,7 +61,7 @@ same-length-2 c = search needs
 
 -- src/predict.rt:31:13
 returns-2 : tie.Need-returns-2 Inv-loop μ-loop
-returns-2 c = asking-over _ _ _ (c .before .before .before .before .loop .inv .0) (omega arith) (omega arith) (c .before .before .before .before .loop .inv .2) (omega arith) (omega arith) ∙ predict-starts _ _ _ _ (c .before .before .before .before .before .before .before .ask-start .ensures)
+returns-2 c = asking-over _ _ _ (c .before .before .before .before .loop .inv .0) (c .before .before .number .ensures) (omega arith) (c .before .before .before .before .loop .inv .2) (omega arith) (omega arith) ∙ predict-starts _ _ _ _ (c .before .before .before .before .before .before .before .ask-start .ensures)
 
 -- src/predict.rt:33:13
 token-at-requires : tie.Need-token-at-requires Inv-loop μ-loop
@@ -69,7 +69,7 @@ token-at-requires c κs = omega arith
 
 -- src/predict.rt:34:9
 ask-step-requires : tie.Need-ask-step-requires Inv-loop μ-loop
-ask-step-requires c κs = ((c .before .before .before .before .before .before .before .before .before .before .before .before .before .before .before .pre .0), omega arith, token-small _ (c .before .before .before .before .before .before .before .before .before .before .before .before .before .before .before .pre .0) _ (c .before .before .before .before .before .before .before .before .before .before .before .before .before .before .before .pre .4) _ (c .before .token-at .ensures), omega arith)
+ask-step-requires c κs = ((c .before .before .before .before .before .before .before .before .before .before .before .before .before .before .before .pre .0), omega arith, token-small _ (c .before .before .before .before .before .before .before .before .before .before .before .before .before .before .before .pre .0) (c .before .before .before .before .before .before .before .before .before .before .before .before .before .before .before .args .note .now) (c .before .before .before .before .before .before .before .before .before .before .before .before .before .before .before .pre .4) (c .before .before .before .before .before .before .loop .j) (c .before .token-at .ensures), omega arith)
 
 -- src/predict.rt:35:9
 add-j : tie.Need-add-j Inv-loop μ-loop
@@ -81,7 +81,7 @@ loop-less c = omega arith
 
 -- src/predict.rt:25:5
 loop-again : tie.Need-loop-again Inv-loop μ-loop
-loop-again c = (asking-on _ _ _ (c .before .before .before .before .before .before .before .before .before .loop .inv .0) (omega arith) (omega arith) (omega arith) (c .before .before .before .before .token-at .ensures) (c .before .before .ask-step .ensures), omega arith, omega arith, omega arith)
+loop-again c = (asking-on _ _ _ (c .before .before .before .before .before .before .before .before .before .loop .inv .0) (c .before .before .before .before .before .before .before .number .ensures) (omega arith) (c .before .before .before .before .before .before .before .before .before .loop .inv .2) (omega arith) (c .before .before .before .before .token-at .ensures) (c .before .before .ask-step .ensures), omega arith, step-slots _ _ _ _ _ (c .before .before .ask-step .ensures) (c .before .before .before .before .before .before .before .before .before .loop .inv .2), omega arith)
 
 -- src/predict.rt:38:9
 same-length-3 : tie.Need-same-length-3 Inv-loop μ-loop
