@@ -1,7 +1,7 @@
 -- A prediction as the code makes it: turn by turn, and its ways out.
 use mathlib.Core.Path.{_≡_, refl, sym, ap, _∙_}
 use mathlib.Core.Option.{some}
-use mathlib.Core.List.{List, []}
+use mathlib.Core.List.{List}
 use Prim.Native.Nat.{ℕ, suc, _+_, _-_, _≤_, _<_}
 use native.Mathlib.Numerals.{add-one}
 use native.Mathlib.Omega.{arith}
@@ -16,7 +16,7 @@ use Rattle.derivation.specs.Runs.{marked}
 use Rattle.derivation.specs.Ready.{Ready}
 use Rattle.derivation.proofs.Notes.{drop-of-get, get-lt}
 use Rattle.derivation.proofs.MarkedCells.{length-marked}
-use Rattle.cache.specs.Layout.{slots, fullWord, stateWord}
+use Rattle.cache.specs.Layout.{slots, fullWord}
 use Rattle.cache.specs.Recording.{Learned, learned, askStart, askStep}
 use Rattle.cache.specs.Predict.{follow, predict}
 use Rattle.cache.proofs.LengthLaws.{length-askStart, length-askStep}
