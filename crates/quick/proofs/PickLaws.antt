@@ -1,36 +1,38 @@
 -- What the code takes where a nonterminal waits is what the quick machine chooses.
 use mathlib.Core.Path.{_≡_, refl, sym, ap, subst, _∙_}
-use mathlib.Core.Bool.{Bool, true, false, _&&_}
-use mathlib.Core.Option.{Option, none, some}
+use mathlib.Core.Bool.{false}
+use mathlib.Core.Option.{some}
 use mathlib.Core.List.{List, [], _∷_}
 use Prim.Native.Nat.{ℕ, zero, suc, _+_, _-_, _*_, _≤_, _<_, min}
+use native.Mathlib.Numerals.{add-one}
 use native.Mathlib.Omega.{arith}
-use lib.Dec.{T, ltb, leb}
-use lib.ListN.{length, getD, drop, set, length-set}
+use lib.ListN.{length, drop, set, length-set}
 use lib.Seq.{getD-set-same, getD-set-other}
 use borrow.Author.Tests.{lt-ltb, le-ltb, le-leb, lt-leb}
-use Rattle.base.proofs.Booleans.{clash, and-none}
-use Rattle.grammar.specs.Limits.{endPlace}
+use Rattle.base.proofs.Booleans.{and-none}
+use Rattle.grammar.specs.Limits.{maxPlaces, endPlace}
 use Rattle.grammar.specs.Grammar.{Grammar, alternatives, first}
-use Rattle.grammar.specs.Tables.{grammarIn}
+use Rattle.grammar.specs.Tables.{grammarIn, nonterminalsIn, ruleAt}
 use Rattle.derivation.specs.Runs.{marked}
-use Rattle.derivation.specs.Cells.{derives?, runs?}
+use Rattle.derivation.specs.Cells.{runs?}
 use Rattle.derivation.specs.Machine.{lowest}
-use Rattle.derivation.specs.Space.{frameWords, returnsOf, Pushed}
+use Rattle.derivation.specs.Space.{frameWords, returnsOf}
 use Rattle.derivation.specs.Ready.{Ready}
+use Rattle.derivation.proofs.ReadyLaws.{ready-size}
 use Rattle.derivation.proofs.Entries.{Open}
-use Rattle.cache.specs.Layout.{fullWord}
 use Rattle.cache.specs.Recording.{Learned, learned}
 use Rattle.cache.specs.Predict.{predict}
 use Rattle.plain.specs.Choice.{orZero}
-use Rattle.plain.specs.Frames.{FramesBelow, EveryFrame, frameHas}
-use Rattle.plain.specs.Machine.{ground, waiting, Called}
+use Rattle.plain.specs.Frames.{FramesBelow, EveryFrame}
+use Rattle.plain.specs.Machine.{ground, waiting}
 use Rattle.plain.specs.Waiting.{Waiting}
 use Rattle.plain.proofs.GoodLaws.{good-fewer}
+use Rattle.plain.proofs.GoingLaws.{frame-room}
 use Rattle.plain.proofs.PushLaws.{low-charted}
-use Rattle.quick.specs.Machine.{Picked, picked, named?, settle, quickChoice}
+use Rattle.quick.specs.Machine.{Picked, picked, named?, settle}
 use Rattle.quick.specs.Going.{Calls, Tabled, Prepared, Found, choiceAt, Chose}
-use Rattle.quick.specs.Sets.{Framed, Unsettled, Settled}
+use Rattle.quick.specs.Sets.{Unsettled, Settled}
+use Rattle.quick.proofs.CountLaws.{count-is, one-at-least, first-within}
 use Rattle.quick.proofs.ChoiceLaws.{choice-decided, choice-single}
 use Rattle.quick.proofs.TableLaws.{calls-floored, calls-position, calls-place, calls-frames}
 
@@ -42,7 +44,7 @@ module _ (g : Grammar) (w S : List ℕ) (a i : ℕ) where
 
   named-false : (n b : ℕ) → (0 < b → n < b) → named? n b ≡ false
   named-false n zero h = refl
-  named-false n (suc b) h = rw (lt-leb (suc b) n (h (omega arith)), and-none) 
+  named-false n (suc b) h = rw (lt-leb (suc b) n (h (omega arith)), and-none)
 
   pub settle-full : (l : Learned) → (0 < l .said → length (alternatives g a) < l .said) → settle g w S a i l ≡ picked (lowest g w S a i) (l .words)
   unfolding settle
@@ -157,3 +159,51 @@ module _ (t : List ℕ) (h : Ready t) (w ws c : List ℕ) {d p a i known : ℕ} 
   pub pick-single : {known′ f : ℕ} {after : List ℕ} → length (alternatives (grammarIn t) a) ≤ 1 → first (grammarIn t) a 1 ≡ some f
       → after ≡ set ws (ground t w + frameWords * d) (suc p) → known′ ≡ min known d → Chose t w ws after c c d p a i known′ 1
   pick-single {known′} {f} n q z k = taken 1 known′ (choice-single (grammarIn t) (marked w) c (waiting t w ws d p) a i (le-ltb 1 (length (alternatives (grammarIn t) a)) n)) f q z k
+
+-- ---- with the tables' count of alternatives, and with what the code's calls ensure
+module _ (t : List ℕ) (h : Ready t) (w ws : List ℕ) {d p a i known : ℕ} (x : Calls t w ws d p a i known) where
+  pub decide-below : a < nonterminalsIn t
+  decide-below = h .fits .named p a (x .calls)
+
+  pub decide-place : p < maxPlaces
+  decide-place = omega (arith, ready-size t h, calls-place t h w ws x)
+
+  module _ {s e : ℕ} (begins : s ≡ ruleAt t a) (ends : e ≡ ruleAt t (a + 1)) where
+    counted : length (alternatives (grammarIn t) a) ≡ e - s
+    counted = count-is t h a decide-below begins ends
+
+    pub decide-order : s < e
+    decide-order = omega (arith, counted, one-at-least t h a decide-below)
+
+    within : (b : ℕ) → 1 ≤ b → b ≤ e - s → (f : ℕ) × (first (grammarIn t) a b ≡ some f)
+    within b m k = first-within t h a decide-below b m (omega (arith, counted))
+
+    over : {said r : ℕ} → r ≡ said → (0 < r → e - s < r) → 0 < said → length (alternatives (grammarIn t) a) < said
+    over y m j = let k = m (omega arith) in omega (arith, counted)
+
+    -- a frame for a named alternative has room
+    pub decide-room : {base : ℕ} → base ≡ ground t w → base + frameWords * suc d ≤ length ws
+    decide-room z =
+        let l = decide-order in
+        let f = within 1 (omega arith) (omega arith) in
+        omega (arith, frame-room t h w ws (x .lent) d p i (x .held) 1 (x .calls) (f .1))
+
+    module _ (c : List ℕ) {base : ℕ} (z : base ≡ ground t w) {after : List ℕ} {known′ : ℕ} where
+      pub decide-single : e - s < 2 → after ≡ set ws (base + frameWords * d) (p + 1) → known′ ≡ min known d → Chose t w ws after c c d p a i known′ 1
+      decide-single l q k =
+          let m = decide-order in
+          let f = within 1 (omega arith) (omega arith) in
+          pick-single t h w ws c x (omega (arith, counted)) (f .1) (rw (z, add-one) at q) k
+
+      module _ {said r : ℕ} {c′ : List ℕ} (u : learned said c′ ≡ predict (grammarIn t) c a (drop i (marked w))) (y : r ≡ said) (l : 2 ≤ e - s) where
+        pub decide-named : 0 < r → r ≤ e - s → after ≡ set ws (base + frameWords * d) (p + 1) → known′ ≡ min known d → Chose t w ws after c c′ d p a i known′ r
+        decide-named m k q n =
+            let f = within said (omega arith) (omega arith) in
+            rw y (pick-named t h w ws c x (sym u) (omega (arith, counted)) (omega arith) (omega (arith, counted)) (f .1) (rw (z, add-one) at q) n)
+
+        module _ (m : 0 < r → e - s < r) {b : ℕ} (q : Found t w ws after d p a i b) where
+          pub decide-none : b ≡ 0 → known′ ≡ d → Chose t w ws after c c′ d p a i known′ 0
+          decide-none o n = rw o at (pick-full t h w ws c x (sym u) (omega (arith, counted)) (over y m) q (λ _. n) (λ j. absurd (j o)))
+
+          pub decide-found : (b ≡ 0 → ⊥) → known′ ≡ d + 1 → Chose t w ws after c c′ d p a i known′ b
+          decide-found o n = pick-full t h w ws c x (sym u) (omega (arith, counted)) (over y m) q (λ j. absurd (o j)) (λ _. omega arith)

@@ -1,48 +1,53 @@
 -- A prediction as the code makes it: turn by turn, and its ways out.
 use mathlib.Core.Path.{_≡_, refl, sym, ap, _∙_}
 use mathlib.Core.Option.{some}
-use mathlib.Core.List.{List, []}
+use mathlib.Core.List.{List}
 use Prim.Native.Nat.{ℕ, suc, _+_, _-_, _≤_, _<_}
 use native.Mathlib.Numerals.{add-one}
 use native.Mathlib.Omega.{arith}
 use mathlib.Core.Bool.{Bool, true, false}
 use lib.Dec.{ltb}
-use lib.ListN.{length, getElem?, drop, drop-of-length-le}
+use lib.ListN.{length, getD, getElem?, drop, drop-of-length-le}
 use borrow.Author.Tests.{ltb-true, ltb-false}
-use Rattle.grammar.specs.Grammar.{Grammar}
+use Rattle.grammar.specs.Limits.{maxKinds}
+use Rattle.grammar.specs.Grammar.{Grammar, compile}
+use Rattle.grammar.specs.Tables.{grammarIn}
 use Rattle.derivation.specs.Runs.{marked}
-use Rattle.derivation.proofs.Notes.{drop-of-get}
+use Rattle.derivation.specs.Ready.{Ready}
+use Rattle.derivation.proofs.Notes.{drop-of-get, get-lt}
 use Rattle.derivation.proofs.MarkedCells.{length-marked}
-use Rattle.cache.specs.Layout.{slots, fullWord, stateWord}
+use Rattle.cache.specs.Layout.{slots, fullWord}
 use Rattle.cache.specs.Recording.{Learned, learned, askStart, askStep}
 use Rattle.cache.specs.Predict.{follow, predict}
+use Rattle.cache.proofs.LengthLaws.{length-askStart, length-askStep}
 use Rattle.cache.proofs.FollowLaws.{meaning-none, meaning-full, meaning-beyond, meaning-chosen, meaning-state, follow-unsure, follow-sure, follow-over, follow-on}
+use Rattle.plain.proofs.CallLaws.{token-mark, token-note}
+use Rattle.quick.specs.Known.{Known}
 
 module _ (g : Grammar) (a : ℕ) (w : List ℕ) where
   -- where a prediction stands: this was said of what lies before position j, and the rest is left
   pub record Asking (end : Learned) (j said : ℕ) (c : List ℕ) : Type 0 where
     pub is : follow g a (drop j (marked w)) (learned said c) ≡ end
 
-  pub asking-begins : (c : List ℕ) (i : ℕ) {said : ℕ} {c′ : List ℕ} → learned said c′ ≡ askStart g c a → Asking (predict g c a (drop i (marked w))) i said c′
-  unfolding predict
-  asking-begins c i e = record { is = ap (follow g a (drop i (marked w))) e }
-
   module _ {end : Learned} {j said : ℕ} {c : List ℕ} (x : Asking end j said c) where
-    pub asking-on : {s t : ℕ} {said′ : ℕ} {c′ : List ℕ} → fullWord < said → s ≡ said - 18 → s < slots (length c) → getElem? (marked w) j ≡ some t
-        → learned said′ c′ ≡ askStep g c a s t → Asking end (j + 1) said′ c′
-    asking-on {s} {t} l e k q z =
-        rw (add-one j)
-        (record { is = ap (follow g a (drop (suc j) (marked w))) z
-        ∙ sym (follow-on g t (drop (suc j) (marked w)) a s (learned said c) (meaning-state (slots (length c)) said s (omega arith) k))
-        ∙ ap (λ (ts : List ℕ). follow g a ts (learned said c)) (sym (drop-of-get (marked w) j q)) ∙ x .is })
+    -- a step, r being what was said as a number
+    module _ {r : ℕ} (e : r ≡ said) (l : fullWord < said) {n : ℕ} (k : n ≡ slots (length c)) where
+      pub asking-on : {t : ℕ} {said′ : ℕ} {c′ : List ℕ} → r - 18 < n → getElem? (marked w) j ≡ some t → learned said′ c′ ≡ askStep g c a (r - 18) t → Asking end (j + 1) said′ c′
+      asking-on {t} h q z =
+          rw (add-one j)
+          (record {
+            is = ap (follow g a (drop (suc j) (marked w))) z
+                ∙ sym (follow-on g t (drop (suc j) (marked w)) a (r - 18) (learned said c) (meaning-state (slots (length c)) said (r - 18) (omega arith) (omega arith)))
+                ∙ ap (λ (ts : List ℕ). follow g a ts (learned said c)) (sym (drop-of-get (marked w) j q)) ∙ x .is;
+          })
 
-    pub asking-beyond : {s n : ℕ} → fullWord < said → s ≡ said - 18 → n ≡ slots (length c) → n ≤ s → learned fullWord c ≡ end
-    asking-beyond l e k h = sym (follow-unsure g (drop j (marked w)) a (learned said c) (meaning-beyond (slots (length c)) said l (omega arith))) ∙ x .is
+      pub asking-beyond : n ≤ r - 18 → learned fullWord c ≡ end
+      asking-beyond h = sym (follow-unsure g (drop j (marked w)) a (learned said c) (meaning-beyond (slots (length c)) said l (omega arith))) ∙ x .is
 
-    pub asking-over : {s n : ℕ} → fullWord < said → s ≡ said - 18 → n ≡ slots (length c) → (s < n) → length w < j → learned fullWord c ≡ end
-    asking-over {s} l e k h m =
-        sym (follow-over g a s (learned said c) (meaning-state (slots (length c)) said s (omega arith) (omega arith)))
-        ∙ ap (λ (ts : List ℕ). follow g a ts (learned said c)) (sym (drop-of-length-le (marked w) {i = j} (omega (arith, length-marked w)))) ∙ x .is
+      pub asking-over : r - 18 < n → length w < j → learned fullWord c ≡ end
+      asking-over h m =
+          sym (follow-over g a (r - 18) (learned said c) (meaning-state (slots (length c)) said (r - 18) (omega arith) (omega arith)))
+          ∙ ap (λ (ts : List ℕ). follow g a ts (learned said c)) (sym (drop-of-length-le (marked w) {i = j} (omega (arith, length-marked w)))) ∙ x .is
 
     pub asking-none : said ≡ 0 → learned fullWord c ≡ end
     asking-none e = sym (follow-unsure g (drop j (marked w)) a (learned said c) (rw e (meaning-none (slots (length c))))) ∙ x .is
@@ -55,3 +60,37 @@ module _ (g : Grammar) (a : ℕ) (w : List ℕ) where
         go false e =
             let z : said ≡ fullWord = omega (arith, ltb-false said fullWord e) in
             ap (λ (v : ℕ). learned v c) z ∙ sym (follow-unsure g (drop j (marked w)) a (learned said c) (rw z (meaning-full (slots (length c))))) ∙ x .is
+
+-- a prediction begins as its decision's start says
+pub predict-starts : (g : Grammar) (c : List ℕ) (a : ℕ) (ts : List ℕ) {l : Learned} → l ≡ askStart g c a → follow g a ts l ≡ predict g c a ts
+unfolding predict
+predict-starts g c a ts e = ap (follow g a ts) e
+
+-- what is asked keeps the cache's length, so the count of its slots
+words-kept : {l m : Learned} {n : ℕ} → l ≡ m → length (m .words) ≡ n → length (l .words) ≡ n
+words-kept e k = ap (λ (l : Learned). length (l .words)) e ∙ k
+
+module _ (g : Grammar) (c : List ℕ) (a : ℕ) {n said : ℕ} {c′ : List ℕ} where
+  pub start-slots : learned said c′ ≡ askStart g c a → n ≡ slots (length c) → n ≡ slots (length c′)
+  start-slots e k = k ∙ ap slots (sym (words-kept e (length-askStart g c a)))
+
+  pub step-slots : (s t : ℕ) → learned said c′ ≡ askStep g c a s t → n ≡ slots (length c) → n ≡ slots (length c′)
+  step-slots s t e k = k ∙ ap slots (sym (words-kept e (length-askStep g c a s t)))
+
+-- tokens of a known note, and the end mark, are within the limits
+pub token-small : (t : List ℕ) → Ready t → (w : List ℕ) → Known (grammarIn t .kinds) w → (j : ℕ) {u : ℕ} → getElem? (marked w) j ≡ some u → u ≤ maxKinds
+unfolding compile
+token-small t h w k j {u} e = go (ltb j (length w)) refl
+  where
+    kinds : grammarIn t .kinds ≤ maxKinds
+    kinds = rw (h .says) (h .limited .kinds-most)
+
+    go : (b : Bool) → ltb j (length w) ≡ b → u ≤ maxKinds
+    go true q =
+        let l = ltb-true j (length w) q in
+        let z : some (getD w j 0) ≡ some u = sym (token-note w j l refl) ∙ e in
+        let y : getD w j 0 ≡ u = cc in omega (arith, k j l .1, kinds)
+    go false q =
+        let n : j < length (marked w) = get-lt (marked w) j e in
+        let z : some 0 ≡ some u = sym (token-mark w j (omega (arith, ltb-false j (length w) q, length-marked w))) ∙ e in
+        let y : 0 ≡ u = cc in omega arith

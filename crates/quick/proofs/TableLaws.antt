@@ -1,10 +1,9 @@
 -- The cells and the lowest frame's set, once there is need of them.
 use mathlib.Core.Path.{_≡_, refl, sym, ap, _∙_}
 use mathlib.Core.List.{List, [], _∷_}
-use Prim.Native.Nat.{ℕ, suc, _+_, _*_, _≤_, _<_, min}
+use Prim.Native.Nat.{ℕ, _+_, _*_, _≤_, _<_, min}
 use native.Mathlib.Omega.{arith}
 use lib.ListN.{length, getD}
-use Rattle.grammar.specs.Limits.{endPlace}
 use Rattle.grammar.specs.Tables.{grammarIn}
 use Rattle.positions.specs.Positions.{emptySet, withOf}
 use Rattle.positions.specs.Words.{putAt}
@@ -38,7 +37,7 @@ module _ (t : List ℕ) (h : Ready t) (w ws : List ℕ) {d p a i known : ℕ} (x
   calls-frames = frames-in t h w ws (x .lent) d p i (x .held)
 
   -- the cells are filled, and the end place's set is put
-  pub table-first : (us : List ℕ) → Filled t w ws us → Tabled t w ws (putAt us (ground t w + frameWords * 0 + 1) (withOf emptySet (length w))) d p i 1
+  table-first : (us : List ℕ) → Filled t w ws us → Tabled t w ws (putAt us (ground t w + frameWords * 0 + 1) (withOf emptySet (length w))) d p i 1
   unfolding returnsOf
   table-first us f =
       record {
@@ -63,6 +62,10 @@ module _ (t : List ℕ) (h : Ready t) (w ws : List ℕ) {d p a i known : ℕ} (x
       right m k =
           rest-put us (ground t w) 0 (withOf emptySet (length w)) m (omega (arith, f .kept, calls-frames, calls-floored .some)) (omega (arith, x .lent .short))
           ∙ (end-runs t h w (x .lent .short) m k ∙ ap (λ (q : ℕ). runs? (grammarIn t) (marked w) (q ∷ []) m) (sym (returns 0 ∙ calls-floored .bottom)))
+
+  pub table-put : {base : ℕ} {e s us after : List ℕ} → base ≡ ground t w → e ≡ emptySet → s ≡ withOf e (length w) → after ≡ putAt us (base + frameWords * 0 + 1) s
+      → Filled t w ws us → Tabled t w ws after d p i 1
+  table-put {us = us} b e q z f = rw (z, q, e, b) (table-first us f)
 
   -- they are there
   pub table-again : {r : ℕ} → 0 < known → r ≡ min known d → Tabled t w ws ws d p i r

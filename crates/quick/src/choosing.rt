@@ -100,18 +100,30 @@ pub fn decide(
     let count = grammar::rule_at(tables, a + 1) - grammar::rule_at(tables, a);
     if count < 2 {
         let stand = push(ws, base, known, d, p + 1);
-        return Pick { alternative: 1, known: stand };
+        return Pick {
+            alternative: 1,
+            known: stand,
+        };
     }
     let said = base::number(crate::predict::predict(tables, note, cache, a, i));
     if 0 < said {
         if said <= count {
             let stand = push(ws, base, known, d, p + 1);
-            return Pick { alternative: said, known: stand };
+            return Pick {
+                alternative: said,
+                known: stand,
+            };
         }
     }
     let b = full(tables, note, ws, places, base, known, d, p, a, i);
     if b == 0 {
-        return Pick { alternative: 0, known: d };
+        return Pick {
+            alternative: 0,
+            known: d,
+        };
     }
-    Pick { alternative: b, known: d + 1 }
+    Pick {
+        alternative: b,
+        known: d + 1,
+    }
 }

@@ -1,105 +1,81 @@
+-- `quick::choosing::decide` meets its contract.
+use mathlib.Core.Path.{refl}
+use mathlib.Core.Logic.{⊎-elim}
+use native.Mathlib.Omega.{arith}
+use Rattle.quick.proofs.TableLaws.{calls-position, calls-frames}
+use Rattle.quick.proofs.PickLaws.{decide-below, decide-place, decide-order, decide-room, decide-single, decide-named, decide-none, decide-found}
 use borrow.Author.Needs.{needs}
 use Rattle.quick.proofs.choosing.decide.Statement.{statement}
 use Rattle.quick.proofs.choosing.decide.Tie as tie
-use Rattle.quick.proofs.choosing.decide.Reads as reads
-use Rattle.quick.proofs.choosing.decide.Lts as lts
-use Rattle.base.proofs.number.Reads as number-reads
-use Rattle.grammar.proofs.rule_at.Reads as rule-at-reads
-use Rattle.quick.proofs.choosing.full.Reads as full-reads
-use Rattle.quick.proofs.choosing.push.Reads as push-reads
-use Rattle.quick.proofs.predict.predict.Reads as predict-reads
 
--- src/choosing.rt:100:42
 add-rule-at : tie.Need-add-rule-at
-add-rule-at c = ?
+add-rule-at c = omega (arith, decide-below _ (c .before .before .before .before .pre .0) _ _ (c .before .before .before .before .pre .3), c .before .before .before .before .pre .0 .fits .few)
 
--- src/choosing.rt:100:17
 rule-at-requires : tie.Need-rule-at-requires
-rule-at-requires c κs = ?
+rule-at-requires c κs = (omega (arith, decide-below _ (c .before .before .before .before .pre .0) _ _ (c .before .before .before .before .pre .3), c .before .before .before .before .pre .0 .fits .few), c .before .before .before .before .pre .0 .fits .long)
 
--- src/choosing.rt:100:51
 rule-at-requires-2 : tie.Need-rule-at-requires-2
-rule-at-requires-2 c κs = ?
+rule-at-requires-2 c κs = (omega (arith, decide-below _ (c .before .before .before .before .before .pre .0) _ _ (c .before .before .before .before .before .pre .3), c .before .before .before .before .before .pre .0 .fits .few), c .before .before .before .before .before .pre .0 .fits .long)
 
--- src/choosing.rt:100:17
 sub-count : tie.Need-sub-count
-sub-count c = ?
+sub-count c = omega (arith, decide-order _ (c .before .before .before .before .before .before .pre .0) _ _ (c .before .before .before .before .before .before .pre .3) (c .rule-at2 .ensures) (c .before .rule-at .ensures))
 
--- src/choosing.rt:102:46
 add-push : tie.Need-add-push
-add-push c = ?
+add-push c = omega (arith, decide-place _ (c .before .before .before .before .before .before .before .before .pre .0) _ _ (c .before .before .before .before .before .before .before .before .pre .3))
 
--- src/choosing.rt:102:13
 push-requires : tie.Need-push-requires
-push-requires c κs = ?
+push-requires c κs = (decide-room _ (c .before .before .before .before .before .before .before .before .pre .0) _ _ (c .before .before .before .before .before .before .before .before .pre .3) (c .before .before .rule-at2 .ensures) (c .before .before .before .rule-at .ensures) (c .before .before .before .before .before .before .before .before .pre .2), omega (arith, decide-place _ (c .before .before .before .before .before .before .before .before .pre .0) _ _ (c .before .before .before .before .before .before .before .before .pre .3)))
 
--- src/choosing.rt:103:9
 same-length : tie.Need-same-length
 same-length c = search needs
 
--- src/choosing.rt:103:9
 returns : tie.Need-returns
-returns c = ?
+returns c = decide-single _ (c .before .before .before .before .before .before .before .before .before .before .before .pre .0) _ _ (c .before .before .before .before .before .before .before .before .before .before .before .pre .3) (c .before .before .before .before .before .rule-at2 .ensures) (c .before .before .before .before .before .before .rule-at .ensures) _ (c .before .before .before .before .before .before .before .before .before .before .before .pre .2) (omega arith) (c .before .before .push .ensures .0) (c .before .before .push .ensures .1)
 
--- src/choosing.rt:105:29
 predict-requires : tie.Need-predict-requires
-predict-requires c κs = ?
+predict-requires c κs = (c .before .before .before .before .before .before .before .before .pre .0, c .before .before .before .before .before .before .before .before .pre .4, decide-below _ (c .before .before .before .before .before .before .before .before .pre .0) _ _ (c .before .before .before .before .before .before .before .before .pre .3), calls-position _ (c .before .before .before .before .before .before .before .before .pre .0) _ _ (c .before .before .before .before .before .before .before .before .pre .3), c .before .before .before .before .before .before .before .before .pre .5)
 
--- src/choosing.rt:105:9
 number-requires : tie.Need-number-requires
 number-requires c κs = search needs
 
--- src/choosing.rt:108:50
 add-push-2 : tie.Need-add-push-2
-add-push-2 c = ?
+add-push-2 c = omega (arith, decide-place _ (c .before .before .before .before .before .before .before .before .before .before .before .before .before .before .before .pre .0) _ _ (c .before .before .before .before .before .before .before .before .before .before .before .before .before .before .before .pre .3))
 
--- src/choosing.rt:108:17
 push-requires-2 : tie.Need-push-requires-2
-push-requires-2 c κs = ?
+push-requires-2 c κs = (decide-room _ (c .before .before .before .before .before .before .before .before .before .before .before .before .before .before .before .pre .0) _ _ (c .before .before .before .before .before .before .before .before .before .before .before .before .before .before .before .pre .3) (c .before .before .before .before .before .before .before .before .before .rule-at2 .ensures) (c .before .before .before .before .before .before .before .before .before .before .rule-at .ensures) (c .before .before .before .before .before .before .before .before .before .before .before .before .before .before .before .pre .2), omega (arith, decide-place _ (c .before .before .before .before .before .before .before .before .before .before .before .before .before .before .before .pre .0) _ _ (c .before .before .before .before .before .before .before .before .before .before .before .before .before .before .before .pre .3)))
 
--- src/choosing.rt:109:13
 same-length-2 : tie.Need-same-length-2
 same-length-2 c = search needs
 
--- src/choosing.rt:109:13
 same-length-3 : tie.Need-same-length-3
 same-length-3 c = search needs
 
--- src/choosing.rt:109:13
 returns-2 : tie.Need-returns-2
-returns-2 c = ?
+returns-2 c = decide-named _ (c .before .before .before .before .before .before .before .before .before .before .before .before .before .before .before .before .before .before .pre .0) _ _ (c .before .before .before .before .before .before .before .before .before .before .before .before .before .before .before .before .before .before .pre .3) (c .before .before .before .before .before .before .before .before .before .before .before .before .rule-at2 .ensures) (c .before .before .before .before .before .before .before .before .before .before .before .before .before .rule-at .ensures) _ (c .before .before .before .before .before .before .before .before .before .before .before .before .before .before .before .before .before .before .pre .2) (c .before .before .before .before .before .before .before .before .before .predict .ensures) (c .before .before .before .before .before .before .number .ensures) (omega arith) (omega arith) (omega arith) (c .before .before .push2 .ensures .0) (c .before .before .push2 .ensures .1)
 
--- src/choosing.rt:112:9
 full-requires : tie.Need-full-requires
 full-requires c κs = search needs
 
--- src/choosing.rt:114:9
 same-length-4 : tie.Need-same-length-4
 same-length-4 c = search needs
 
--- src/choosing.rt:114:9
 same-length-5 : tie.Need-same-length-5
 same-length-5 c = search needs
 
--- src/choosing.rt:114:9
 returns-3 : tie.Need-returns-3
-returns-3 c = ?
+returns-3 c = decide-none _ (c .before .before .before .before .before .before .before .before .before .before .before .before .before .before .before .before .before .before .pre .0) _ _ (c .before .before .before .before .before .before .before .before .before .before .before .before .before .before .before .before .before .before .pre .3) (c .before .before .before .before .before .before .before .before .before .before .before .before .rule-at2 .ensures) (c .before .before .before .before .before .before .before .before .before .before .before .before .before .rule-at .ensures) _ (c .before .before .before .before .before .before .before .before .before .before .before .before .before .before .before .before .before .before .pre .2) (c .before .before .before .before .before .before .before .before .before .predict .ensures) (c .before .before .before .before .before .before .number .ensures) (omega arith) (⊎-elim (λ y m. omega (arith, y .1 .left)) (λ y m. omega (arith, y .left)) (c .before .before .before .before .before .if2 .came)) (c .before .before .before .full .ensures) (omega arith) refl
 
--- src/choosing.rt:116:35
 add-t17 : tie.Need-add-t17
-add-t17 c = ?
+add-t17 c = omega (arith, calls-frames _ (c .before .before .before .before .before .before .before .before .before .before .before .before .before .before .before .before .before .before .pre .0) _ _ (c .before .before .before .before .before .before .before .before .before .before .before .before .before .before .before .before .before .before .pre .3))
 
--- src/choosing.rt:84:1
 same-length-6 : tie.Need-same-length-6
 same-length-6 c = search needs
 
--- src/choosing.rt:84:1
 same-length-7 : tie.Need-same-length-7
 same-length-7 c = search needs
 
--- src/choosing.rt:84:1
 returns-4 : tie.Need-returns-4
-returns-4 c = ?
+returns-4 c = decide-found _ (c .before .before .before .before .before .before .before .before .before .before .before .before .before .before .before .before .before .before .pre .0) _ _ (c .before .before .before .before .before .before .before .before .before .before .before .before .before .before .before .before .before .before .pre .3) (c .before .before .before .before .before .before .before .before .before .before .before .before .rule-at2 .ensures) (c .before .before .before .before .before .before .before .before .before .before .before .before .before .rule-at .ensures) _ (c .before .before .before .before .before .before .before .before .before .before .before .before .before .before .before .before .before .before .pre .2) (c .before .before .before .before .before .before .before .before .before .predict .ensures) (c .before .before .before .before .before .before .number .ensures) (omega arith) (⊎-elim (λ y m. omega (arith, y .1 .left)) (λ y m. omega (arith, y .left)) (c .before .before .before .before .before .if2 .came)) (c .before .before .before .full .ensures) (λ z. omega arith) refl
 
 pub decide-spec : {M : Type 1} → statement M
 decide-spec =
