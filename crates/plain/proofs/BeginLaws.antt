@@ -94,6 +94,13 @@ pub begin-full : (t : List ℕ) → Ready t → (w row ws : List ℕ) → Charte
 begin-full t h w row ws charted e =
     record { outcome = reading-full t h w row e; within = λ k x. clash (cc); row-kept = refl; space-kept = refl; charted = charted }
 
+-- there is a nonterminal 0
+pub some-named : (t : List ℕ) → Ready t → 0 < nonterminalsIn t
+unfolding compile
+some-named t h =
+    let z = ap (λ (g : Grammar). length (g .starts)) (h .says) in
+    omega (arith, z, length-starts-in t, length-startsAll 0 (h .rules .productions), h .limited .some)
+
 module _ (t : List ℕ) (h : Ready t) (w ws : List ℕ) (fit : Fit ws) (lent : Lent (grammarIn t .size) (length w) ws) (charted : Charted t w ws) where
   pub cells-in : suc (length w) * grammarIn t .size ≤ length ws
   cells-in = omega (arith, lent .room, mul-comm (grammarIn t .size) (suc (length w)))
@@ -102,23 +109,20 @@ module _ (t : List ℕ) (h : Ready t) (w ws : List ℕ) (fit : Fit ws) (lent : L
   begin-room = omega (arith, lent .room, mul-comm (grammarIn t .size) (suc (length w)))
 
   pub begin-named : 0 < nonterminalsIn t
-  unfolding compile
-  begin-named =
-      let z = ap (λ (g : Grammar). length (g .starts)) (h .says) in
-      omega (arith, z, length-starts-in t, length-startsAll 0 (h .rules .productions), h .limited .some)
+  begin-named = some-named t h
 
   module _ {e s : List ℕ} (p : e ≡ emptySet) (q : s ≡ withOf e (length w)) {r : ℕ} (c : r ≡ lowestIn t ws 0 0 s) where
-    right : Serving (grammarIn t) (marked w) [] endPlace 0 0 s
-    right = rw (q, p) (serving-end t h w ws charted (lent .short) fit 0 (omega arith))
+    pub begin-right : Serving (grammarIn t) (marked w) [] endPlace 0 0 s
+    begin-right = rw (q, p) (serving-end t h w ws charted (lent .short) fit 0 (omega arith))
 
-    asks : r ≡ orZero (lowest (grammarIn t) (marked w) (endPlace ∷ []) 0 0)
-    asks = c ∙ lowest-is t h w ws charted (lent .short) fit [] endPlace 0 0 s (omega arith) right
+    pub begin-asks : r ≡ orZero (lowest (grammarIn t) (marked w) (endPlace ∷ []) 0 0)
+    begin-asks = c ∙ lowest-is t h w ws charted (lent .short) fit [] endPlace 0 0 s (omega arith) begin-right
 
     pub begin-stuck : {row after : List ℕ} → (length row ≡ 0 → ⊥) → r ≡ 0 → after ≡ pushIf r ws (ground t w) 0 endPlace s → Ran t w row ws Stuck row after
     begin-stuck {row} {after} n z m =
         let same : after ≡ ws = rw z at m in
         record {
-          outcome = reading-unserved t h w row (omega arith) (none-of t w (endPlace ∷ []) 0 0 asks z);
+          outcome = reading-unserved t h w row (omega arith) (none-of t w (endPlace ∷ []) 0 0 begin-asks z);
           within = λ k x. clash (cc);
           row-kept = refl;
           space-kept = ap length same;
@@ -127,7 +131,7 @@ module _ (t : List ℕ) (h : Ready t) (w ws : List ℕ) (fit : Fit ws) (lent : L
 
     module _ (n : r ≡ 0 → ⊥) where
       pub begin-alternative : Named t 0 r
-      begin-alternative = named-of t w (endPlace ∷ []) 0 0 asks n
+      begin-alternative = named-of t w (endPlace ∷ []) 0 0 begin-asks n
 
       pub begin-small : r < 65536
       begin-small = named-small t h 0 r begin-alternative
@@ -140,11 +144,11 @@ module _ (t : List ℕ) (h : Ready t) (w ws : List ℕ) (fit : Fit ws) (lent : L
           let room = begin-room in
           let long : length after ≡ length ws = ap length same ∙ length-push ws (ground t w) 0 endPlace s in
           let rows : length (set row 0 v) ≡ length row = length-set row 0 v in
-          let x = going-begins t h w row r ws after (omega arith) (some-of (lowest (grammarIn t) (marked w) (endPlace ∷ []) 0 0) asks n) g
+          let x = going-begins t h w row r ws after (omega arith) (some-of (lowest (grammarIn t) (marked w) (endPlace ∷ []) 0 0) begin-asks n) g
           (record { short = lent .short; room = omega (arith, lent .room) }) (rw same (push-charted ws (ground t w) 0 endPlace s room t w refl charted))
           (rw same (push-pushed ws (ground t w) 0 endPlace s room))
           (λ m y. let j = derives-inside t h w f 0 m (ready-first t h 0 r f g) (omega arith) y in
-          rw same (push-has ws (ground t w) 0 endPlace s room m (omega (arith, lent .short)) ∙ right r f m g y)) in
+          rw same (push-has ws (ground t w) 0 endPlace s room m (omega (arith, lent .short)) ∙ begin-right r f m g y)) in
           rw (rows, z) x
 
 -- the rest of a run that began so is the whole

@@ -16,6 +16,7 @@ pub mod CountLaws
 pub mod NamedLaws
 pub mod ChoseLaws
 pub mod OpeningLaws
+pub mod BeginLaws
 pub mod AskLaws
 pub mod ServeLaws
 pub mod SettleLaws

@@ -185,7 +185,7 @@ narrow-requires c κs = omega (arith, chose-small _ (c .before .before .before .
 
 -- src/machine.rt:113:17
 mul-row : tie.Need-mul-row Inv-loop μ-loop
-mul-row c = omega (arith, (c .before .before .before .before .before .before .before .before .before .before .before .before .before .before .loop .inv .0 .fits), (c .before .before .before .before .before .before .before .before .before .before .before .before .before .before .loop .inv .1))
+mul-row c = omega (arith, (c .before .before .before .before .before .before .before .before .before .before .before .before .before .before .before .before .before .before .before .before .good .1 .1 .0), (c .before .before .before .before .before .before .before .before .before .before .before .before .before .before .loop .inv .0 .fits), (c .before .before .before .before .before .before .before .before .before .before .before .before .before .before .loop .inv .1))
 
 -- src/machine.rt:113:17
 slice-write-row : tie.Need-slice-write-row Inv-loop μ-loop
@@ -193,11 +193,11 @@ slice-write-row c = search needs
 
 -- src/machine.rt:114:17
 add-count : tie.Need-add-count Inv-loop μ-loop
-add-count c = omega (arith, (c .before .before .before .before .before .before .before .before .before .before .before .before .before .before .loop .inv .0 .fits), (c .before .before .before .before .before .before .before .before .before .before .before .before .before .before .loop .inv .1))
+add-count c = omega (arith, (c .before .before .before .before .before .before .before .before .before .before .before .before .before .before .before .before .before .before .before .before .good .1 .1 .0), (c .before .before .before .before .before .before .before .before .before .before .before .before .before .before .loop .inv .0 .fits), (c .before .before .before .before .before .before .before .before .before .before .before .before .before .before .loop .inv .1))
 
 -- src/machine.rt:115:17
 add-d : tie.Need-add-d Inv-loop μ-loop
-add-d c = let z = going-frames _ (c .before .before .before .before .before .before .before .before .before .before .before .before .before .before .before .before .before .before .before .before .pre .0) _ (c .before .before .before .before .before .before .before .before .before .before .before .before .before .before .loop .inv .0) in omega (arith, (c .before .before .before .before .before .before .decide .ensures .kept), (c .before .before .before .before .before .before .before .before .before .before .before .before .before .before .loop .inv .2))
+add-d c = let z = going-frames _ (c .before .before .before .before .before .before .before .before .before .before .before .before .before .before .before .before .before .before .before .before .pre .0) _ (c .before .before .before .before .before .before .before .before .before .before .before .before .before .before .loop .inv .0) in omega (arith, (c .before .before .before .before .before .before .before .before .before .before .before .before .before .before .before .before .before .before .before .before .good .1 .1 .1 .1 .0), (c .before .before .before .before .before .before .before .before .before .before .before .before .before .before .loop .inv .2))
 
 -- src/machine.rt:116:17
 first-requires : tie.Need-first-requires Inv-loop μ-loop
