@@ -107,7 +107,7 @@ pub by-outcome : (g : Grammar) (w row : List ℕ) {o o′ : Outcome} {x : Answer
 by-outcome g w row e h = rw e h
 
 -- ---- the machine, and what follows: only the row's length counts
-outcome-length : (g : Grammar) (w row row′ : List ℕ) (o : machine.Outcome) → length row′ ≡ length row → onOutcome g w row′ o ≡ onOutcome g w row o
+pub outcome-length : (g : Grammar) (w row row′ : List ℕ) (o : machine.Outcome) → length row′ ≡ length row → onOutcome g w row′ o ≡ onOutcome g w row o
 unfolding onOutcome
 outcome-length g w row row′ (machine.accepted d) e = rw e
 outcome-length g w row row′ machine.stuck e = rw e
@@ -145,11 +145,11 @@ module _ (g : Grammar) (w row : List ℕ) (space : ℕ) where
   unfolding from8 from9
   nine-or at q e l = rw (le-ltb maxTokens (length w) l, q) e
 
-  unknown-of : (o : Option ℕ) {k : Tokens} {at : ℕ} → k ≡ tokensOf o → k ≡ Unknown at → o ≡ some at
+  pub unknown-of : (o : Option ℕ) {k : Tokens} {at : ℕ} → k ≡ tokensOf o → k ≡ Unknown at → o ≡ some at
   unknown-of none e f = clash (cc)
   unknown-of (some j) {at = at} e f = let z : j ≡ at = cc in ap some z
 
-  known-of : (o : Option ℕ) {k : Tokens} → k ≡ tokensOf o → k ≡ Known → o ≡ none
+  pub known-of : (o : Option ℕ) {k : Tokens} → k ≡ tokensOf o → k ≡ Known → o ≡ none
   known-of none e f = refl
   known-of (some j) e f = clash (cc)
 
@@ -166,7 +166,7 @@ judged-refused : (s : List ℕ) (d : Parsed Rules) {r : Refusal} (w row : List �
 judged-refused s (refused q) {r} w row space e = let z : q ≡ r = cc in ap (λ (q : Refusal). refuse (refusalNumber q) (refusalPlace q) row) (sym z)
 judged-refused s (got u m) w row space e = rw e
 
-judged-sound : (d : Parsed Rules) → judged d ≡ Sound → (u : Rules) × (m : Mark) × (d ≡ got u m)
+pub judged-sound : (d : Parsed Rules) → judged d ≡ Sound → (u : Rules) × (m : Mark) × (d ≡ got u m)
 judged-sound (refused q) e = clash (cc)
 judged-sound (got u m) e = (u, m, refl)
 

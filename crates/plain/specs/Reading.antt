@@ -5,7 +5,7 @@ use Prim.Native.Nat.{ℕ}
 use Rattle.number.specs.Refusals.{refusalNumber, refusalPlace}
 use Rattle.derivation.specs.Plain.{Answer, answer}
 use Rattle.plain.specs.declared.reading.Reading.{Reading}
-use Rattle.plain.specs.declared.reading.Reading.the-variants.{Accepted, Grammar, LongNote, UnknownToken, NoSentence, ShortWorkspace, ShortRow}
+use Rattle.plain.specs.declared.reading.Reading.the-variants.{Accepted, Grammar, LongNote, UnknownToken, NoSentence, ShortWorkspace, ShortCache, ForeignCache, ShortRow}
 use Rattle.plain.specs.declared.tokens.Tokens.{Tokens}
 use Rattle.plain.specs.declared.tokens.Tokens.the-variants.{Known, Unknown}
 
@@ -17,6 +17,8 @@ readingNumber LongNote = 8
 readingNumber (UnknownToken at) = 9
 readingNumber (NoSentence at) = 10
 readingNumber ShortWorkspace = 11
+readingNumber ShortCache = 12
+readingNumber ForeignCache = 13
 readingNumber ShortRow = 14
 
 -- 0 where none is named
@@ -27,6 +29,8 @@ readingPlace LongNote = 0
 readingPlace (UnknownToken at) = at
 readingPlace (NoSentence at) = at
 readingPlace ShortWorkspace = 0
+readingPlace ShortCache = 0
+readingPlace ForeignCache = 0
 readingPlace ShortRow = 0
 
 -- the entries of the row, 0 where refused
@@ -37,6 +41,8 @@ readingCount LongNote = 0
 readingCount (UnknownToken at) = 0
 readingCount (NoSentence at) = 0
 readingCount ShortWorkspace = 0
+readingCount ShortCache = 0
+readingCount ForeignCache = 0
 readingCount ShortRow = 0
 
 -- a reading and the row that it left, as the definitions answer

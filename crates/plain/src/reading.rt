@@ -30,6 +30,10 @@ pub enum Reading {
     NoSentence(usize),
     // 11: too little working space.
     ShortWorkspace,
+    // 12: a cache of too few words. Only the quick reading answers this and the next.
+    ShortCache,
+    // 13: a cache that was not begun for this grammar at this length.
+    ForeignCache,
     // 14: a sentence whose derivation has more entries than the row.
     ShortRow,
 }
@@ -46,6 +50,8 @@ impl Reading {
             Reading::UnknownToken(_) => 9,
             Reading::NoSentence(_) => 10,
             Reading::ShortWorkspace => 11,
+            Reading::ShortCache => 12,
+            Reading::ForeignCache => 13,
             Reading::ShortRow => 14,
         }
     }
@@ -61,6 +67,8 @@ impl Reading {
             Reading::UnknownToken(at) => at,
             Reading::NoSentence(at) => at,
             Reading::ShortWorkspace => 0,
+            Reading::ShortCache => 0,
+            Reading::ForeignCache => 0,
             Reading::ShortRow => 0,
         }
     }
@@ -76,6 +84,8 @@ impl Reading {
             Reading::UnknownToken(_) => 0,
             Reading::NoSentence(_) => 0,
             Reading::ShortWorkspace => 0,
+            Reading::ShortCache => 0,
+            Reading::ForeignCache => 0,
             Reading::ShortRow => 0,
         }
     }

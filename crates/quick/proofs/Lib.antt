@@ -17,6 +17,7 @@ pub mod NamedLaws
 pub mod ChoseLaws
 pub mod OpeningLaws
 pub mod BeginLaws
+pub mod ReplyLaws
 pub mod AskLaws
 pub mod ServeLaws
 pub mod SettleLaws

@@ -4,5 +4,6 @@ pub mod Machine
 pub mod Quick
 pub mod Going
 pub mod Stop
+pub mod Replied
 pub mod Demand3
 pub mod Sets

@@ -2,4 +2,7 @@
 mod choosing;
 mod machine;
 mod predict;
+mod reading;
 mod sets;
+
+pub use reading::quick;
