@@ -10,8 +10,8 @@ use lib.Seq.{getD-set-same}
 use borrow.Author.Tests.{lt-ltb, le-ltb}
 use Rattle.base.proofs.Booleans.{clash}
 use Rattle.grammar.specs.Limits.{endPlace}
-use Rattle.grammar.specs.Grammar.{alternatives, first}
-use Rattle.grammar.specs.Tables.{grammarIn, nonterminalsIn, ruleAt}
+use Rattle.grammar.specs.Grammar.{alternatives}
+use Rattle.grammar.specs.Tables.{grammarIn, ruleAt}
 use Rattle.positions.specs.Positions.{emptySet, withOf}
 use Rattle.positions.proofs.SetLaws.{Fit}
 use Rattle.derivation.specs.Runs.{marked}
@@ -20,9 +20,9 @@ use Rattle.derivation.specs.Space.{frameWords}
 use Rattle.derivation.specs.Ready.{Ready}
 use Rattle.derivation.proofs.ReadyLaws.{ready-first}
 use Rattle.derivation.proofs.MarkedCells.{derives-inside}
-use Rattle.cache.specs.Recording.{Learned, learned}
+use Rattle.cache.specs.Recording.{learned}
 use Rattle.cache.specs.Predict.{predict}
-use Rattle.chart.specs.Chart.{Lent, Charted, Filled}
+use Rattle.chart.specs.Chart.{Lent, Filled}
 use Rattle.plain.specs.Frames.{Serving}
 use Rattle.plain.specs.Choice.{orZero, lowestIn}
 use Rattle.plain.specs.Machine.{pushIf, ground}

@@ -1,21 +1,19 @@
 -- The open frames of a place that calls: the end place lies at the bottom, all other return places are places of the grammar. So with the end place's
 -- set alone the sets of the lowest frame stand.
-use mathlib.Core.Path.{_≡_, refl, sym, ap, _∙_}
+use mathlib.Core.Path.{_≡_, refl}
 use mathlib.Core.List.{List, [], _∷_}
 use Prim.Native.Nat.{ℕ, zero, suc, _+_, _*_, _≤_, _<_}
 use native.Mathlib.Omega.{arith}
 use native.Mathlib.Decide.{decLt}
-use lib.Dec.{T}
 use lib.ListN.{length, getD}
 use Rattle.base.proofs.Booleans.{clash}
 use Rattle.grammar.specs.declared.Symbol.the-variants.{Nonterminal}
 use Rattle.grammar.specs.Limits.{endPlace}
 use Rattle.grammar.specs.Grammar.{facing}
 use Rattle.grammar.specs.Tables.{grammarIn}
-use Rattle.positions.specs.Positions.{member, emptySet, withOf}
 use Rattle.derivation.specs.Runs.{marked}
-use Rattle.derivation.specs.Cells.{derives?, runs?}
-use Rattle.derivation.specs.Space.{maxTokens, frameWords, returnsOf}
+use Rattle.derivation.specs.Cells.{runs?}
+use Rattle.derivation.specs.Space.{frameWords, returnsOf}
 use Rattle.derivation.specs.Ready.{Ready}
 use Rattle.derivation.proofs.Entries.{Entry, Below, ground, wait, Open, inside, quiet}
 use Rattle.derivation.proofs.FrameWords.{Held}

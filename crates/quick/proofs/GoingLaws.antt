@@ -16,7 +16,7 @@ use Rattle.derivation.specs.Cells.{derives?, runs?}
 use Rattle.derivation.specs.Machine.{accepted, stuck, full}
 use Rattle.derivation.specs.Space.{frameWords, returnsOf, Pushed}
 use Rattle.derivation.specs.Ready.{Ready}
-use Rattle.derivation.proofs.FrameWords.{Held, held-pop, held-match, held-pick, pushed-returns}
+use Rattle.derivation.proofs.FrameWords.{held-pop, held-match, held-pick, pushed-returns}
 use Rattle.derivation.proofs.Entries.{Open}
 use Rattle.derivation.proofs.ReadyLaws.{ready-ordered}
 use Rattle.derivation.proofs.MarkedCells.{length-marked}

@@ -1,21 +1,21 @@
 -- What the quick machine chooses is an alternative of the nonterminal; and choosing keeps the cache's length, whatever its words.
 use mathlib.Core.Path.{_≡_, refl, sym, ap, _∙_}
-use mathlib.Core.Bool.{Bool, true, false, _&&_}
-use mathlib.Core.Option.{Option, none, some}
+use mathlib.Core.Bool.{Bool, true, false}
+use mathlib.Core.Option.{Option, some}
 use mathlib.Core.List.{List, [], _∷_}
-use Prim.Native.Nat.{ℕ, zero, suc, _≤_, _<_}
+use Prim.Native.Nat.{ℕ, _<_}
 use native.Mathlib.Omega.{arith}
 use lib.Dec.{T, ltb, leb, ltb→lt, leb→le}
 use lib.ListN.{length, drop}
 use Rattle.base.specs.Search.{LowestIs, this, nothing}
 use Rattle.base.proofs.Booleans.{clash, and-T, true→T}
-use Rattle.grammar.specs.Grammar.{Grammar, alternatives, first}
+use Rattle.grammar.specs.Grammar.{Grammar, alternatives}
 use Rattle.grammar.specs.Tables.{grammarIn, nonterminalsIn}
 use Rattle.derivation.specs.Machine.{Serves, lowest}
 use Rattle.derivation.specs.Ready.{Ready}
 use Rattle.derivation.proofs.LowestLaws.{lowest-serves}
 use Rattle.cache.specs.Layout.{slots}
-use Rattle.cache.specs.Recording.{Learned, learned, askStart, askStep}
+use Rattle.cache.specs.Recording.{Learned, askStart, askStep}
 use Rattle.cache.specs.Predict.{Meaning, chosen, undecided, at, meaning, follow, predict}
 use Rattle.cache.proofs.LengthLaws.{length-askStart, length-askStep}
 use Rattle.cache.proofs.FollowLaws.{follow-unsure, follow-sure, follow-over, follow-on}

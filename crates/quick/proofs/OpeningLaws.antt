@@ -12,13 +12,13 @@ use Rattle.grammar.specs.Tables.{grammarIn}
 use Rattle.derivation.specs.Runs.{marked}
 use Rattle.derivation.specs.Cells.{runs?}
 use Rattle.derivation.specs.Machine.{stuck, full, onChoice}
-use Rattle.derivation.specs.Space.{frameWords, returnsOf}
+use Rattle.derivation.specs.Space.{returnsOf}
 use Rattle.derivation.specs.Ready.{Ready}
 use Rattle.derivation.proofs.Entries.{open-start}
 use Rattle.derivation.proofs.ReadyLaws.{ready-ordered}
 use Rattle.derivation.proofs.MarkedCells.{length-marked}
 use Rattle.cache.specs.Layout.{minWords}
-use Rattle.chart.specs.Chart.{Lent, Charted}
+use Rattle.chart.specs.Chart.{Lent}
 use Rattle.plain.specs.Frames.{Good}
 use Rattle.plain.specs.Machine.{ground}
 use Rattle.plain.specs.Going.{after, steps}
@@ -26,7 +26,7 @@ use Rattle.plain.specs.declared.machine.Outcome.{Outcome}
 use Rattle.plain.specs.declared.machine.Outcome.the-variants.{Stuck, Full}
 use Rattle.plain.proofs.GoingLaws.{reads, quiet}
 use Rattle.plain.proofs.CallLaws.{some-of}
-use Rattle.quick.specs.Machine.{Ended, stopped, prefixed, quickChoice, quickCall, quickRead}
+use Rattle.quick.specs.Machine.{stopped, prefixed, quickChoice, quickCall, quickRead}
 use Rattle.quick.specs.Quick.{quickNote}
 use Rattle.quick.specs.Going.{beyond, onward, Going, Began, ahead, Ran}
 use Rattle.quick.proofs.RunSteps.{beyond-entry}

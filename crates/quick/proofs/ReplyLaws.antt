@@ -3,10 +3,9 @@ use mathlib.Core.Path.{_≡_, refl, sym, ap, _∙_}
 use mathlib.Core.Bool.{Bool, true, false}
 use mathlib.Core.Option.{Option, none, some}
 use mathlib.Core.List.{List}
-use Prim.Native.Nat.{ℕ, suc, _≤_, _<_}
+use Prim.Native.Nat.{ℕ, _≤_, _<_}
 use lib.ListN.{length}
 use borrow.Author.Tests.{lt-ltb, le-ltb}
-use Rattle.base.proofs.Booleans.{clash}
 use Rattle.number.specs.declared.Refusal.{Refusal}
 use Rattle.number.specs.Refusals.{refusalNumber, refusalPlace}
 use Rattle.grammar.specs.Decode.{Rules, Parsed, got, refused, decode}
@@ -14,11 +13,12 @@ use Rattle.grammar.specs.Grammar.{Grammar, compile}
 use Rattle.grammar.specs.Tables.{grammarIn}
 use Rattle.soundness.specs.declared.judgement.Verdict.{Verdict}
 use Rattle.soundness.specs.declared.judgement.Verdict.the-variants.{Sound, Refused}
-use Rattle.soundness.specs.Check.{judged, judgeOf, checkOf}
+use Rattle.soundness.specs.Check.{judged}
 use Rattle.soundness.specs.Compiled.{Compiled}
 use Rattle.derivation.specs.Space.{maxTokens, spaceWords}
 use Rattle.derivation.specs.Plain.{Answer, refuse, firstUnknown, onOutcome}
 use Rattle.derivation.proofs.Demand2Laws.{none-known}
+use Rattle.derivation.proofs.ReadyLaws.{verdict-is, sound-judged}
 use Rattle.cache.specs.Layout.{minWords}
 use Rattle.cache.specs.Begin.{begun?}
 use Rattle.plain.specs.declared.machine.Outcome.{Outcome}
@@ -27,9 +27,8 @@ use Rattle.plain.specs.declared.tokens.Tokens.{Tokens}
 use Rattle.plain.specs.declared.tokens.Tokens.the-variants as tokens
 use Rattle.plain.specs.Machine.{outcomeIn}
 use Rattle.plain.specs.Reading.{tokensOf}
-use Rattle.plain.proofs.FinishLaws.{outcome-length, unknown-of, known-of, judged-sound}
+use Rattle.plain.proofs.FinishLaws.{outcome-length, unknown-of, known-of}
 use Rattle.quick.specs.Known.{Known}
-use Rattle.quick.specs.Machine.{Ended}
 use Rattle.quick.specs.Quick.{Reply, reply, quickNote, answered, quick13, quick12, quick11, quick9, quick8, replyUnknown, replyRules, quickReading}
 use Rattle.quick.specs.declared.machine.Stop.{Stop}
 use Rattle.quick.specs.Stop.{stopOutcome, stopKnown}
@@ -99,18 +98,13 @@ judged-refused s (refused q) {r} w row space c e = let z : q ≡ r = cc in ap (�
 judged-refused s (got u m) w row space c e = rw e
 
 module _ (s w row : List ℕ) (space : ℕ) (c : List ℕ) {v : Verdict} {t : List ℕ} (k : Compiled s v t) where
-  verdict-is : {x : Verdict} → v ≡ x → judged (decode s) ≡ x
-  unfolding checkOf
-  verdict-is e = sym (k .verdict) ∙ e
-
   pub refused-is : {r : Refusal} → v ≡ Refused r → replied (reading.Grammar r) row c ≡ quickReading s w row space c
   unfolding quickReading
-  refused-is e = judged-refused s (decode s) w row space c (verdict-is e)
+  refused-is e = judged-refused s (decode s) w row space c (verdict-is s k e)
 
   pub sound-is : v ≡ Sound → {x : Reply} → x ≡ quick8 s (grammarIn t) w row space c → x ≡ quickReading s w row space c
   unfolding quickReading
   sound-is e {x} q =
-      let (u, m, d) = judged-sound (decode s) (verdict-is e) in
-      let y : judgeOf (compile u) ≡ Sound = rw d at (verdict-is e) in
-      let z : x ≡ quick8 s (compile u) w row space c = rw (k .says u m d) at q in
-      rw (d, y) z
+      let j = sound-judged s k e in
+      let z : x ≡ quick8 s (compile (j .rules)) w row space c = rw (j .says) at q in
+      rw (j .decoded, j .sound) z

@@ -1,5 +1,5 @@
 -- One step more of the quick machine, by what the top of the stack faces; and outcomes behind the entries that a row already holds.
-use mathlib.Core.Path.{_≡_, refl, ap, _∙_}
+use mathlib.Core.Path.{_≡_, ap}
 use mathlib.Core.Bool.{false}
 use mathlib.Core.Option.{none, some}
 use mathlib.Core.List.{List, [], _∷_}
@@ -11,7 +11,6 @@ use Rattle.base.proofs.Booleans.{T→true}
 use Rattle.grammar.specs.declared.Symbol.the-variants.{Token, Nonterminal, End}
 use Rattle.grammar.specs.Grammar.{Grammar, facing, admits, first}
 use Rattle.derivation.specs.Machine.{Outcome, accepted, stuck, full, onToken, onChoice}
-use Rattle.plain.specs.Going.{after}
 use Rattle.plain.proofs.StepLaws.{after-entry}
 use Rattle.quick.specs.Machine.{quickChoice, quickCall, quickSymbol, quickStep, Ended, stopped, prefixed, quickRun}
 use Rattle.quick.specs.Going.{beyond}

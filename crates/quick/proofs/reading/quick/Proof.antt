@@ -1,5 +1,5 @@
 -- `quick::reading::quick` meets its contract.
-use Rattle.plain.proofs.FinishLaws.{sound-ready}
+use Rattle.derivation.proofs.ReadyLaws.{sound-ready}
 use Rattle.quick.proofs.ReplyLaws.{refused-is, sound-is}
 use borrow.Author.Needs.{needs}
 use Rattle.quick.proofs.reading.quick.Statement.{statement}
@@ -27,7 +27,7 @@ slice-aggregate-judged c = search needs
 
 -- src/reading.rt:155:27
 judged-requires : tie.Need-judged-requires
-judged-requires c κs = sound-ready ((c .before .before .before .before .before .before .before .before .before .before .before .before .before .before .args .grammar .now)) ((c .before .before .before .before .before .before .before .before .before .before .before .before .before .before .args .note .now)) ((c .before .before .before .before .before .before .before .before .before .before .before .before .before .before .args .row .now)) 0 (c .before .before .before .before .before .before .before .compile .ensures) (c .before .before .before .before .enum-told .given .1)
+judged-requires c κs = sound-ready ((c .before .before .before .before .before .before .before .before .before .before .before .before .before .before .args .grammar .now)) (c .before .before .before .before .before .before .before .compile .ensures) (c .before .before .before .before .enum-told .given .1)
 
 -- src/reading.rt:142:1
 returns : tie.Need-returns
