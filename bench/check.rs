@@ -5,6 +5,7 @@
 #[allow(dead_code, unsafe_code)]
 #[path = "../tests/support/allstar.rs"]
 mod allstar;
+#[allow(dead_code)]
 #[path = "support/grammars.rs"]
 mod grammars;
 #[path = "../tests/support/second_checker.rs"]

@@ -25,13 +25,13 @@ mod timing;
 #[path = "../tests/support/tree.rs"]
 mod tree;
 
-use grammars::{chain, nonterminal, ordinary, token};
+use grammars::{chain, dense, ordinary, token};
 use notes::Source;
 use random::Random;
 use second_parser::Judgement;
 use std::collections::BTreeSet;
 use std::hint::black_box;
-use tree::{from_hex, Grammar, Production};
+use tree::{from_hex, Grammar};
 
 /// Entries of the row: as many as the derivation has, but no more than so many, and so many where
 /// there is none.
@@ -166,24 +166,7 @@ fn sentence(grammar: &Grammar, random: &mut Random, tokens: usize) -> Vec<u16> {
     }
 }
 
-/// 31 nonterminals and 255 places; every nonterminal derives every row of token 1 in very many ways.
-fn dense() -> Grammar {
-    let mut rules: Vec<Vec<Production>> = Vec::new();
-    for own in 0..31 {
-        let other = |further: usize| nonterminal((own + further) % 31);
-        rules.push(vec![
-            vec![token(1), other(1), other(7)],
-            vec![token(1), other(12)],
-            vec![],
-        ]);
-    }
-    let more = [nonterminal(3), nonterminal(4)];
-    rules[0].push(vec![token(1), more[0], more[1]]);
-    rules[0].push(vec![token(1), more[0]]);
-    Grammar { kinds: 2, rules }
-}
-
-/// The same for rows of up to 128 tokens, and beyond; but each nonterminal consists of the seven
+/// All rows of up to 128 tokens, and beyond, in very many ways; but each nonterminal consists of the seven
 /// before it.  Whoever goes through them again and again from the last to the first learns all about
 /// one of them in each round.
 fn chain_up() -> Grammar {

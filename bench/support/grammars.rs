@@ -53,6 +53,23 @@ pub fn ordinary() -> Grammar {
     grammar
 }
 
+/// 31 nonterminals and 255 places; every nonterminal derives every row of token 1 in very many ways.
+pub fn dense() -> Grammar {
+    let mut rules: Vec<Vec<Production>> = Vec::new();
+    for own in 0..31 {
+        let other = |further: usize| nonterminal((own + further) % 31);
+        rules.push(vec![
+            vec![token(1), other(1), other(7)],
+            vec![token(1), other(12)],
+            vec![],
+        ]);
+    }
+    let more = [nonterminal(3), nonterminal(4)];
+    rules[0].push(vec![token(1), more[0], more[1]]);
+    rules[0].push(vec![token(1), more[0]]);
+    Grammar { kinds: 2, rules }
+}
+
 /// 255 places: the first of `order` has the rule `first`, and each other one consists of the seven
 /// before it in the order, the one just before it last.  Places left over go to tokens in the last.
 pub fn chain(order: &[usize], first: Vec<Production>) -> Grammar {

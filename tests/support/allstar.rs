@@ -5,6 +5,14 @@ use std::fmt;
 extern "C" {
     fn allstar_check(grammar: *const u8, length: usize, place: *mut u64) -> u32;
 
+    fn allstar_begin(
+        grammar: *const u8,
+        grammar_length: usize,
+        cache: *mut u32,
+        cache_length: usize,
+        place: *mut u64,
+    ) -> u32;
+
     fn allstar_plain(
         grammar: *const u8,
         grammar_length: usize,
@@ -19,7 +27,7 @@ extern "C" {
     ) -> u32;
 }
 
-/// What a check answers: document 01's number, 0 if accepted, and the place.
+/// What a check, or beginning a cache, answers: document 01's number, 0 if accepted, and the place.
 #[derive(Clone, Copy, Debug, PartialEq, Eq)]
 pub struct Verdict {
     pub number: u32,
@@ -77,6 +85,24 @@ pub fn check_over(grammar: &[u8], garbage: u64) -> Verdict {
     // SAFETY: the pointer is valid for reads of that many bytes (an empty slice has a non-null,
     // dangling one), `place` is valid for a write, and the library keeps neither.
     let number = unsafe { allstar_check(grammar.as_ptr(), grammar.len(), &mut place) };
+    Verdict { number, place }
+}
+
+/// Begins a cache for a grammar.
+pub fn begin(grammar: &[u8], cache: &mut [u32]) -> Verdict {
+    let mut place = NONE;
+    // SAFETY: the grammar is valid for reads and the cache for reads and writes of that many elements
+    // (an empty slice has a non-null, dangling pointer), `place` is valid for a write, no two of them
+    // overlap, and the library keeps none.
+    let number = unsafe {
+        allstar_begin(
+            grammar.as_ptr(),
+            grammar.len(),
+            cache.as_mut_ptr(),
+            cache.len(),
+            &mut place,
+        )
+    };
     Verdict { number, place }
 }
 
