@@ -8,5 +8,8 @@ mod slots;
 pub use asking::ask_start;
 pub use asking::ask_step;
 pub use beginning::Beginning;
+pub use beginning::MIN_WORDS;
 pub use beginning::begin;
 pub use beginning::is_begun;
+pub use slots::decision;
+pub use slots::slots as slot_count;

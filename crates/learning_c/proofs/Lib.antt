@@ -1,0 +1,2 @@
+-- Laws for single questions.
+pub mod QuestionLaws

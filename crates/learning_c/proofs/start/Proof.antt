@@ -1,0 +1,30 @@
+-- `learning_c::start` meets its contract.
+use borrow.Author.Needs.{needs}
+use native.Mathlib.Omega.{arith}
+use denote.Ref.{now}
+use Rattle.learning_c.proofs.QuestionLaws.{start-short, start-known, start-unknown}
+use Rattle.learning_c.proofs.start.Statement.{statement}
+use Rattle.learning_c.proofs.start.Tie as tie
+
+returns : tie.Need-returns
+returns c = start-short (now (c .before .before .before .args .tables)) _ _ (omega arith)
+
+nonterminals-requires : tie.Need-nonterminals-requires
+nonterminals-requires c κs = search needs
+
+ask-start-requires : tie.Need-ask-start-requires
+ask-start-requires c κs = search needs
+
+same-length : tie.Need-same-length
+same-length c = search needs
+
+returns-2 : tie.Need-returns-2
+returns-2 c = start-known _ _ _ (omega arith) (omega (arith, c .before .before .before .before .before .nonterminals .ensures)) (c .before .before .ask-start .ensures)
+
+returns-3 : tie.Need-returns-3
+returns-3 c = start-unknown (now (c .before .before .before .before .before .args .tables)) _ _ (omega arith) (omega (arith, c .before .nonterminals .ensures))
+
+pub start-spec : {M : Type 1} → statement M
+start-spec =
+    tie.close
+    (tie.spec returns nonterminals-requires ask-start-requires same-length returns-2 returns-3)

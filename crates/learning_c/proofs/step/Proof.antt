@@ -1,0 +1,41 @@
+-- `learning_c::step` meets its contract.
+use borrow.Author.Needs.{needs}
+use native.Mathlib.Omega.{arith}
+use denote.Ref.{now}
+use Rattle.grammar.specs.Tables.{grammarIn}
+use Rattle.learning_c.proofs.QuestionLaws.{decision-fits, step-high, step-known, step-unknown}
+use Rattle.learning_c.proofs.step.Statement.{statement}
+use Rattle.learning_c.proofs.step.Tie as tie
+
+returns : tie.Need-returns
+returns c = step-high (grammarIn (now (c .before .before .before .args .tables))) _ _ _ (omega arith)
+
+slots-requires : tie.Need-slots-requires
+slots-requires c κs = search needs
+
+decision-requires : tie.Need-decision-requires
+decision-requires c κs = search needs
+
+ask-step-requires : tie.Need-ask-step-requires
+ask-step-requires c κs = (c .before .before .before .before .before .before .before .before .pre, omega (arith, c .before .before .before .before .slots .ensures), omega arith, decision-fits _ _ (λ k. c .before .before .before .before .before .before .slice-known .given k .fits) (c .before .decision .ensures))
+
+same-length : tie.Need-same-length
+same-length c = search needs
+
+returns-2 : tie.Need-returns-2
+returns-2 c = step-known _ _ _ _ (omega arith) (omega (arith, c .before .before .before .before .before .before .before .slots .ensures)) (c .before .before .before .before .decision .ensures) (c .before .before .ask-step .ensures)
+
+returns-3 : tie.Need-returns-3
+returns-3 c = step-unknown (grammarIn (now (c .before .before .before .before .before .args .tables))) _ _ _ (omega arith) (omega (arith, c .before .slots .ensures))
+
+pub step-spec : {M : Type 1} → statement M
+step-spec =
+    tie.close
+    (tie.spec
+    returns
+    slots-requires
+    decision-requires
+    ask-step-requires
+    same-length
+    returns-2
+    returns-3)

@@ -1,0 +1,2 @@
+-- What single questions to a cache answer.
+pub mod Questions
