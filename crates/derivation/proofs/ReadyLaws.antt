@@ -1,13 +1,14 @@
 -- What tables that are ready give a reading: every index that it meets is in range, and productions never leave their places.
-use mathlib.Core.Path.{_≡_, sym, ap, _∙_}
+use mathlib.Core.Path.{_≡_, refl, sym, ap, _∙_}
 use mathlib.Core.Option.{some}
 use mathlib.Core.List.{List}
 use Prim.Native.Nat.{ℕ, suc, _≤_, _<_}
 use native.Mathlib.Omega.{arith}
 use lib.ListN.{length}
+use Rattle.base.proofs.Booleans.{clash}
 use Rattle.grammar.specs.declared.Symbol.the-variants.{Token, Nonterminal, End}
 use Rattle.grammar.specs.Limits.{maxPlaces, maxNonterminals}
-use Rattle.grammar.specs.Decode.{Rules, Mark, got, decode}
+use Rattle.grammar.specs.Decode.{Rules, Mark, Parsed, got, refused, decode}
 use Rattle.grammar.specs.Grammar.{Grammar, facing, first, sizeAll, compile}
 use Rattle.grammar.specs.Tables.{grammarIn, nonterminalsIn}
 use Rattle.grammar.specs.Ordered.{Ordered}
@@ -17,6 +18,7 @@ use Rattle.grammar.proofs.PlaceLaws.{compile-within}
 use Rattle.reader.proofs.ReadLaws.{decode-limited}
 use Rattle.soundness.specs.declared.judgement.Verdict.{Verdict}
 use Rattle.soundness.specs.declared.judgement.Verdict.the-variants.{Sound}
+use Rattle.soundness.specs.Check.{judgeOf, judged, checkOf}
 use Rattle.soundness.specs.Compiled.{Compiled}
 use Rattle.derivation.specs.Ready.{Ready}
 use Rattle.derivation.proofs.CellLaws.{Kept}
@@ -32,6 +34,30 @@ ready s v t r m c e q =
       fits = c .fits r m e;
       straight = checked-sound s r m e (sym (c .verdict) ∙ q);
     }
+
+-- rules that bytes s say, that are judged sound, and that tables t say
+pub record Judged (s t : List ℕ) : Type 0 where
+  pub rules : Rules
+  pub mark : Mark
+  pub decoded : decode s ≡ got rules mark
+  pub sound : judgeOf (compile rules) ≡ Sound
+  pub says : grammarIn t ≡ compile rules
+
+-- what follows from a verdict
+module _ (s : List ℕ) {v : Verdict} {t : List ℕ} (c : Compiled s v t) where
+  pub verdict-is : {x : Verdict} → v ≡ x → judged (decode s) ≡ x
+  unfolding checkOf
+  verdict-is e = sym (c .verdict) ∙ e
+
+  pub sound-judged : v ≡ Sound → Judged s t
+  sound-judged e = go (decode s) refl (verdict-is e)
+    where
+      go : (d : Parsed Rules) → decode s ≡ d → judged d ≡ Sound → Judged s t
+      go (refused q) f j = clash (cc)
+      go (got r m) f j = record { rules = r; mark = m; decoded = f; sound = j; says = c .says r m f }
+
+  pub sound-ready : v ≡ Sound → Ready t
+  sound-ready e = let j = sound-judged e in ready s v t (j .rules) (j .mark) c (j .decoded) e
 
 module _ (t : List ℕ) (h : Ready t) where
   abbrev g : Grammar

@@ -1,23 +1,20 @@
 -- Single questions by the code's ways out.
-use mathlib.Core.Path.{_≡_, refl, sym, _∙_}
+use mathlib.Core.Path.{_≡_, refl}
 use mathlib.Core.List.{List}
 use Prim.Native.Nat.{ℕ, _≤_, _<_, _^_}
-use native.Mathlib.Omega.{arith}
 use lib.ListN.{length, getD}
 use borrow.Author.Tests.{lt-ltb, le-ltb}
-use Rattle.base.proofs.Booleans.{clash}
 use Rattle.number.specs.declared.Refusal.{Refusal}
 use Rattle.grammar.specs.Limits.{maxKinds}
-use Rattle.grammar.specs.Decode.{Rules, Parsed, Mark, got, refused, decode}
+use Rattle.grammar.specs.Decode.{Rules, Parsed, got, refused, decode}
 use Rattle.grammar.specs.Grammar.{Grammar, compile}
 use Rattle.grammar.specs.Tables.{grammarIn, nonterminalsIn}
 use Rattle.grammar.proofs.WordLaws.{length-starts-in}
 use Rattle.soundness.specs.declared.judgement.Verdict.{Verdict}
 use Rattle.soundness.specs.declared.judgement.Verdict.the-variants.{Sound, Refused}
-use Rattle.soundness.specs.Check.{judgeOf, judged, checkOf}
+use Rattle.soundness.specs.Check.{judged}
 use Rattle.soundness.specs.Compiled.{Compiled}
-use Rattle.derivation.specs.Ready.{Ready}
-use Rattle.derivation.proofs.ReadyLaws.{ready}
+use Rattle.derivation.proofs.ReadyLaws.{verdict-is, sound-judged}
 use Rattle.cache.specs.Layout.{minWords, slots, slotAt}
 use Rattle.cache.specs.Words.{decision}
 use Rattle.cache.specs.Recording.{Learned, learned, askStart, askStep}
@@ -58,32 +55,20 @@ module _ (g : Grammar) (c : List ℕ) (s t : ℕ) where
     step-unknown l = rw (le-ltb maxKinds t h, le-ltb s (slots (length c)) l)
 
 -- ---- for any bytes
-judged-sound : (d : Parsed Rules) → judged d ≡ Sound → (r : Rules) × (m : Mark) × (d ≡ got r m)
-judged-sound (refused q) e = clash (cc)
-judged-sound (got r m) e = (r, m, refl)
-
 judged-refused : (c : List ℕ) (ask : Grammar → Learned) (d : Parsed Rules) {q : Refusal} → judged d ≡ Refused q → learned 0 c ≡ onRules c ask d
 judged-refused c ask (refused r) e = refl
 judged-refused c ask (got r m) e = rw e
 
 module _ (s c : List ℕ) {v : Verdict} {t : List ℕ} (k : Compiled s v t) where
-  verdict-is : {x : Verdict} → v ≡ x → judged (decode s) ≡ x
-  unfolding checkOf
-  verdict-is e = sym (k .verdict) ∙ e
-
-  pub sound-ready : v ≡ Sound → Ready t
-  sound-ready e = let (r, m, d) = judged-sound (decode s) (verdict-is e) in ready s v t r m k d e
-
   asked : (ask : Grammar → Learned) → v ≡ Sound → {x : Learned} → x ≡ ask (grammarIn t) → x ≡ onRules c ask (decode s)
   asked ask e {x} q =
-      let (r, m, d) = judged-sound (decode s) (verdict-is e) in
-      let y : judgeOf (compile r) ≡ Sound = rw d at (verdict-is e) in
-      let z : x ≡ ask (compile r) = rw (k .says r m d) at q in
-      rw (d, y) z
+      let j = sound-judged s k e in
+      let z : x ≡ ask (compile (j .rules)) = rw (j .says) at q in
+      rw (j .decoded, j .sound) z
 
   pub start-refused : (a : ℕ) {q : Refusal} → v ≡ Refused q → learned 0 c ≡ startOf s c a
   unfolding startOf
-  start-refused a e = judged-refused c (λ (g : Grammar). startIn g c a) (decode s) (verdict-is e)
+  start-refused a e = judged-refused c (λ (g : Grammar). startIn g c a) (decode s) (verdict-is s k e)
 
   pub start-asked : {a b : ℕ} {x : Learned} → v ≡ Sound → b ≡ a → x ≡ startIn (grammarIn t) c b → x ≡ startOf s c a
   unfolding startOf
@@ -91,7 +76,7 @@ module _ (s c : List ℕ) {v : Verdict} {t : List ℕ} (k : Compiled s v t) wher
 
   pub step-refused : (n i : ℕ) {q : Refusal} → v ≡ Refused q → learned 0 c ≡ stepOf s c n i
   unfolding stepOf
-  step-refused n i e = judged-refused c (λ (g : Grammar). stepIn g c n i) (decode s) (verdict-is e)
+  step-refused n i e = judged-refused c (λ (g : Grammar). stepIn g c n i) (decode s) (verdict-is s k e)
 
   pub step-asked : {n m i j : ℕ} {x : Learned} → v ≡ Sound → m ≡ n → j ≡ i → x ≡ stepIn (grammarIn t) c m j → x ≡ stepOf s c n i
   unfolding stepOf

@@ -17,13 +17,13 @@ use Rattle.base.specs.Search.{LowestIs, this, nothing}
 use Rattle.number.specs.declared.Refusal.{Refusal}
 use Rattle.number.specs.Refusals.{refusalNumber, refusalPlace}
 use Rattle.grammar.specs.Limits.{endPlace, maxPlaces}
-use Rattle.grammar.specs.Decode.{Rules, Mark, Parsed, got, refused, decode}
+use Rattle.grammar.specs.Decode.{Rules, Parsed, got, refused, decode}
 use Rattle.grammar.specs.Grammar.{Grammar, alternatives, compile}
 use Rattle.grammar.specs.Tables.{grammarIn}
 use Rattle.grammar.proofs.GrammarLaws.{first-pos}
 use Rattle.soundness.specs.declared.judgement.Verdict.{Verdict}
 use Rattle.soundness.specs.declared.judgement.Verdict.the-variants.{Sound, Refused}
-use Rattle.soundness.specs.Check.{judgeOf, judged, checkOf}
+use Rattle.soundness.specs.Check.{judged}
 use Rattle.soundness.specs.Compiled.{Compiled}
 use Rattle.positions.specs.Positions.{emptySet, withOf}
 use Rattle.positions.proofs.SetLaws.{Fit}
@@ -36,7 +36,7 @@ use Rattle.derivation.specs.ReachRounds.{wrongPlace}
 use Rattle.derivation.specs.Ready.{Ready}
 use Rattle.derivation.proofs.CellLaws.{runs-iff}
 use Rattle.derivation.proofs.LowestLaws.{lowest-serves}
-use Rattle.derivation.proofs.ReadyLaws.{ready}
+use Rattle.derivation.proofs.ReadyLaws.{verdict-is, sound-judged}
 use Rattle.chart.specs.Chart.{Lent, Charted}
 use Rattle.plain.specs.Choice.{orZero, lowestIn}
 use Rattle.plain.specs.Machine.{outcomeIn, Ran}
@@ -166,26 +166,14 @@ judged-refused : (s : List ℕ) (d : Parsed Rules) {r : Refusal} (w row : List �
 judged-refused s (refused q) {r} w row space e = let z : q ≡ r = cc in ap (λ (q : Refusal). refuse (refusalNumber q) (refusalPlace q) row) (sym z)
 judged-refused s (got u m) w row space e = rw e
 
-judged-sound : (d : Parsed Rules) → judged d ≡ Sound → (u : Rules) × (m : Mark) × (d ≡ got u m)
-judged-sound (refused q) e = clash (cc)
-judged-sound (got u m) e = (u, m, refl)
-
 module _ (s w row : List ℕ) (space : ℕ) {v : Verdict} {t : List ℕ} (c : Compiled s v t) where
-  verdict-is : {x : Verdict} → v ≡ x → judged (decode s) ≡ x
-  unfolding checkOf
-  verdict-is e = sym (c .verdict) ∙ e
-
   pub refused-is : {r : Refusal} → v ≡ Refused r → answered (the-variants.Grammar r) row ≡ plainReading s w row space
   unfolding plainReading
-  refused-is e = judged-refused s (decode s) w row space (verdict-is e)
-
-  pub sound-ready : v ≡ Sound → Ready t
-  sound-ready e = let (u, m, d) = judged-sound (decode s) (verdict-is e) in ready s v t u m c d e
+  refused-is e = judged-refused s (decode s) w row space (verdict-is s c e)
 
   pub sound-is : v ≡ Sound → {x : Answer} → x ≡ from8 (grammarIn t) w row space → x ≡ plainReading s w row space
   unfolding plainReading
   sound-is e {x} q =
-      let (u, m, d) = judged-sound (decode s) (verdict-is e) in
-      let y : judgeOf (compile u) ≡ Sound = rw d at (verdict-is e) in
-      let z : x ≡ from8 (compile u) w row space = rw (c .says u m d) at q in
-      rw (d, y) z
+      let j = sound-judged s c e in
+      let z : x ≡ from8 (compile (j .rules)) w row space = rw (j .says) at q in
+      rw (j .decoded, j .sound) z

@@ -1,6 +1,7 @@
 -- `learning_c::learning_start` meets its contract.
 use borrow.Author.Needs.{needs}
-use Rattle.learning_c.proofs.QuestionLaws.{sound-ready, start-refused, start-asked}
+use Rattle.derivation.proofs.ReadyLaws.{sound-ready}
+use Rattle.learning_c.proofs.QuestionLaws.{start-refused, start-asked}
 use Rattle.learning_c.proofs.learning_start.Statement.{statement}
 use Rattle.learning_c.proofs.learning_start.Tie as tie
 
@@ -23,7 +24,7 @@ number-requires : tie.Need-number-requires
 number-requires c κs = search needs
 
 start-requires : tie.Need-start-requires
-start-requires c κs = let a = c .before .before .before .before .before .before .before .before .before .before .args in sound-ready (a .grammar .now) (a .cache .now) (c .before .before .before .before .before .before .compile .ensures) (c .before .before .before .enum-told2 .given .1)
+start-requires c κs = let a = c .before .before .before .before .before .before .before .before .before .before .args in sound-ready (a .grammar .now) (c .before .before .before .before .before .before .compile .ensures) (c .before .before .before .enum-told2 .given .1)
 
 returns : tie.Need-returns
 returns c = start-refused _ _ (c .before .before .before .compile .ensures) _ (c .enum-told .given .1)

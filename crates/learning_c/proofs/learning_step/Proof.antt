@@ -1,6 +1,7 @@
 -- `learning_c::learning_step` meets its contract.
 use borrow.Author.Needs.{needs}
-use Rattle.learning_c.proofs.QuestionLaws.{sound-ready, step-refused, step-asked}
+use Rattle.derivation.proofs.ReadyLaws.{sound-ready}
+use Rattle.learning_c.proofs.QuestionLaws.{step-refused, step-asked}
 use Rattle.learning_c.proofs.learning_step.Statement.{statement}
 use Rattle.learning_c.proofs.learning_step.Tie as tie
 
@@ -26,7 +27,7 @@ number-requires-2 : tie.Need-number-requires-2
 number-requires-2 c κs = search needs
 
 step-requires : tie.Need-step-requires
-step-requires c κs = let a = c .before .before .before .before .before .before .before .before .before .before .before .args in sound-ready (a .grammar .now) (a .cache .now) (c .before .before .before .before .before .before .before .compile .ensures) (c .before .before .before .before .enum-told2 .given .1)
+step-requires c κs = let a = c .before .before .before .before .before .before .before .before .before .before .before .args in sound-ready (a .grammar .now) (c .before .before .before .before .before .before .before .compile .ensures) (c .before .before .before .before .enum-told2 .given .1)
 
 returns : tie.Need-returns
 returns c = step-refused _ _ (c .before .before .before .compile .ensures) _ _ (c .enum-told .given .1)

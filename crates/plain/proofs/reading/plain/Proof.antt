@@ -1,6 +1,7 @@
 -- `plain::reading::plain` meets its contract.
 use borrow.Author.Needs.{needs}
-use Rattle.plain.proofs.FinishLaws.{refused-is, sound-ready, sound-is}
+use Rattle.derivation.proofs.ReadyLaws.{sound-ready}
+use Rattle.plain.proofs.FinishLaws.{refused-is, sound-is}
 use Rattle.plain.proofs.reading.plain.Statement.{statement}
 use Rattle.plain.proofs.reading.plain.Tie as tie
 
@@ -20,7 +21,7 @@ slice-aggregate-judged : tie.Need-slice-aggregate-judged
 slice-aggregate-judged c = search needs
 
 judged-requires : tie.Need-judged-requires
-judged-requires c κs = let a = c .before .before .before .before .before .before .before .before .before .before .before .before .args in sound-ready (a .grammar .now) (a .note .now) (a .row .now) 0 (c .before .before .before .before .before .before .compile .ensures) (c .before .before .before .enum-told .given .1)
+judged-requires c κs = let a = c .before .before .before .before .before .before .before .before .before .before .before .before .args in sound-ready (a .grammar .now) (c .before .before .before .before .before .before .compile .ensures) (c .before .before .before .enum-told .given .1)
 
 returns : tie.Need-returns
 returns c = refused-is _ _ _ _ (c .before .before .before .before .compile .ensures) (c .before .verdict .given .1)
