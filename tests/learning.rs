@@ -396,7 +396,7 @@ struct Case {
     grammar: Vec<u8>,
     length: usize,
     asked: Vec<Question>,
-    /// The words of a foreign cache that differ from those of one that has just begun.
+    /// The words of a foreign cache before the first question.
     foreign: Vec<u32>,
 }
 
