@@ -7,3 +7,4 @@ pub mod Stop
 pub mod Replied
 pub mod Demand3
 pub mod Sets
+pub mod Whole
