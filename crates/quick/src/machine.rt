@@ -39,19 +39,28 @@ fn begin(
     let count = grammar::rule_at(tables, 1) - grammar::rule_at(tables, 0);
     if count < 2 {
         let stand = crate::choosing::push(ws, base, 0, 0, grammar::END_PLACE);
-        return Pick { alternative: 1, known: stand };
+        return Pick {
+            alternative: 1,
+            known: stand,
+        };
     }
     let said = base::number(crate::predict::predict(tables, note, cache, 0, 0));
     if 0 < said {
         if said <= count {
             let stand = crate::choosing::push(ws, base, 0, 0, grammar::END_PLACE);
-            return Pick { alternative: said, known: stand };
+            return Pick {
+                alternative: said,
+                known: stand,
+            };
         }
     }
     chart::fill(tables, note, ws, places);
     let s = Positions::empty().with(note.len());
     let b = plain::machine::choose(tables, ws, places, base, 0, grammar::END_PLACE, 0, 0, s);
-    Pick { alternative: b, known: 1 }
+    Pick {
+        alternative: b,
+        known: 1,
+    }
 }
 
 // From the first place of nonterminal 0's alternative, the row's first entry, on.
@@ -104,7 +113,19 @@ fn go(
                 if count == row.len() {
                     return Stop::Full(known);
                 }
-                let pick = crate::choosing::decide(tables, note, cache, ws, places, base, known, d, p, a, i);
+                let pick = crate::choosing::decide(
+                    tables,
+                    note,
+                    cache,
+                    ws,
+                    places,
+                    base,
+                    known,
+                    d,
+                    p,
+                    a,
+                    i,
+                );
                 known = pick.known;
                 let b = pick.alternative;
                 if b == 0 {
@@ -143,5 +164,15 @@ pub fn run(
     }
     row[0] = base::narrow(b);
     let start = plain::machine::first(tables, 0, b);
-    go(tables, note, row, cache, ws, places, base, start, pick.known)
+    go(
+        tables,
+        note,
+        row,
+        cache,
+        ws,
+        places,
+        base,
+        start,
+        pick.known,
+    )
 }
