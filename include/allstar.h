@@ -54,6 +54,33 @@ uint32_t allstar_begin(const uint8_t *grammar, size_t grammar_length, uint32_t *
 uint32_t allstar_plain(const uint8_t *grammar, size_t grammar_length, const uint16_t *note, size_t note_length, uint16_t *row, size_t row_length,
                        uint32_t *workspace, size_t workspace_length, uint64_t *place, uint64_t *count);
 
+/* Reads a note by a grammar over a begun cache: the quick reading. The cache learns, and later readings over it go faster. Lent are
+ *   the grammar     bytes of any length; they are checked in every call
+ *   the note        its tokens, at most 128
+ *   the row         as in allstar_plain
+ *   the cache       begun by allstar_begin for the same grammar bytes at the same length, at least 2,368 words; lent whole, as the last reading over it left it. It stays the
+ *                   caller's, and two calls at the same time never share it
+ *   the workspace   as in allstar_plain, of the same least length; it may hold anything before the call and holds anything after it
+ * Answers 0 if the note is a sentence and its derivation fits the row, else the number of the refusal, the first that applies in this order:
+ *   1 to 7   the grammar, as in allstar_check
+ *   8        the note has more than 128 tokens
+ *   9        a token is 0 or above the grammar's highest kind
+ *   11       the workspace is too short
+ *   12       the cache has fewer than 2,368 words
+ *   13       the cache was not begun for these grammar bytes at this length
+ *   10       the note is no sentence
+ *   14       the note is a sentence, and its derivation has more entries than the row
+ * and stores the place and the count of entries, as in allstar_plain; the place is 0 for 12 and 13. Where 12 and 13 do not apply, number, place, count and row are those of
+ * allstar_plain, whatever the cache has learned.
+ *
+ * The row afterwards: as in allstar_plain; after 12 and 13 it is untouched.
+ * The cache afterwards: accepted, and after 10 and 14, it holds what it held and what this reading learned; after any other refusal it is untouched.
+ *
+ * Only the words that hold the grammar bytes and the length are looked at for 13. If other words of the cache are not what allstar_begin and allstar_quick left there, the
+ * answer can be wrong, and nothing else: the call still ends, and writes nothing but what is lent to it. */
+uint32_t allstar_quick(const uint8_t *grammar, size_t grammar_length, const uint16_t *note, size_t note_length, uint16_t *row, size_t row_length,
+                       uint32_t *cache, size_t cache_length, uint32_t *workspace, size_t workspace_length, uint64_t *place, uint64_t *count);
+
 #ifdef __cplusplus
 }
 #endif
