@@ -1,0 +1,31 @@
+// Delivery notes read by ALL(*), every call proved. A grammar is a row of bytes that says which rows of numbered tokens are sentences; a note is such a row.
+//
+//   check(grammar)                                 whether the grammar is sound
+//   plain(grammar, note, row, workspace)           the note's derivation into the row, or a refusal
+//   begin(grammar, cache)                          a lookahead cache for the grammar
+//   quick(grammar, note, row, cache, workspace)    the same answer as `plain`, always, and faster the more the cache has learned
+//
+// Nobody has to check anything before a call: bytes, notes and caches may be anything, and every call looks at all it needs itself. Nothing is stored but
+// in what is lent. A derivation is the leftmost one that takes, at each step, the lowest alternative from which the whole rest of the note can still be
+// derived; the row gets the alternatives taken, counted from 1, in order, and zeros behind them.
+//
+// Answers are enums with a case for each refusal; `number()`, `place()` and, for readings, `count()` give them as numbers:
+//
+//   0    accepted                                             8    more than 128 tokens in the note
+//   1    the bytes end before the grammar does                9    a token that the grammar does not know, at place
+//   2    a number that is malformed                           10   no sentence: the token, or the end, at place is allowed by none
+//   3    a limit is broken                                    11   workspace shorter than 8,192 + 8 * places * (tokens + 1) words
+//   4    a symbol that does not exist                         12   cache shorter than 2,368 words
+//   5    bytes behind the grammar                             13   cache not begun for this grammar at this length
+//   6    a nonterminal that derives no row of tokens          14   a sentence whose derivation is longer than the row
+//   7    a left recursive nonterminal
+//
+// After 10 and 14 the row is all zeros and the cache keeps what it learned; every other refusal leaves row and cache as they were.
+pub use cache::Beginning;
+pub use cache::begin;
+pub use number::Refusal;
+pub use plain::Reading;
+pub use plain::plain;
+pub use quick::quick;
+pub use soundness::Verdict;
+pub use soundness::check;
