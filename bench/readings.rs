@@ -1,5 +1,5 @@
-//! The time of one plain reading, the grammar check alone beside it.  Compiled with
-//! `rustc -O --edition 2021 -L target/staticlib -l static=allstar_c bench/plain.rs -o target/bench/plain`.
+//! The time of one reading: quick over a cache that has learned the note, quick over a freshly begun cache (the time of beginning taken off), plain, and the grammar check
+//! alone, side by side.  Compiled with `rustc -O --edition 2021 -L target/staticlib -l static=allstar_c bench/readings.rs -o target/bench/readings`.
 #![deny(unsafe_code)]
 
 #[allow(dead_code, unsafe_code)]
@@ -36,12 +36,17 @@ use tree::{from_hex, Grammar};
 /// Entries of the row: as many as the derivation has, but no more than so many, and so many where
 /// there is none.
 const LONGEST_ROW: usize = 512;
+
+/// Words of a cache with 157 slots, and its word that says how many states are held.
+const CACHE: usize = 2_048 + 320 * 157;
+const STATES_HELD: usize = 4;
+
 const ROW_OF_NO_SENTENCE: usize = 16;
 
 fn main() {
     println!(
-        "{:30} {:>6} {:>6} {:>5}  {:10} {:>12} {:>9}",
-        "reading", "places", "tokens", "row", "answer", "plain ns", "check ns"
+        "{:30} {:>6} {:>6} {:>5}  {:10} {:>6} {:>10} {:>10} {:>12} {:>9}",
+        "reading", "places", "tokens", "row", "answer", "states", "warm ns", "cold ns", "plain ns", "check ns"
     );
     for Case {
         name,
@@ -63,7 +68,32 @@ fn main() {
             println!("{name}: the parsers disagree");
             std::process::exit(1);
         }
-        let [plain, check] = timing::nanoseconds([
+        let mut cache = vec![0; CACHE];
+        let mut quick_row = vec![0; row.len()];
+        allstar::begin(&grammar, &mut cache);
+        let quickly = allstar::quick(&grammar, &note, &mut quick_row, &mut cache, &mut workspace);
+        if quickly != answer || quick_row != row {
+            println!("{name}: the readings disagree");
+            std::process::exit(1);
+        }
+        let states = cache[STATES_HELD];
+        let mut begun = vec![0; CACHE];
+        let mut fresh = vec![0; CACHE];
+        let (mut cold_row, mut cold_space) = (quick_row.clone(), workspace.clone());
+        let mut quick_space = workspace.clone();
+        let [warm, cold, begin, plain, check] = timing::nanoseconds([
+            &mut || {
+                let (grammar, note) = (black_box(&grammar), black_box(&note));
+                black_box(allstar::quick(grammar, note, &mut quick_row, &mut cache, &mut quick_space));
+            },
+            &mut || {
+                let (grammar, note) = (black_box(&grammar), black_box(&note));
+                black_box(allstar::begin(grammar, &mut fresh));
+                black_box(allstar::quick(grammar, note, &mut cold_row, &mut fresh, &mut cold_space));
+            },
+            &mut || {
+                black_box(allstar::begin(black_box(&grammar), &mut begun));
+            },
             &mut || {
                 let (grammar, note) = (black_box(&grammar), black_box(&note));
                 black_box(allstar::plain(grammar, note, &mut row, &mut workspace));
@@ -72,9 +102,10 @@ fn main() {
                 black_box(allstar::check(black_box(&grammar)));
             },
         ]);
+        let cold = cold - begin;
         let places = second_checker::read(&grammar).map_or(0, |grammar| grammar.places());
         println!(
-            "{name:30} {places:>6} {:>6} {:>5}  {answer:10} {plain:>12.1} {check:>9.1}",
+            "{name:30} {places:>6} {:>6} {:>5}  {answer:10} {states:>6} {warm:>10.1} {cold:>10.1} {plain:>12.1} {check:>9.1}",
             note.len(),
             row.len()
         );
