@@ -25,6 +25,21 @@ extern "C" {
         place: *mut u64,
         count: *mut u64,
     ) -> u32;
+
+    fn allstar_quick(
+        grammar: *const u8,
+        grammar_length: usize,
+        note: *const u16,
+        note_length: usize,
+        row: *mut u16,
+        row_length: usize,
+        cache: *mut u32,
+        cache_length: usize,
+        workspace: *mut u32,
+        workspace_length: usize,
+        place: *mut u64,
+        count: *mut u64,
+    ) -> u32;
 }
 
 /// What a check, or beginning a cache, answers: document 01's number, 0 if accepted, and the place.
@@ -121,6 +136,42 @@ pub fn plain(grammar: &[u8], note: &[u16], row: &mut [u16], workspace: &mut [u32
             note.len(),
             row.as_mut_ptr(),
             row.len(),
+            workspace.as_mut_ptr(),
+            workspace.len(),
+            &mut place,
+            &mut count,
+        )
+    };
+    Answer {
+        number,
+        place,
+        count,
+    }
+}
+
+/// Reads a note over a begun cache, which learns, and writes its derivation to the row.
+pub fn quick(
+    grammar: &[u8],
+    note: &[u16],
+    row: &mut [u16],
+    cache: &mut [u32],
+    workspace: &mut [u32],
+) -> Answer {
+    let mut place = NONE;
+    let mut count = NONE;
+    // SAFETY: grammar and note are valid for reads and row, cache and working space for reads and
+    // writes of that many elements (an empty slice has a non-null, dangling pointer), `place` and
+    // `count` are valid for a write, no two of them overlap, and the library keeps none.
+    let number = unsafe {
+        allstar_quick(
+            grammar.as_ptr(),
+            grammar.len(),
+            note.as_ptr(),
+            note.len(),
+            row.as_mut_ptr(),
+            row.len(),
+            cache.as_mut_ptr(),
+            cache.len(),
             workspace.as_mut_ptr(),
             workspace.len(),
             &mut place,
