@@ -70,8 +70,8 @@ uint32_t allstar_plain(const uint8_t *grammar, size_t grammar_length, const uint
  *   13       the cache was not begun for these grammar bytes at this length
  *   10       the note is no sentence
  *   14       the note is a sentence, and its derivation has more entries than the row
- * and stores the place and the count of entries, as in allstar_plain; the place is 0 for 12 and 13. Where 12 and 13 do not apply, number, place, count and row are those of
- * allstar_plain, whatever the cache has learned.
+ * and stores the place and the count of entries, as in allstar_plain; the place is 0 for 12 and 13. Where 12 and 13 do not apply and the cache is as told above, number,
+ * place, count and row are those of allstar_plain, whatever was learned.
  *
  * The row afterwards: as in allstar_plain; after 12 and 13 it is untouched.
  * The cache afterwards: accepted, and after 10 and 14, it holds what it held and what this reading learned; after any other refusal it is untouched.
