@@ -18,6 +18,7 @@ pub mod ChoseLaws
 pub mod OpeningLaws
 pub mod BeginLaws
 pub mod ReplyLaws
+pub mod EffectLaws
 pub mod WholeLaws
 pub mod AskLaws
 pub mod ServeLaws

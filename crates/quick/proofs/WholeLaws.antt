@@ -6,9 +6,9 @@ use Prim.Native.Nat.{ℕ, _≤_}
 use lib.Dec.{ltb}
 use lib.ListN.{length}
 use borrow.Author.Tests.{ltb-false}
+use native.Mathlib.Omega.{arith}
 use Rattle.base.proofs.Booleans.{clash}
 use Rattle.number.specs.declared.Refusal.{Refusal}
-use Rattle.number.specs.declared.Refusal.the-variants.{Unfinished, Malformed, OverLimit, UnknownSymbol, Trailing, Unproductive, LeftRecursive}
 use Rattle.number.specs.Refusals.{refusalNumber}
 use Rattle.grammar.specs.Decode.{Rules, Mark, Parsed, got, refused, decode}
 use Rattle.grammar.specs.Grammar.{Grammar, compile}
@@ -25,16 +25,11 @@ use Rattle.quick.specs.Quick.{Reply}
 use Rattle.quick.specs.Demand3.{Call, quick, AllAgree, wordsAfter}
 use Rattle.quick.specs.Whole.{Both, Did, Session, lastWords, calls, AllSame, Whole}
 use Rattle.quick.proofs.Demand3Laws.{demand3-begun}
+use Rattle.quick.proofs.EffectLaws.{refusal-range}
 
 -- ---- a begin that answered 0
 refusal-some : (r : Refusal) → ¬ (refusalNumber r ≡ 0)
-refusal-some (Unfinished at) e = clash (cc)
-refusal-some (Malformed at) e = clash (cc)
-refusal-some (OverLimit at) e = clash (cc)
-refusal-some (UnknownSymbol at) e = clash (cc)
-refusal-some (Trailing at) e = clash (cc)
-refusal-some (Unproductive at) e = clash (cc)
-refusal-some (LeftRecursive at) e = clash (cc)
+refusal-some r e = let (l, _) = refusal-range r in omega arith
 
 -- the bytes say a sound grammar, and the cache is long enough and has begun
 pub record Begins (s c₀ c : List ℕ) : Type 0 where

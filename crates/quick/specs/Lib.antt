@@ -8,3 +8,4 @@ pub mod Replied
 pub mod Demand3
 pub mod Sets
 pub mod Whole
+pub mod Effects
