@@ -143,7 +143,7 @@ fn cases() -> Vec<Case> {
         "delivery",
         include_str!("cases/delivery.hex"),
         include_str!("cases/delivery.notes"),
-        &[3, 9, 15, 20],
+        &[3, 4, 9, 12, 15, 20],
     ));
     cases.extend(of_file(
         "worst",
