@@ -25,7 +25,7 @@ use Rattle.derivation.specs.Viable.{Sentence, WrongAt}
 use Rattle.derivation.specs.ReachRounds.{wrongPlace}
 use Rattle.derivation.specs.Space.{maxTokens, spaceWords}
 use Rattle.derivation.specs.Plain.{clear, known?, firstUnknown, sentence?, onOutcome, readNote, from11, from9, from8, plainReading}
-use Rattle.derivation.specs.Demand2.{ChosenFor, Right, short, wrong}
+use Rattle.derivation.specs.Demand2.{Known, ChosenFor, Right, short, wrong}
 use Rattle.derivation.proofs.MachineLaws.{Called, no-room, unnamed, absent, taken, call-seen, prefix-accepted}
 use Rattle.derivation.proofs.LowestLaws.{lowest-right}
 use Rattle.derivation.proofs.ReadingLaws.{reading-sound, reading-live}
@@ -72,10 +72,6 @@ module _ (g : Grammar) (ordered : Ordered g) (w : List ℕ) where
   -- where the row is full, the chosen derivation is longer
   reading-crams : (k n : ℕ) (d : List ℕ) → reading g (marked w) (lowest g (marked w)) k n ≡ full → ChosenFor g w d → n < length d
   reading-crams k n d q h = begun-crams k n d q h (begun n) refl (call-seen g (lowest g (marked w)) (endPlace ∷ []) 0 0 n)
-
--- every token of the note is one of the grammar's kinds
-abbrev pub Known : ℕ → List ℕ → Type 0
-Known kinds w = (i : ℕ) → i < length w → (1 ≤ getD w i 0) × (getD w i 0 ≤ kinds)
 
 module _ (kinds : ℕ) (w : List ℕ) where
   -- token i is none of them

@@ -30,7 +30,7 @@ pub record Bounded (g : Grammar) : Type 0 where
   pub few : (a : ℕ) → length (alternatives g a) ≤ maxProductions
 
 -- ---- compiled rules
-starts-length : (o : ℕ) (l : List (List Symbol)) → length (startsEach o l) ≡ length l
+pub starts-length : (o : ℕ) (l : List (List Symbol)) → length (startsEach o l) ≡ length l
 unfolding startsEach
 starts-length o [] = refl
 starts-length o (β ∷ l) = ap suc (starts-length (o + suc (length β)) l)

@@ -1,5 +1,5 @@
 -- How many productions a nonterminal has: as many as its first places in the tables, and one at least.
-use mathlib.Core.Path.{_≡_, refl, ap, _∙_}
+use mathlib.Core.Path.{_≡_, ap, _∙_}
 use mathlib.Core.Option.{some}
 use mathlib.Core.List.{List, [], _∷_}
 use Prim.Native.Nat.{ℕ, zero, suc, _+_, _-_, _≤_, _<_}
@@ -8,18 +8,14 @@ use lib.ListN.{length, getD}
 use lib.Seq.{length-slice}
 use Rattle.grammar.specs.declared.Symbol.{Symbol}
 use Rattle.grammar.specs.Decode.{AllOf, Alternatives}
-use Rattle.grammar.specs.Grammar.{alternatives, first, sizeEach, startsEach, startsAll, compile}
+use Rattle.grammar.specs.Grammar.{alternatives, first, sizeEach, startsAll, compile}
 use Rattle.grammar.specs.Tables.{grammarIn, nonterminalsIn, ruleAt}
 use Rattle.grammar.proofs.WordLaws.{length-starts-in}
 use Rattle.grammar.proofs.PlaceLaws.{length-startsAll}
 use Rattle.derivation.specs.Ready.{Ready}
 use Rattle.derivation.proofs.Stretches.{get-in}
+use Rattle.lookahead.proofs.Bounds.{starts-length}
 use Rattle.derivation.proofs.FirstLaws.{rules-are, rule-within}
-
-starts-length : (o : ℕ) (l : List (List Symbol)) → length (startsEach o l) ≡ length l
-unfolding startsEach
-starts-length o [] = refl
-starts-length o (β ∷ l) = ap suc (starts-length (o + suc (length β)) l)
 
 starts-some : (k n o : ℕ) (l : List (List (List Symbol))) → AllOf (Alternatives k n) l → (a : ℕ) → a < length l → 1 ≤ length (getD (startsAll o l) a [])
 unfolding startsAll

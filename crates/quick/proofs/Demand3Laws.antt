@@ -22,7 +22,8 @@ use Rattle.soundness.specs.Check.{checkOf}
 use Rattle.derivation.specs.Runs.{marked}
 use Rattle.derivation.specs.Space.{maxTokens, spaceWords}
 use Rattle.derivation.specs.Plain.{firstUnknown, from11, from9, from8, plainReading}
-use Rattle.derivation.proofs.Demand2Laws.{Known, none-known, judged-sound}
+use Rattle.derivation.specs.Demand2.{Known}
+use Rattle.derivation.proofs.Demand2Laws.{none-known, judged-sound}
 use Rattle.lookahead.specs.Configs.{In}
 use Rattle.lookahead.specs.Rules.{Each}
 use Rattle.cache.specs.Layout.{minWords}

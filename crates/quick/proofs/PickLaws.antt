@@ -52,9 +52,6 @@ module _ (g : Grammar) (w S : List ℕ) (a i : ℕ) where
 
 -- ---- the code
 module _ (t : List ℕ) (h : Ready t) (w ws c : List ℕ) {d p a i known : ℕ} (x : Calls t w ws d p a i known) where
-  S : List ℕ
-  S = waiting t w ws d p
-
   -- an alternative is taken without a set: its frame is a return place alone
   taken : (b known′ : ℕ) {after c′ : List ℕ} → choiceAt t w ws c d p a i ≡ picked (some b) c′ → (f : ℕ) → first (grammarIn t) a b ≡ some f
       → after ≡ set ws (ground t w + frameWords * d) (suc p) → known′ ≡ min known d → Chose t w ws after c c′ d p a i known′ b

@@ -22,7 +22,7 @@ use Rattle.cache.specs.Predict.{follow, predict}
 use Rattle.cache.proofs.LengthLaws.{length-askStart, length-askStep}
 use Rattle.cache.proofs.FollowLaws.{meaning-none, meaning-full, meaning-beyond, meaning-chosen, meaning-state, follow-unsure, follow-sure, follow-over, follow-on}
 use Rattle.plain.proofs.CallLaws.{token-mark, token-note}
-use Rattle.quick.specs.Known.{Known}
+use Rattle.derivation.specs.Demand2.{Known}
 
 module _ (g : Grammar) (a : ℕ) (w : List ℕ) where
   -- where a prediction stands: this was said of what lies before position j, and the rest is left

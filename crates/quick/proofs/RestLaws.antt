@@ -12,9 +12,10 @@ use Rattle.positions.specs.Positions.{positionCount, setWords, member}
 use Rattle.positions.specs.Words.{memberAt, setAt, putAt}
 use Rattle.positions.proofs.WordLaws.{length-put, put-word, put-same, put-other}
 use Rattle.derivation.specs.Space.{frameWords, returnsOf}
-use Rattle.chart.specs.Chart.{spot, cellsEnd, cellHas, ChartedFrom, Charted}
+use Rattle.chart.specs.Chart.{spot, cellsEnd, cellHas, Charted}
 use Rattle.chart.proofs.Spots.{spot-below, lent-kept}
 use Rattle.plain.specs.Frames.{frameHas}
+use Rattle.plain.proofs.PushLaws.{low-charted}
 use Rattle.quick.specs.Sets.{SetsOnly, Framed}
 
 -- words that agree where a set stands
@@ -107,8 +108,7 @@ module _ {base known d : ℕ} {ws us : List ℕ} (x : SetsOnly base known d ws u
     only-has j k = has-same ws us (spot P p i) j k (λ j a b. word-same j b)
 
   pub only-charted : (t w : List ℕ) → base ≡ cellsEnd (grammarIn t .size) (length w) → Charted t w ws → Charted t w us
-  unfolding ChartedFrom
-  only-charted t w e h p i j l m n o = only-has (grammarIn t .size) (length w) e p i l n j o ∙ h p i j l m n o
+  only-charted t w e h = low-charted t w ws us (λ j l. x .low j (omega arith)) h
 
   -- sets of frames outside
   pub only-low : (k m : ℕ) → k < known → m < positionCount → frameHas us base k m ≡ frameHas ws base k m

@@ -1,5 +1,4 @@
 -- The quick reading, and demand 3.
-pub mod Known
 pub mod Machine
 pub mod Quick
 pub mod Going

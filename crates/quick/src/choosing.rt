@@ -9,7 +9,7 @@ ghost use Rattle.derivation.specs.Ready.{Ready};
 ghost use Rattle.derivation.specs.Space.{frameWords};
 ghost use Rattle.cache.specs.Layout.{minWords};
 ghost use Rattle.plain.specs.Machine.{ground};
-ghost use Rattle.quick.specs.Known.{Known};
+ghost use Rattle.derivation.specs.Demand2.{Known};
 ghost use Rattle.quick.specs.Going.{Calls, Tabled, Found, Chose};
 
 // An alternative, 0 for none, and of how many open frames the sets stand after it: 0 where no cell was worked out.

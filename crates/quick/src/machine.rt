@@ -11,7 +11,7 @@ ghost use Rattle.derivation.specs.Ready.{Ready};
 ghost use Rattle.cache.specs.Layout.{minWords};
 ghost use Rattle.chart.specs.Chart.{Lent};
 ghost use Rattle.plain.specs.Machine.{ground};
-ghost use Rattle.quick.specs.Known.{Known};
+ghost use Rattle.derivation.specs.Demand2.{Known};
 ghost use Rattle.quick.specs.Quick.{quickNote};
 ghost use Rattle.quick.specs.Going.{Going, Began, ahead, Ran};
 ghost use Rattle.quick.specs.Stop.{stopOutcome, stopKnown};

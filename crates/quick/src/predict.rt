@@ -8,7 +8,7 @@ ghost use Rattle.derivation.specs.Ready.{Ready};
 ghost use Rattle.cache.specs.Layout.{minWords};
 ghost use Rattle.cache.specs.Recording.{learned};
 ghost use Rattle.cache.specs.Predict.{predict};
-ghost use Rattle.quick.specs.Known.{Known};
+ghost use Rattle.derivation.specs.Demand2.{Known};
 
 // The word for FULL.
 const FULL: u32 = 17;
