@@ -81,9 +81,9 @@ const EVERY_TINY: usize = 10;
 
 /// Lists of each style of grammars, and of other and of foreign caches: a share of the grammars that
 /// `readings` draws, and no more than so many.
-const SHARE: usize = 4;
-const MOST_LISTS: usize = 160;
-const MOST_FOREIGN: usize = 40;
+const SHARE: usize = 2;
+const MOST_LISTS: usize = 240;
+const MOST_FOREIGN: usize = 80;
 
 /// The longest row and the longest working space that are lent.
 const LONGEST_ROW: usize = 6_000;
