@@ -107,7 +107,7 @@ fn main() {
 
 /// What a cache is asked for.
 #[derive(Clone, Copy, Debug, PartialEq, Eq, PartialOrd, Ord)]
-pub enum Question {
+enum Question {
     Start(u32),
     Step(u32, u32),
 }
@@ -753,7 +753,7 @@ fn foreign_caches(run: &mut Run) {
                 let mut case = Case::new(&origin, &bytes, length);
                 case.foreign = words.clone();
                 for _ in 0..FOREIGN_QUESTIONS {
-                    let question = foreign::question(&mut random, &grammar, &words);
+                    let question = foreign_question(&mut random, &grammar, &words);
                     let mut any = Any {
                         learner: &learner,
                         places: &places,
@@ -771,4 +771,32 @@ fn foreign_caches(run: &mut Run) {
             }
         }
     }
+}
+
+/// Any question that makes sense, mostly one that is not recorded.
+fn foreign_question(random: &mut Random, grammar: &Grammar, words: &[u32]) -> Question {
+    for _ in 0..10 {
+        let (question, at) = if random.chance(20) {
+            let decision = random.below(grammar.rules.len());
+            (
+                Question::Start(decision as u32),
+                cache_words::start_at(decision),
+            )
+        } else {
+            let state = random.below(cache_words::slots(words.len()));
+            let token = match random.below(8) {
+                0 => random.between(0, HIGHEST_TOKEN as usize) as u32,
+                1 => 0,
+                _ => random.between(0, grammar.kinds as usize) as u32,
+            };
+            (
+                Question::Step(state as u32, token),
+                cache_words::step_at(state, token),
+            )
+        };
+        if words[at] == 0 || random.chance(10) {
+            return question;
+        }
+    }
+    Question::Start(0)
 }

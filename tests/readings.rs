@@ -9,6 +9,8 @@ mod edges;
 #[allow(dead_code)]
 #[path = "support/generate.rs"]
 mod generate;
+#[path = "support/lengths.rs"]
+mod lengths;
 #[path = "support/lent.rs"]
 mod lent;
 #[path = "support/notes.rs"]
@@ -33,6 +35,7 @@ mod tree;
 mod worked;
 
 use allstar::Answer;
+use lengths::{row_length, workspace_length};
 use lent::Lent;
 use notes::Source;
 use random::Random;
@@ -387,40 +390,6 @@ fn drawn_readings(run: &mut Run) {
                 }
             }
         }
-    }
-}
-
-fn row_length(random: &mut Random, judgement: &Judgement, longest: usize) -> usize {
-    let count = match judgement.derivation.entries.len() {
-        // No derivation is known.
-        0 => random.between(1, longest),
-        count => count,
-    };
-    let length = match random.below(10) {
-        0 => 0,
-        1 => 1,
-        2 => random.between(0, 30),
-        3 => count + random.between(2, 800),
-        4 => random.between(0, count),
-        5 | 6 => count.saturating_sub(1),
-        7 => count + 1,
-        _ => count,
-    };
-    if judgement.derivation.is_complete {
-        length
-    } else {
-        length.min(longest)
-    }
-}
-
-fn workspace_length(random: &mut Random, enough: usize) -> usize {
-    match random.below(16) {
-        0 => enough - 1,
-        1 => 0,
-        2 => random.between(0, enough),
-        3 => enough + 1,
-        4 => enough + random.between(2, 5_000),
-        _ => enough,
     }
 }
 

@@ -217,14 +217,19 @@ impl Any<'_> {
         }
     }
 
-    /// The step from a slot over a token.
+    /// The step from a slot over a token, for the decision that the slot names.
     pub fn step(&mut self, state: usize, token: u32) -> (u32, Told) {
+        self.step_for(self.words[slot_at(state)], state, token)
+    }
+
+    /// The step from a slot over a token, for a decision that was led there.
+    pub fn step_for(&mut self, decision: u32, state: usize, token: u32) -> (u32, Told) {
         match self.words[step_at(state, token)] {
             0 => {
                 let configs = self.configs(state).chunks(3);
                 let kept: Vec<Config> = configs.map(|words| self.places.unpack(words)).collect();
                 let outcome = self.learner.step(&kept, token).outcome();
-                self.record(step_at(state, token), self.words[slot_at(state)], outcome)
+                self.record(step_at(state, token), decision, outcome)
             }
             recorded => (recorded, Told::Recorded),
         }

@@ -4,7 +4,6 @@
 use crate::cache_words::{self, DECISIONS, FULL, HELD, HIGHEST_TOKEN, STATE};
 use crate::random::Random;
 use crate::tree::Grammar;
-use crate::Question;
 
 /// A name for reports, and what changes the words of a cache of a grammar.
 pub type Kind = (&'static str, fn(&mut Random, &Grammar, &mut [u32]));
@@ -129,32 +128,4 @@ fn forgotten(random: &mut Random, _: &Grammar, words: &mut [u32]) {
     for decision in 0..DECISIONS {
         words[cache_words::start_at(decision)] = 0;
     }
-}
-
-/// Any question that makes sense, mostly one that is not recorded.
-pub fn question(random: &mut Random, grammar: &Grammar, words: &[u32]) -> Question {
-    for _ in 0..10 {
-        let (question, at) = if random.chance(20) {
-            let decision = random.below(grammar.rules.len());
-            (
-                Question::Start(decision as u32),
-                cache_words::start_at(decision),
-            )
-        } else {
-            let state = random.below(cache_words::slots(words.len()));
-            let token = match random.below(8) {
-                0 => random.between(0, HIGHEST_TOKEN as usize) as u32,
-                1 => 0,
-                _ => random.between(0, grammar.kinds as usize) as u32,
-            };
-            (
-                Question::Step(state as u32, token),
-                cache_words::step_at(state, token),
-            )
-        };
-        if words[at] == 0 || random.chance(10) {
-            return question;
-        }
-    }
-    Question::Start(0)
 }

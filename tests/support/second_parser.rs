@@ -147,13 +147,13 @@ impl Iterator for Positions {
 
 /// A list of symbols, an end of a production; the number tells it from all others.
 #[derive(Clone, Copy)]
-struct List<'g> {
-    symbols: &'g [Symbol],
+pub struct List<'g> {
+    pub symbols: &'g [Symbol],
     number: usize,
 }
 
 impl<'g> List<'g> {
-    fn split(self) -> Option<(Symbol, List<'g>)> {
+    pub fn split(self) -> Option<(Symbol, List<'g>)> {
         let (head, symbols) = self.symbols.split_first()?;
         let number = self.number + 1;
         Some((*head, List { symbols, number }))
@@ -161,17 +161,17 @@ impl<'g> List<'g> {
 }
 
 /// A sound grammar, a note of known tokens, and what was found out about them.
-struct Parser<'g> {
+pub struct Parser<'g> {
     note: &'g [u16],
-    start: List<'g>,
-    rules: Vec<Vec<List<'g>>>,
+    pub start: List<'g>,
+    pub rules: Vec<Vec<List<'g>>>,
     /// By list and position.
     ends: Vec<Option<Positions>>,
     agreed: Vec<Option<usize>>,
 }
 
 impl<'g> Parser<'g> {
-    fn new(grammar: &'g Grammar, note: &'g [u16]) -> Parser<'g> {
+    pub fn new(grammar: &'g Grammar, note: &'g [u16]) -> Parser<'g> {
         let start = List {
             symbols: &[Symbol::Nonterminal(0)],
             number: 0,
@@ -229,7 +229,7 @@ impl<'g> Parser<'g> {
         }
     }
 
-    fn faces(&self, kind: u32, at: usize) -> bool {
+    pub fn faces(&self, kind: u32, at: usize) -> bool {
         self.note.get(at).copied().map(u32::from) == Some(kind)
     }
 
@@ -268,7 +268,7 @@ impl<'g> Parser<'g> {
 
     /// Whether a production and then what is open, the last of it first, derive the note from `from`
     /// on to its end.
-    fn serves(&mut self, production: List<'g>, open: &[List<'g>], from: usize) -> bool {
+    pub fn serves(&mut self, production: List<'g>, open: &[List<'g>], from: usize) -> bool {
         let mut positions = Positions::only(from);
         for list in std::iter::once(&production).chain(open.iter().rev()) {
             let mut ends = Positions::NONE;
