@@ -1,0 +1,3 @@
+-- Laws on lines.
+pub mod LineLaws
+pub mod KeptLaws

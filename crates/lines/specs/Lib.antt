@@ -1,0 +1,3 @@
+-- What a line says.
+pub mod Line
+pub mod Parsed
