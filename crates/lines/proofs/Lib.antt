@@ -1,3 +1,4 @@
 -- Laws on lines.
 pub mod LineLaws
 pub mod KeptLaws
+pub mod CountLaws
