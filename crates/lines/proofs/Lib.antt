@@ -2,3 +2,4 @@
 pub mod LineLaws
 pub mod KeptLaws
 pub mod CountLaws
+pub mod LineCases
