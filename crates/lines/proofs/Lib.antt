@@ -1,3 +1,5 @@
 -- Laws on lines.
 pub mod LineLaws
 pub mod KeptLaws
+pub mod CountLaws
+pub mod LineCases
