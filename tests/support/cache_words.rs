@@ -50,6 +50,17 @@ pub fn configs_at(state: usize) -> usize {
     slot_at(state) + 128
 }
 
+/// Whether the words are the same; if not, the first that differ are printed.
+pub fn same(found: &[u32], expected: &[u32]) -> bool {
+    let differing = |(_, (found, expected)): &(usize, (&u32, &u32))| found != expected;
+    let words = found.iter().zip(expected).enumerate();
+    for (at, (found, expected)) in words.filter(differing).take(20) {
+        let name = named(at);
+        println!("word {at}, {name}: {found}, expected {expected}");
+    }
+    found == expected
+}
+
 /// What a word is for.
 pub fn named(at: usize) -> String {
     let Some(beyond) = at.checked_sub(BEFORE_SLOTS) else {
