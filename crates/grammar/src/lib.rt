@@ -2,7 +2,7 @@
 ghost use mathlib.Core.Path.{_≡_};
 ghost use Prim.Native.Nat.{_+_, _≤_, _<_};
 ghost use lib.ListN.{length, getD};
-ghost use Rattle.grammar.specs.Grammar.{placeAt};
+ghost use Rattle.grammar.specs.Grammar.{placeAt, admits};
 ghost use Rattle.grammar.specs.Tables.{wordOf, symbolOf, placeOf, grammarIn, nonterminalsIn, ruleAt, tableWords};
 ghost use Rattle.grammar.specs.Limits.{maxNonterminals};
 ghost use Rattle.grammar.specs.Decode.{written};
@@ -126,4 +126,11 @@ pub fn first_place(tables: &[u16], k: usize) -> usize
     ensures { λ r. ⌜ r ≡ getD (now (tables .entry)) k 0 ⌝ }
 {
     base::index(tables[k])
+}
+
+// Whether a token may stand where a kind is called for.
+pub fn admits(tables: &[u16], kind: usize, token: usize) -> bool
+    ensures { λ r. ⌜ r ≡ admits (grammarIn (now (tables .entry))) kind token ⌝ }
+{
+    kind == token
 }
