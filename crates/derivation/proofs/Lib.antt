@@ -6,6 +6,10 @@ pub mod CellGrid
 pub mod CellLaws
 pub mod RunCases
 pub mod MachineLaws
+pub mod MachineLive
+pub mod MachineStates
+pub mod MachineSteps
+pub mod LockStep
 pub mod LowestLaws
 pub mod ReadingLaws
 pub mod ChosenLaws

@@ -2,6 +2,7 @@
 pub mod Runs
 pub mod Cells
 pub mod Machine
+pub mod Choosers
 pub mod Viable
 pub mod ReachRounds
 pub mod Chosen

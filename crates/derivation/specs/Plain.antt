@@ -16,7 +16,7 @@ use Rattle.soundness.specs.declared.judgement.Verdict.the-variants.{Sound, Refu
 use Rattle.soundness.specs.Check.{judgeOf}
 use Rattle.derivation.specs.Runs.{marked}
 use Rattle.derivation.specs.Cells.{runs?}
-use Rattle.derivation.specs.Machine.{lowest, Outcome, accepted, stuck, full, reading}
+use Rattle.derivation.specs.Machine.{lowest, plainly, Outcome, accepted, stuck, full, reading}
 use Rattle.derivation.specs.ReachRounds.{wrongPlace}
 use Rattle.derivation.specs.Space.{maxTokens, spaceWords}
 
@@ -66,7 +66,7 @@ onOutcome g w row full = let wrong = clear 10 (wrongPlace g w) row in cond (sent
 -- the reading of a note by a sound grammar, in enough working space
 unfoldable pub readNote : Grammar → List ℕ → List ℕ → Answer
 unfolding onOutcome reading lowest
-readNote g w row = onOutcome g w row (reading g (marked w) (lowest g (marked w)) (suc (2 * length row + length (marked w))) (length row))
+readNote g w row = onOutcome g w row ((reading g (marked w) (plainly g (marked w)) (length row) tt) .outcome)
 
 -- 11, and then the reading
 unfoldable pub from11 : Grammar → List ℕ → List ℕ → ℕ → Answer
