@@ -29,6 +29,7 @@ pub mod SoundGrammar
 pub mod SentenceTest
 pub mod WholeChosen
 pub mod ChosenExists
+pub mod GateLaws
 pub mod Demand2Laws
 pub mod StarredReadings
 pub mod Demand2Iff

@@ -8,6 +8,7 @@ pub mod ReachRounds
 pub mod Chosen
 pub mod Steps
 pub mod Space
+pub mod Gate
 pub mod Plain
 pub mod Demand2
 pub mod Cases
