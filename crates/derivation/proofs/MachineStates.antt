@@ -7,37 +7,35 @@ use Rattle.grammar.specs.declared.Symbol.the-variants.{Token, Nonterminal, End}
 use Rattle.grammar.specs.Grammar.{Grammar, facing}
 use Rattle.derivation.specs.Machine.{Chooser, Step, halt, move, pick, Moved, moved, ended, chosen, onCall, onSymbol, step, prefixed, followStep, follow}
 use Rattle.derivation.specs.Machine.{run, runCall}
-use Rattle.derivation.specs.Choosers.{thence, Repeats}
+use Rattle.derivation.specs.Choosers.{thence, Later, Repeats}
 use Rattle.derivation.proofs.MachineLaws.{call-state, step-state}
 
 module _ {C : Type 0} (Holds : C → Type 0) (Grown : C → C → Type 0) (g : Grammar) (w : List ℕ) (choose : Chooser C)
     (repeats : Repeats Holds choose Grown) where
   -- ---- states only grow
-  -- a later state of the kind
-  pub record Later (c d : C) : Type 0 where
-    pub holds : Holds d
-    pub grown : Grown c d
+  abbrev Onward : C → C → Type 0
+  Onward c d = Later Holds Grown c d
 
-  still : (c : C) → Holds c → Later c c
+  still : (c : C) → Holds c → Onward c c
   still c h = record { holds = h; grown = repeats .same c }
 
-  later : (c d e : C) → Later c d → Later d e → Later c e
+  later : (c d e : C) → Onward c d → Onward d e → Onward c e
   later c d e x y = record { holds = y .holds; grown = repeats .onward c d e (x .grown) (y .grown) }
 
   -- what the chooser leaves
-  left : (c : C) → Holds c → (S : List ℕ) (a i : ℕ) → Later c (thence choose c S a i)
+  left : (c : C) → Holds c → (S : List ℕ) (a i : ℕ) → Onward c (thence choose c S a i)
   left c h S a i = record { holds = repeats .keeps c S a i h; grown = repeats .grows c S a i h }
 
-  call-grows : (c : C) (S : List ℕ) (a i room : ℕ) → Holds c → Later c ((onCall g choose c S a i room) .state)
-  call-grows c S a i room h = call-state g choose (Later c) c (still c h) (left c h) S a i room
+  call-grows : (c : C) (S : List ℕ) (a i room : ℕ) → Holds c → Onward c ((onCall g choose c S a i room) .state)
+  call-grows c S a i room h = call-state g choose (Onward c) c (still c h) (left c h) S a i room
 
-  step-grows : (c : C) (S : List ℕ) (i room : ℕ) → Holds c → Later c ((step g w choose c S i room) .state)
-  step-grows c S i room h = step-state g w choose (Later c) c (still c h) (left c h) S i room
+  step-grows : (c : C) (S : List ℕ) (i room : ℕ) → Holds c → Onward c ((step g w choose c S i room) .state)
+  step-grows c S i room h = step-state g w choose (Onward c) c (still c h) (left c h) S i room
 
   abbrev Growing : ℕ → Type 0
-  Growing k = (S : List ℕ) (i room : ℕ) (c : C) → Holds c → Later c ((run g w choose k S i room c) .state)
+  Growing k = (S : List ℕ) (i room : ℕ) (c : C) → Holds c → Onward c ((run g w choose k S i room c) .state)
 
-  follow-grows : (k : ℕ) → Growing k → (i room : ℕ) (x : Step) (c : C) → Holds c → Later c ((followStep (run g w choose k) i room x c) .state)
+  follow-grows : (k : ℕ) → Growing k → (i room : ℕ) (x : Step) (c : C) → Holds c → Onward c ((followStep (run g w choose k) i room x c) .state)
   follow-grows k rec i room (halt o) c h = still c h
   follow-grows k rec i room (move S i′) c h = rec S i′ room c h
   follow-grows k rec i room (pick b S) c h = rec S i (pred room) c h
@@ -50,7 +48,7 @@ module _ {C : Type 0} (Holds : C → Type 0) (Grown : C → C → Type 0) (g : G
       let x = step-grows c S i room h in
       later c (m .state) _ x (follow-grows k (run-grows k) i room (m .step) (m .state) (x .holds))
 
-  pub call-run-grows : (k : ℕ) (S : List ℕ) (a i room : ℕ) (c : C) → Holds c → Later c ((runCall g w choose k S a i room c) .state)
+  pub call-run-grows : (k : ℕ) (S : List ℕ) (a i room : ℕ) (c : C) → Holds c → Onward c ((runCall g w choose k S a i room c) .state)
   unfolding runCall
   call-run-grows k S a i room c h =
       let m = onCall g choose c S a i room in

@@ -40,6 +40,11 @@ AnyState c = Unit {0}
 abbrev pub anywhere : (g : Grammar) → Ground g Anywhere Anyone
 anywhere g = record { pops = λ _ _ _ _ _. tt; matches = λ _ _ _ _ _ _. tt; calls = λ _ _ _ _ _ _. tt; takes = λ _ _ _ _ _ _ _. tt }
 
+-- a later state of the same kind
+pub record Later {C : Type 0} (Holds : C → Type 0) (Grown : C → C → Type 0) (c d : C) : Type 0 where
+  pub holds : Holds d
+  pub grown : Grown c d
+
 module _ {C : Type 0} (Holds : C → Type 0) (choose : Chooser C) where
   -- states of a kind stay of that kind
   abbrev pub Keeps : Type 0
