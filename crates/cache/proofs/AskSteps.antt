@@ -9,12 +9,12 @@ use borrow.Author.Tests.{eq-eqb, ne-eqb}
 use Rattle.grammar.specs.Grammar.{Grammar}
 use Rattle.lookahead.specs.Configs.{Config}
 use Rattle.lookahead.specs.Closing.{maxKept}
-use Rattle.lookahead.specs.Packing.{packAll, unpackAll}
+use Rattle.configurations.specs.Packing.{packAll, unpackAll}
 use Rattle.lookahead.specs.Outcomes.{Outcome, state, startOutcome, stepOutcome}
-use Rattle.lookahead.specs.Told.{keptWords, Tells}
-use Rattle.lookahead.specs.declared.rules.Outcome as told
-use Rattle.lookahead.specs.declared.rules.Outcome.the-variants.{Full, Alternative, State}
-use Rattle.lookahead.proofs.PackLaws.{length-packAll}
+use Rattle.learning.specs.Told.{keptWords, Tells}
+use Rattle.learning.specs.declared.rules.Outcome as told
+use Rattle.learning.specs.declared.rules.Outcome.the-variants.{Full, Alternative, State}
+use Rattle.configurations.proofs.PackLaws.{length-packAll}
 use Rattle.cache.specs.Layout.{configsAt, startAt, stepAt, fullWord, stateWord}
 use Rattle.cache.specs.Words.{word, startOf, stepOf, keptCount, keptIn, addState}
 use Rattle.cache.specs.Words as words

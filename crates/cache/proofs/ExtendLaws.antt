@@ -8,7 +8,7 @@ use lib.Dec.{T}
 use lib.ListN.{length, take, drop}
 use Rattle.grammar.specs.Grammar.{Grammar}
 use Rattle.lookahead.specs.Outcomes.{Outcome, full, alternative, state}
-use Rattle.lookahead.specs.Packing.{unpackAll}
+use Rattle.configurations.specs.Packing.{unpackAll}
 use Rattle.cache.specs.Layout.{fixedWords, lengthAt, bytesAt}
 use Rattle.cache.specs.Words.{held, keptIn}
 use Rattle.cache.specs.Begin.{packBytes, begun?}

@@ -10,7 +10,7 @@ use lib.Seq.{sets, length-sets}
 use Rattle.grammar.specs.Grammar.{Grammar}
 use Rattle.lookahead.specs.Configs.{Config}
 use Rattle.lookahead.specs.Outcomes.{Outcome, full, alternative, state, startOutcome, stepOutcome}
-use Rattle.lookahead.specs.Packing.{packAll}
+use Rattle.configurations.specs.Packing.{packAll}
 use Rattle.cache.specs.Layout.{slots, heldAt, startAt, slotAt, countAt, stepAt, configsAt, fullWord, stateWord}
 use Rattle.cache.specs.Words.{held, startOf, stepOf, keptIn, setStart, setStep, addState}
 use Rattle.cache.specs.Recording.{Learned, learned, find, recordNew, recordOutcome, askStart, askStep}

@@ -8,8 +8,8 @@ use lib.ListN.{length, set, take}
 use lib.Seq.{sets}
 use Rattle.base.specs.Search.{lowestFrom}
 use Rattle.lookahead.specs.Closing.{sameList, maxKept}
-use Rattle.lookahead.specs.declared.rules.Outcome.{Outcome}
-use Rattle.lookahead.specs.declared.rules.Outcome.the-variants.{Full, Alternative, State}
+use Rattle.learning.specs.declared.rules.Outcome.{Outcome}
+use Rattle.learning.specs.declared.rules.Outcome.the-variants.{Full, Alternative, State}
 use Rattle.cache.specs.Layout.{slots, heldAt, slotAt, countAt, configsAt, fullWord, stateWord}
 use Rattle.cache.specs.Words.{held, decision, keptWords}
 use Rattle.cache.specs.Recording.{Learned, learned}

@@ -14,7 +14,7 @@ use Rattle.lookahead.specs.Order.{pastEnd, Ascending, returnRadix}
 use Rattle.lookahead.specs.Outcomes.{Outcome, full, alternative, state, startOutcome, stepOutcome}
 use Rattle.lookahead.specs.Rules.{Each}
 use Rattle.cache.specs.Layout.{minWords, fixedWords, slots, heldAt, startAt, bytesAt, slotAt, countAt, stepAt, configsAt, fullWord, stateWord}
-use Rattle.lookahead.specs.Packing.{packAll}
+use Rattle.configurations.specs.Packing.{packAll}
 use Rattle.cache.specs.Words.{word, held, startOf, stepOf, decision, keptWords, keptIn}
 use Rattle.cache.specs.Begin.{packBytes, begun?}
 

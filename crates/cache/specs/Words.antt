@@ -6,7 +6,7 @@ use lib.Seq.{sets}
 use Rattle.lookahead.specs.Configs.{Config}
 use Rattle.lookahead.specs.Closing.{maxKept}
 use Rattle.cache.specs.Layout.{configWords, heldAt, startAt, slotAt, countAt, stepAt, configsAt}
-use Rattle.lookahead.specs.Packing.{packAll, unpackAll}
+use Rattle.configurations.specs.Packing.{packAll, unpackAll}
 
 -- ---- readers
 abbrev pub word : List ℕ → ℕ → ℕ

@@ -1,5 +1,5 @@
 // Outcomes of starts and steps: as recorded, or worked out and recorded. What is recorded costs one word.
-use lookahead::Outcome;
+use learning::Outcome;
 ghost use mathlib.Core.Path.{_≡_};
 ghost use Prim.Native.Nat.{_≤_, _<_, _^_};
 ghost use lib.ListN.{length};
@@ -7,7 +7,7 @@ ghost use Rattle.grammar.specs.Limits.{maxKinds};
 ghost use Rattle.grammar.specs.Tables.{grammarIn, nonterminalsIn};
 ghost use Rattle.derivation.specs.Ready.{Ready};
 ghost use Rattle.lookahead.specs.Outcomes.{stepOutcome};
-ghost use Rattle.lookahead.specs.Told.{keptWords, Tells};
+ghost use Rattle.learning.specs.Told.{keptWords, Tells};
 ghost use Rattle.cache.specs.Layout.{minWords, slots};
 ghost use Rattle.cache.specs.Words.{startOf, stepOf, keptIn};
 ghost use Rattle.cache.specs.Recording.{learned, askStart, askStep};
@@ -18,7 +18,7 @@ fn learn_start(tables: &[u16], cache: &mut [u32], a: usize) -> u32
     ensures { λ r. ⌜ learned r (now (cache .exit)) ≡ askStart (grammarIn (now (tables .entry))) (now (cache .entry)) a ⌝ }
 {
     let mut kept = [0u32; 192];
-    let outcome = lookahead::start(tables, a, &mut kept);
+    let outcome = learning::start(tables, a, &mut kept);
     crate::recording::record_outcome(cache, 32 + a, a, outcome, &kept)
 }
 
@@ -41,7 +41,7 @@ fn step_outcome(tables: &[u16], cache: &[u32], s: usize, t: usize, kept: &mut [u
 {
     let from = crate::slots::configs_at(s);
     let n = crate::slots::kept_count(cache, s);
-    lookahead::step(tables, t, &cache[from..from + 3 * n], kept)
+    learning::step(tables, t, &cache[from..from + 3 * n], kept)
 }
 
 // The same, recorded.

@@ -1,5 +1,5 @@
 // States and outcomes are looked up, and recorded.
-use lookahead::Outcome;
+use learning::Outcome;
 ghost use mathlib.Core.Path.{_≡_};
 ghost use Prim.Native.Nat.{_+_, _*_, _≤_, _<_, _^_};
 ghost use lib.ListN.{length, take};
