@@ -15,11 +15,11 @@ use Rattle.learning.specs.Told.{keptWords, Tells}
 use Rattle.learning.specs.declared.rules.Outcome as told
 use Rattle.learning.specs.declared.rules.Outcome.the-variants.{Full, Alternative, State}
 use Rattle.configurations.proofs.PackLaws.{length-packAll}
-use Rattle.cache.specs.Layout.{configsAt, startAt, stepAt, fullWord, stateWord}
-use Rattle.cache.specs.Words.{word, startOf, stepOf, keptCount, keptIn, addState}
-use Rattle.cache.specs.Words as words
+use Rattle.words.specs.Layout.{configsAt, startAt, stepAt, fullWord, stateWord}
+use Rattle.words.specs.Words.{word, startOf, stepOf, keptCount, keptIn, addState, searched}
+use Rattle.words.specs.Words as words
 use Rattle.cache.specs.Recording.{Learned, learned, holds?, find, recordNew, recordOutcome, askStart, askStep}
-use Rattle.cache.specs.ByWords.{holdsWords, searched, findWords, addWords, sayWord, newWords, onFound, stateWords, outcomeWords, Room}
+use Rattle.cache.specs.ByWords.{holdsWords, findWords, addWords, sayWord, newWords, onFound, stateWords, outcomeWords, Room}
 use Rattle.cache.proofs.RecordLaws.{putAt, ask, start-ask, step-ask}
 
 -- the words of a state are as many as its configurations say

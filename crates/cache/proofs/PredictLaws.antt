@@ -18,8 +18,8 @@ use Rattle.configurations.proofs.PackLaws.{unpack-all}
 use Rattle.lookahead.proofs.StateLaws.{states-packable}
 use Rattle.lookahead.proofs.Following.{Valid}
 use Rattle.lookahead.proofs.Agreeing.{Allows, this, there, over, Marked, start-allows, step-agrees}
-use Rattle.cache.specs.Layout.{slots, fullWord}
-use Rattle.cache.specs.Words.{held, decision, keptWords, keptIn}
+use Rattle.words.specs.Layout.{slots, fullWord}
+use Rattle.words.specs.Words.{held, decision, keptWords, keptIn}
 use Rattle.cache.specs.Recording.{Learned, learned, askStart, askStep}
 use Rattle.cache.specs.Predict.{chosen, undecided, at, meaning, follow, predict}
 use Rattle.cache.specs.Coherent.{Decides, Says, Coherent, Extends}
