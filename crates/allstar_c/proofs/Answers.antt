@@ -3,9 +3,9 @@ use mathlib.Core.Path.{_≡_}
 use mathlib.Core.List.{List}
 use Prim.Native.Nat.{ℕ}
 use Rattle.derivation.specs.Plain.{Answer, answer}
-use Rattle.cache.specs.Begin.{Begun, begun}
-use Rattle.cache.specs.declared.beginning.Beginning.{Beginning}
-use Rattle.cache.specs.Beginning.{beginningNumber, beginningPlace, begunBy}
+use Rattle.words.specs.Begin.{Begun, begun}
+use Rattle.words.specs.declared.beginning.Beginning.{Beginning}
+use Rattle.words.specs.Beginning.{beginningNumber, beginningPlace, begunBy}
 use Rattle.plain.specs.declared.reading.Reading.{Reading}
 use Rattle.plain.specs.Reading.{readingNumber, readingPlace, readingCount, answered}
 use Rattle.quick.specs.Quick.{Reply, reply}

@@ -2,7 +2,7 @@
 ghost use mathlib.Core.Path.{_≡_};
 ghost use lib.ListN.{length};
 ghost use Rattle.derivation.specs.Plain.{answer, plainReading};
-ghost use Rattle.cache.specs.Begin.{begun, beginning};
+ghost use Rattle.words.specs.Begin.{begun, beginning};
 ghost use Rattle.quick.specs.Quick.{reply, quickReading};
 ghost use Rattle.soundness.specs.Check.{checkOf, verdictNumber, verdictPlace};
 

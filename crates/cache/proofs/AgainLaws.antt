@@ -13,9 +13,9 @@ use borrow.Author.Tests.{eqb-true, eqb-false, ltb-true, ltb-false, le-ltb, eq-eq
 use Rattle.grammar.specs.Grammar.{Grammar}
 use Rattle.lookahead.specs.Configs.{Config}
 use Rattle.lookahead.specs.Outcomes.{Outcome, full, alternative, state, startOutcome, stepOutcome}
-use Rattle.lookahead.specs.Packing.{packAll}
-use Rattle.cache.specs.Layout.{slots, stepAt, fullWord, stateWord}
-use Rattle.cache.specs.Words.{word, held, startOf, stepOf, decision, keptWords, keptIn, setStart, setStep}
+use Rattle.configurations.specs.Packing.{packAll}
+use Rattle.words.specs.Layout.{slots, stepAt, fullWord, stateWord}
+use Rattle.words.specs.Words.{word, held, startOf, stepOf, decision, keptWords, keptIn, setStart, setStep}
 use Rattle.cache.specs.Recording.{learned, find, recordNew, recordOutcome, askStart, askStep}
 use Rattle.cache.specs.Coherent.{Decides, Coherent, Extends}
 use Rattle.cache.proofs.SuitLaws.{Suits}

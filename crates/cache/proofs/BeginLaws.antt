@@ -12,11 +12,11 @@ use Rattle.base.proofs.Booleans.{T-and}
 use Rattle.grammar.specs.Grammar.{Grammar}
 use Rattle.lookahead.specs.Closing.{sameList}
 use Rattle.lookahead.proofs.AddLaws.{list-same}
-use Rattle.cache.specs.Layout.{minWords, fixedWords, lengthAt, heldAt, startAt, bytesAt}
-use Rattle.cache.specs.Words.{word, held, startOf}
-use Rattle.cache.specs.Begin.{packBytes, sizeWords, beginWords, begun?}
+use Rattle.words.specs.Layout.{minWords, fixedWords, lengthAt, heldAt, startAt, bytesAt}
+use Rattle.words.specs.Words.{word, held, startOf}
+use Rattle.words.specs.Begin.{packBytes, sizeWords, beginWords, begun?}
 use Rattle.cache.specs.Coherent.{Used, size, byte, Coherent}
-use Rattle.cache.proofs.WordLaws.{word-sets, region-sets, region-same}
+use Rattle.words.proofs.WordLaws.{word-sets, region-sets, region-same}
 use Rattle.cache.proofs.SuitLaws.{Suits}
 
 word-zero : (n i : ℕ) → word (replicate n 0) i ≡ 0

@@ -8,12 +8,12 @@ use lib.Dec.{T}
 use lib.ListN.{length, take, drop}
 use Rattle.grammar.specs.Grammar.{Grammar}
 use Rattle.lookahead.specs.Outcomes.{Outcome, full, alternative, state}
-use Rattle.lookahead.specs.Packing.{unpackAll}
-use Rattle.cache.specs.Layout.{fixedWords, lengthAt, bytesAt}
-use Rattle.cache.specs.Words.{held, keptIn}
-use Rattle.cache.specs.Begin.{packBytes, begun?}
+use Rattle.configurations.specs.Packing.{unpackAll}
+use Rattle.words.specs.Layout.{fixedWords, lengthAt, bytesAt}
+use Rattle.words.specs.Words.{held, keptIn}
+use Rattle.words.specs.Begin.{packBytes, begun?}
 use Rattle.cache.specs.Coherent.{Says, Extends}
-use Rattle.cache.proofs.WordLaws.{region-same}
+use Rattle.words.proofs.WordLaws.{region-same}
 
 module _ (g : Grammar) where
   pub extends-refl : (c : List ℕ) → Extends g c c

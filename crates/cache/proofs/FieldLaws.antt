@@ -9,10 +9,10 @@ use lib.ListN.{length}
 use Rattle.grammar.specs.Limits.{maxNonterminals, maxKinds}
 use Rattle.grammar.specs.Grammar.{Grammar}
 use Rattle.lookahead.specs.Outcomes.{Outcome, startOutcome, stepOutcome}
-use Rattle.cache.specs.Layout.{fixedWords, heldAt, startAt, bytesAt, slotAt, countAt, stepAt, configsAt}
-use Rattle.cache.specs.Words.{word, held, startOf, stepOf, decision, keptIn}
+use Rattle.words.specs.Layout.{fixedWords, heldAt, startAt, bytesAt, slotAt, countAt, stepAt, configsAt}
+use Rattle.words.specs.Words.{word, held, startOf, stepOf, decision, keptIn}
 use Rattle.cache.specs.Coherent.{Decides, Says, Coherent, Used, size, start, byte, its-decision, count, step, kept, Extends}
-use Rattle.cache.proofs.WordLaws.{keptRoom, kept-room}
+use Rattle.words.proofs.WordLaws.{keptRoom, kept-room}
 use Rattle.cache.proofs.SuitLaws.{Suits}
 use Rattle.cache.proofs.ExtendLaws.{kept-extends}
 

@@ -11,10 +11,10 @@ use Rattle.base.proofs.Booleans.{clash, and-T, T-and}
 use Rattle.base.proofs.Lowest.{lowest-is}
 use Rattle.lookahead.specs.Configs.{Config}
 use Rattle.lookahead.specs.Closing.{sameList}
-use Rattle.lookahead.specs.Packing.{packAll}
+use Rattle.configurations.specs.Packing.{packAll}
 use Rattle.lookahead.proofs.AddLaws.{same-list, list-same}
-use Rattle.cache.specs.Layout.{slots}
-use Rattle.cache.specs.Words.{held, decision, keptWords}
+use Rattle.words.specs.Layout.{slots}
+use Rattle.words.specs.Words.{held, decision, keptWords}
 use Rattle.cache.specs.Recording.{holds?, find}
 
 -- state s is that of these configurations for decision a

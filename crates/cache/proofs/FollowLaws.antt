@@ -7,7 +7,7 @@ use lib.ListN.{length}
 use borrow.Author.Tests.{lt-ltb, le-ltb}
 use Rattle.grammar.specs.Limits.{maxProductions}
 use Rattle.grammar.specs.Grammar.{Grammar}
-use Rattle.cache.specs.Layout.{slots, fullWord, stateWord}
+use Rattle.words.specs.Layout.{slots, fullWord, stateWord}
 use Rattle.cache.specs.Recording.{Learned, learned, askStep}
 use Rattle.cache.specs.Predict.{chosen, undecided, at, meaning, follow}
 

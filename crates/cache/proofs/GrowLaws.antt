@@ -9,10 +9,10 @@ use lib.ListN.{length}
 use Rattle.grammar.specs.Grammar.{Grammar}
 use Rattle.lookahead.specs.Outcomes.{Outcome, stepOutcome}
 use Rattle.lookahead.specs.Order.{Ascending}
-use Rattle.lookahead.specs.Packing.{packAll}
+use Rattle.configurations.specs.Packing.{packAll}
 use Rattle.lookahead.specs.Rules.{Each}
-use Rattle.cache.specs.Layout.{slots, countAt, stepAt}
-use Rattle.cache.specs.Words.{word, held, startOf, stepOf, decision, keptWords, keptIn}
+use Rattle.words.specs.Layout.{slots, countAt, stepAt}
+use Rattle.words.specs.Words.{word, held, startOf, stepOf, decision, keptWords, keptIn}
 use Rattle.cache.specs.Coherent.{Says, Fits, Slot, Used, Coherent, Extends}
 use Rattle.cache.proofs.SuitLaws.{Suits}
 use Rattle.cache.proofs.ExtendLaws.{kept-extends, begun-extends}

@@ -1,7 +1,5 @@
--- Laws on the cache's words, one subject a file.
-pub mod WordLaws
+-- Laws on what the cache records and predicts, one subject a file.
 pub mod LengthLaws
-pub mod ByteLaws
 pub mod SuitLaws
 pub mod FitLaws
 pub mod ExtendLaws
@@ -15,9 +13,5 @@ pub mod AgainLaws
 pub mod BeginLaws
 pub mod FollowLaws
 pub mod PredictLaws
-pub mod PackSteps
-pub mod SizeLaws
-pub mod BeginSteps
-pub mod SlotLaws
 pub mod StateSteps
 pub mod AskSteps

@@ -11,13 +11,13 @@ use Rattle.grammar.specs.Grammar.{Grammar}
 use Rattle.lookahead.specs.Configs.{Config}
 use Rattle.lookahead.specs.Order.{Ascending}
 use Rattle.lookahead.specs.Outcomes.{Outcome, state}
-use Rattle.lookahead.specs.Packing.{packAll, unpackAll}
+use Rattle.configurations.specs.Packing.{packAll, unpackAll}
 use Rattle.lookahead.specs.Rules.{Each}
-use Rattle.lookahead.proofs.PackLaws.{unpack-all, length-packAll}
-use Rattle.cache.specs.Layout.{fixedWords, slots, heldAt, bytesAt, slotAt, countAt, stepAt, configsAt, stateWord}
-use Rattle.cache.specs.Words.{word, held, startOf, stepOf, decision, keptWords, keptIn, addState}
+use Rattle.configurations.proofs.PackLaws.{unpack-all, length-packAll}
+use Rattle.words.specs.Layout.{fixedWords, slots, heldAt, bytesAt, slotAt, countAt, stepAt, configsAt, stateWord}
+use Rattle.words.specs.Words.{word, held, startOf, stepOf, decision, keptWords, keptIn, addState}
 use Rattle.cache.specs.Coherent.{Decides, Says, Fits, Slot, Used, size, its-decision, count, kept, Coherent, Extends}
-use Rattle.cache.proofs.WordLaws.{keptRoom, kept-same, Added, added}
+use Rattle.words.proofs.WordLaws.{keptRoom, kept-same, Added, added}
 use Rattle.cache.proofs.FitLaws.{Keepable, fits-packable}
 use Rattle.cache.proofs.SuitLaws.{Suits}
 use Rattle.cache.proofs.ExtendLaws.{says-extends}

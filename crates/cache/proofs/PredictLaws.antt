@@ -12,14 +12,14 @@ use Rattle.derivation.specs.Runs.{Run}
 use Rattle.derivation.proofs.Notes.{get-of-drop, get-lt}
 use Rattle.lookahead.specs.Configs.{Config}
 use Rattle.lookahead.specs.Outcomes.{Outcome, full, alternative, state, startOutcome, stepOutcome, States, begun, stepped}
-use Rattle.lookahead.specs.Packing.{packAll, unpackAll}
+use Rattle.configurations.specs.Packing.{packAll, unpackAll}
 use Rattle.lookahead.specs.Rules.{Each}
-use Rattle.lookahead.proofs.PackLaws.{unpack-all}
+use Rattle.configurations.proofs.PackLaws.{unpack-all}
 use Rattle.lookahead.proofs.StateLaws.{states-packable}
 use Rattle.lookahead.proofs.Following.{Valid}
 use Rattle.lookahead.proofs.Agreeing.{Allows, this, there, over, Marked, start-allows, step-agrees}
-use Rattle.cache.specs.Layout.{slots, fullWord}
-use Rattle.cache.specs.Words.{held, decision, keptWords, keptIn}
+use Rattle.words.specs.Layout.{slots, fullWord}
+use Rattle.words.specs.Words.{held, decision, keptWords, keptIn}
 use Rattle.cache.specs.Recording.{Learned, learned, askStart, askStep}
 use Rattle.cache.specs.Predict.{chosen, undecided, at, meaning, follow, predict}
 use Rattle.cache.specs.Coherent.{Decides, Says, Coherent, Extends}

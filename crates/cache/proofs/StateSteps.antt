@@ -15,13 +15,13 @@ use Rattle.base.proofs.Booleans.{clash, and-none, true→T}
 use Rattle.base.proofs.Lowest.{lowest-begin, lowest-none, lowest-hit, lowest-next}
 use Rattle.lookahead.specs.Closing.{sameList}
 use Rattle.lookahead.proofs.AddLaws.{same-list}
-use Rattle.cache.specs.Layout.{maxSlots, slotWords, slots, slotAt, configsAt, fullWord}
-use Rattle.cache.specs.Words.{held, decision, keptCount, keptWords}
+use Rattle.words.specs.Layout.{maxSlots, slotWords, slots, slotAt, configsAt, fullWord}
+use Rattle.words.specs.Words.{held, decision, keptCount, keptWords, searched}
 use Rattle.cache.specs.Recording.{Learned, learned}
-use Rattle.cache.specs.ByWords.{holdsWords, searched, findWords, foundIn, addWords, sayWord, newWords, onFound, stateWords}
+use Rattle.cache.specs.ByWords.{holdsWords, findWords, foundIn, addWords, sayWord, newWords, onFound, stateWords}
 use Rattle.cache.specs.declared.recording.Found.{Found}
 use Rattle.cache.specs.declared.recording.Found.the-variants.{Slot, Nowhere}
-use Rattle.cache.proofs.WordLaws.{slot-within}
+use Rattle.words.proofs.WordLaws.{slot-within}
 
 -- ---- one slot
 kept-long : (c : List ℕ) (s : ℕ) → s < slots (length c) → length (keptWords c s) ≡ 3 * keptCount c s

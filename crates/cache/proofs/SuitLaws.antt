@@ -12,10 +12,10 @@ use Rattle.grammar.proofs.GrammarLaws.{no-alternatives}
 use Rattle.grammar.proofs.PlaceLaws.{length-startsAll}
 use Rattle.reader.proofs.ReadLaws.{decode-limited}
 use Rattle.lookahead.proofs.Bounds.{Bounded, compile-bounded}
-use Rattle.cache.specs.Layout.{fixedWords, bytesAt}
-use Rattle.cache.specs.Begin.{packBytes}
+use Rattle.words.specs.Layout.{fixedWords, bytesAt}
+use Rattle.words.specs.Begin.{packBytes}
 use Rattle.cache.specs.Coherent.{Decides}
-use Rattle.cache.proofs.ByteLaws.{packed-few, decode-few}
+use Rattle.words.proofs.ByteLaws.{packed-few, decode-few}
 
 pub record Suits (g : Grammar) (bytes : List ℕ) : Type 0 where
   pub bounded : Bounded g

@@ -2,16 +2,16 @@
 use mathlib.Core.Bool.{Bool, _&&_, cond}
 use mathlib.Core.Option.{Option, none, some}
 use mathlib.Core.List.{List}
-use Prim.Native.Nat.{ℕ, suc, _*_, _≤_, min}
+use Prim.Native.Nat.{ℕ, suc, _*_, _≤_}
 use lib.Dec.{eqb, ltb}
 use lib.ListN.{length, set, take}
 use lib.Seq.{sets}
 use Rattle.base.specs.Search.{lowestFrom}
 use Rattle.lookahead.specs.Closing.{sameList, maxKept}
-use Rattle.lookahead.specs.declared.rules.Outcome.{Outcome}
-use Rattle.lookahead.specs.declared.rules.Outcome.the-variants.{Full, Alternative, State}
-use Rattle.cache.specs.Layout.{slots, heldAt, slotAt, countAt, configsAt, fullWord, stateWord}
-use Rattle.cache.specs.Words.{held, decision, keptWords}
+use Rattle.learning.specs.declared.rules.Outcome.{Outcome}
+use Rattle.learning.specs.declared.rules.Outcome.the-variants.{Full, Alternative, State}
+use Rattle.words.specs.Layout.{slots, heldAt, slotAt, countAt, configsAt, fullWord, stateWord}
+use Rattle.words.specs.Words.{held, searched, decision, keptWords}
 use Rattle.cache.specs.Recording.{Learned, learned}
 use Rattle.cache.specs.declared.recording.Found.{Found}
 use Rattle.cache.specs.declared.recording.Found.the-variants.{Slot, Nowhere}
@@ -20,11 +20,6 @@ use Rattle.cache.specs.declared.recording.Found.the-variants.{Slot, Nowh
 unfoldable pub holdsWords : List ℕ → ℕ → List ℕ → ℕ → Bool
 unfolding decision keptWords sameList
 holdsWords c a ws s = let same = sameList (keptWords c s) ws in eqb (decision c s) a && same
-
--- the slots that are searched: those that hold states
-unfoldable pub searched : List ℕ → ℕ
-unfolding held slots
-searched c = min (held c) (slots (length c))
 
 -- the slot that holds them
 unfoldable pub findWords : List ℕ → ℕ → List ℕ → Option ℕ

@@ -13,10 +13,10 @@ use Rattle.lookahead.specs.Closing.{maxEntries, maxKept}
 use Rattle.lookahead.specs.Order.{pastEnd, Ascending, returnRadix}
 use Rattle.lookahead.specs.Outcomes.{Outcome, full, alternative, state, startOutcome, stepOutcome}
 use Rattle.lookahead.specs.Rules.{Each}
-use Rattle.cache.specs.Layout.{minWords, fixedWords, slots, heldAt, startAt, bytesAt, slotAt, countAt, stepAt, configsAt, fullWord, stateWord}
-use Rattle.lookahead.specs.Packing.{packAll}
-use Rattle.cache.specs.Words.{word, held, startOf, stepOf, decision, keptWords, keptIn}
-use Rattle.cache.specs.Begin.{packBytes, begun?}
+use Rattle.words.specs.Layout.{minWords, fixedWords, slots, heldAt, startAt, bytesAt, slotAt, countAt, stepAt, configsAt, fullWord, stateWord}
+use Rattle.configurations.specs.Packing.{packAll}
+use Rattle.words.specs.Words.{word, held, startOf, stepOf, decision, keptWords, keptIn}
+use Rattle.words.specs.Begin.{packBytes, begun?}
 
 -- a nonterminal of two or more productions
 abbrev pub Decides : Grammar → ℕ → Type 0

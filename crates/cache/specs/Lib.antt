@@ -1,9 +1,4 @@
--- The lookahead cache: its words by named fields, how it begins, what is recorded, what it predicts, and which words are coherent.
-pub mod Layout
-pub mod Words
-pub mod Begin
-pub mod Bytes
-pub mod Beginning
+-- The lookahead cache: what is recorded, what it predicts, and which words are coherent.
 pub mod Recording
 pub mod ByWords
 pub mod Predict

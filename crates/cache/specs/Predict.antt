@@ -5,7 +5,7 @@ use Prim.Native.Nat.{ℕ, _-_}
 use lib.Dec.{ltb}
 use lib.ListN.{length}
 use Rattle.grammar.specs.Grammar.{Grammar}
-use Rattle.cache.specs.Layout.{slots, fullWord, stateWord}
+use Rattle.words.specs.Layout.{slots, fullWord, stateWord}
 use Rattle.cache.specs.Recording.{Learned, learned, askStart, askStep}
 
 -- what a word says in a cache of so many slots: an alternative, FULL, or a state. Words that no recording leaves say FULL.

@@ -1,11 +1,11 @@
 // States and outcomes are looked up, and recorded.
-use lookahead::Outcome;
+use learning::Outcome;
 ghost use mathlib.Core.Path.{_≡_};
 ghost use Prim.Native.Nat.{_+_, _*_, _≤_, _<_, _^_};
 ghost use lib.ListN.{length, take};
 ghost use Rattle.lookahead.specs.Closing.{maxKept};
-ghost use Rattle.cache.specs.Layout.{minWords, maxSlots, slotWords, slots, slotAt};
-ghost use Rattle.cache.specs.Words.{held};
+ghost use Rattle.words.specs.Layout.{minWords, maxSlots, slotWords, slots, slotAt};
+ghost use Rattle.words.specs.Words.{held};
 ghost use Rattle.cache.specs.Recording.{learned};
 ghost use Rattle.cache.specs.ByWords.{holdsWords, findWords, foundIn, addWords, sayWord, newWords, stateWords, Room, outcomeWords};
 
@@ -20,13 +20,13 @@ fn holds(cache: &[u32], a: usize, ws: &[u32], n: usize, s: usize) -> bool
     requires { ⌜ (s < slots (length (now cache))) × (n ≤ maxKept) × (3 * n ≤ length (now ws)) ⌝ }
     ensures { λ r. ⌜ r ≡ holdsWords (now (cache .entry)) a (take (3 * n) (now (ws .entry))) s ⌝ }
 {
-    if crate::slots::decision(cache, s) != a {
+    if words::slots::decision(cache, s) != a {
         return false;
     }
-    if crate::slots::kept_count(cache, s) != n {
+    if words::slots::kept_count(cache, s) != n {
         return false;
     }
-    crate::slots::same_words(cache, crate::slots::configs_at(s), ws, 3 * n)
+    words::slots::same_words(cache, words::slots::configs_at(s), ws, 3 * n)
 }
 
 // The slot that holds them, among those that hold states. `left` counts those not yet looked at.
@@ -34,7 +34,7 @@ fn find(cache: &[u32], a: usize, ws: &[u32], n: usize) -> Found
     requires { ⌜ (minWords ≤ length (now cache)) × (n ≤ maxKept) × (3 * n ≤ length (now ws)) ⌝ }
     ensures { λ r. ⌜ r ≡ foundIn (findWords (now (cache .entry)) a (take (3 * n) (now (ws .entry)))) ⌝ }
 {
-    let count = crate::slots::searched(cache);
+    let count = words::slots::searched(cache);
     let mut left = count;
     while 0 < left {
         let s = count - left;
@@ -51,10 +51,10 @@ fn add_state(cache: &mut [u32], s: usize, a: usize, ws: &[u32], n: usize)
     requires { ⌜ (s ≡ held (now cache)) × (s < maxSlots) × (slotAt s + slotWords ≤ length (now cache)) × (a < 2 ^ 32) × (n ≤ maxKept) × (3 * n ≤ length (now ws)) ⌝ }
     ensures { λ _. ⌜ now (cache .exit) ≡ addWords (now (cache .entry)) a n (take (3 * n) (now (ws .entry))) ⌝ }
 {
-    let at = crate::slots::slot_at(s);
+    let at = words::slots::slot_at(s);
     cache[at] = base::word(a);
     cache[at + 1] = base::word(n);
-    crate::slots::store_words(cache, at + 128, ws, 3 * n);
+    words::slots::store_words(cache, at + 128, ws, 3 * n);
     cache[4] = base::word(s + 1);
 }
 
@@ -72,8 +72,8 @@ fn new_state(cache: &mut [u32], i: usize, a: usize, ws: &[u32], n: usize) -> u32
     requires { ⌜ (minWords ≤ length (now cache)) × (i < length (now cache)) × (a < 2 ^ 32) × (n ≤ maxKept) × (3 * n ≤ length (now ws)) ⌝ }
     ensures { λ r. ⌜ learned r (now (cache .exit)) ≡ newWords i (now (cache .entry)) a n (take (3 * n) (now (ws .entry))) ⌝ }
 {
-    let s = crate::slots::held(cache);
-    if s < crate::slots::slots(cache.len()) {
+    let s = words::slots::held(cache);
+    if s < words::slots::slots(cache.len()) {
         add_state(cache, s, a, ws, n);
         return say(cache, i, base::word(18 + s));
     }

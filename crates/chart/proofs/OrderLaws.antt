@@ -21,9 +21,10 @@ use Rattle.grammar.specs.Grammar.{Grammar, facing, alternatives, first, suffix}
 use Rattle.grammar.specs.Derivation.{Leftmost}
 use Rattle.grammar.specs.Tables.{grammarIn, nonterminalsIn}
 use Rattle.grammar.proofs.GrammarLaws.{production-is}
-use Rattle.soundness.specs.Closures.{nullable?, leads, move?, Corners}
-use Rattle.soundness.proofs.Deriving.{nullable-iff}
-use Rattle.soundness.proofs.LeftRecursion.{leads-place}
+use Rattle.closures.specs.Closures.{nullable?}
+use Rattle.corners.specs.Corners.{leads, move?, Corners}
+use Rattle.closures.proofs.Deriving.{nullable-iff}
+use Rattle.corners.proofs.LeftRecursion.{leads-place}
 use Rattle.derivation.specs.Runs.{DerivesBy}
 use Rattle.derivation.proofs.ViableLaws.{der→leftmost}
 use Rattle.chart.specs.Chart.{cellHas}

@@ -7,7 +7,7 @@ ghost use Prim.Native.Nat.{suc, _≤_, _<_};
 ghost use lib.ListN.{length};
 ghost use Rattle.grammar.specs.Limits.{maxNonterminals};
 ghost use Rattle.grammar.specs.Tables.{grammarIn, nonterminalsIn};
-ghost use Rattle.soundness.specs.Closures.{Corners};
+ghost use Rattle.corners.specs.Corners.{Corners};
 ghost use Rattle.chart.specs.Ends.{endWords, SoundEnds, RightEnds};
 ghost use Rattle.chart.specs.Row.{Row, Begun, Grown};
 ghost use Rattle.chart.specs.Order.{Looked, Ripe, All, Judged};

@@ -6,7 +6,7 @@ ghost use Prim.Native.Nat.{_+_, _≤_, _<_};
 ghost use lib.ListN.{length};
 ghost use Rattle.grammar.specs.Limits.{maxNonterminals};
 ghost use Rattle.grammar.specs.Tables.{grammarIn, nonterminalsIn, tableWords};
-ghost use Rattle.soundness.specs.Closures.{Corners};
+ghost use Rattle.corners.specs.Corners.{Corners};
 ghost use Rattle.positions.specs.Positions.{setWords};
 ghost use Rattle.positions.specs.Words.{setAt};
 ghost use Rattle.derivation.specs.Ready.{Ready};
@@ -170,7 +170,7 @@ pub fn fill(tables: &[u16], note: &[u16], ws: &mut [u32], places: usize)
     ensures { λ _. ⌜ Filled (now (tables .entry)) (now (note .entry)) (now (ws .entry)) (now (ws .exit)) ⌝ }
 {
     let mut corners = [0u32; 32];
-    soundness::corners(tables, &mut corners);
+    corners::corners(tables, &mut corners);
     let mut i = note.len() + 1;
     while 0 < i {
         i -= 1;

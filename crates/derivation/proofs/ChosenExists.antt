@@ -17,7 +17,7 @@ use Rattle.grammar.specs.Ordered.{Ordered}
 use Rattle.grammar.specs.Derivation.{Derives}
 use Rattle.grammar.proofs.OrderedLaws.{compile-ordered}
 use Rattle.grammar.proofs.PlaceLaws.{compile-within}
-use Rattle.soundness.specs.Textbook.{LeftRecursive}
+use Rattle.closures.specs.Textbook.{LeftRecursive}
 use Rattle.derivation.specs.Runs.{Run, Whole, marked}
 use Rattle.derivation.specs.Machine.{Chooser, Serves, lowest, plainly, Outcome, accepted, stuck, full, Step, step, followStep, run}
 use Rattle.derivation.specs.Choosers.{Anywhere, Anyone, AnyState, anywhere}

@@ -12,7 +12,7 @@ use Rattle.grammar.specs.Grammar.{Grammar, first, sizeAll, compile, Limited}
 use Rattle.grammar.specs.Ordered.{Ordered}
 use Rattle.grammar.proofs.OrderedLaws.{compile-ordered}
 use Rattle.grammar.proofs.PlaceLaws.{compile-within, compile-end-only, compile-nobody}
-use Rattle.soundness.specs.Textbook.{LeftRecursive}
+use Rattle.closures.specs.Textbook.{LeftRecursive}
 use Rattle.soundness.specs.Check.{checkOf}
 use Rattle.soundness.specs.declared.judgement.Verdict.{Verdict}
 use Rattle.soundness.specs.declared.judgement.Verdict.the-variants.{Sound}

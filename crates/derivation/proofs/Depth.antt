@@ -18,7 +18,7 @@ use Rattle.grammar.specs.Limits.{endPlace, endMark}
 use Rattle.grammar.specs.Grammar.{Grammar, facing, owner, admits, first}
 use Rattle.grammar.specs.Ordered.{Ordered}
 use Rattle.grammar.proofs.GrammarLaws.{first-below}
-use Rattle.soundness.specs.Textbook.{LeftRecursive}
+use Rattle.closures.specs.Textbook.{LeftRecursive}
 use Rattle.derivation.specs.Steps.{Steps, Quiet, Reads}
 use Rattle.derivation.proofs.Notes.{get-lt}
 use Rattle.derivation.proofs.Pigeon.{Distinct, pigeon}

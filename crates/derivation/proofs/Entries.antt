@@ -15,8 +15,8 @@ use Rattle.grammar.specs.Grammar.{Grammar, facing, owner, first, before, suffix
 use Rattle.grammar.specs.Derivation.{Leftmost, Derives}
 use Rattle.grammar.specs.Ordered.{Ordered}
 use Rattle.grammar.proofs.GrammarLaws.{suffix-is, production-is, leftmost-append}
-use Rattle.soundness.specs.Textbook.{Vanishing, Move, Reaches, one, LeftRecursive}
-use Rattle.soundness.proofs.LeftRecursion.{reaches-trans}
+use Rattle.closures.specs.Textbook.{Vanishing, Move, Reaches, one, LeftRecursive}
+use Rattle.corners.proofs.LeftRecursion.{reaches-trans}
 use Rattle.derivation.specs.Steps.{Step, popped, matched, picked, Steps, Quiet, Reads}
 
 -- ---- the part of a production from f up to p derives the empty row, symbol by symbol

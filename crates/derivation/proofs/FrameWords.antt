@@ -12,7 +12,7 @@ use Rattle.grammar.specs.Limits.{endPlace, endMark}
 use Rattle.grammar.specs.Decode.{Rules}
 use Rattle.grammar.specs.Grammar.{Grammar, facing, admits, first, sizeAll, compile, Limited}
 use Rattle.grammar.specs.Ordered.{Ordered}
-use Rattle.soundness.specs.Textbook.{LeftRecursive}
+use Rattle.closures.specs.Textbook.{LeftRecursive}
 use Rattle.derivation.specs.Steps.{Step, Steps, Quiet, Reads}
 use Rattle.derivation.specs.Space.{maxTokens, spaceWords, cellWords, frameWords, spareWords, returnsOf, Pushed}
 use Rattle.derivation.proofs.Entries.{Open, open-step}

@@ -16,12 +16,12 @@ use Rattle.grammar.specs.Derivation.{Leftmost}
 use Rattle.grammar.proofs.GrammarLaws.{production-from}
 use Rattle.grammar.proofs.PlaceLaws.{length-startsAll}
 use Rattle.reader.proofs.FitsLaws.{compile-named}
-use Rattle.soundness.specs.Textbook.{Productive}
-use Rattle.soundness.specs.Closures.{productive?}
+use Rattle.closures.specs.Textbook.{Productive}
+use Rattle.closures.specs.Closures.{productive?}
 use Rattle.soundness.specs.declared.judgement.Verdict.{Verdict}
 use Rattle.soundness.specs.declared.judgement.Verdict.the-variants.{Sound}
 use Rattle.soundness.specs.Check.{checkOf}
-use Rattle.soundness.proofs.Deriving.{productive-iff}
+use Rattle.closures.proofs.Deriving.{productive-iff}
 use Rattle.soundness.proofs.CheckLaws.{Barren, Means, sound, barren, recursive, check-means}
 use Rattle.derivation.specs.Viable.{Rich}
 use Rattle.derivation.proofs.ViableLaws.{rich}

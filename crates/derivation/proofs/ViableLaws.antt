@@ -15,7 +15,7 @@ use Rattle.grammar.specs.declared.Place.{Place}
 use Rattle.grammar.specs.Grammar.{Grammar, nowhere, facing, first, before, spell, suffix}
 use Rattle.grammar.specs.Derivation.{Leftmost, Derives}
 use Rattle.grammar.proofs.GrammarLaws.{suffix-is, production-is, production-from, leftmost-append, admits-self}
-use Rattle.soundness.specs.Textbook.{Productive}
+use Rattle.closures.specs.Textbook.{Productive}
 use Rattle.derivation.specs.Runs.{Run, Der, Split, spells, DerivesBy}
 use Rattle.derivation.specs.Viable.{Sentence, Viable, Rich, Reach, start, match, call, return, Arrives, WrongAt}
 use Rattle.derivation.proofs.Stretches.{take-get, slice-get, slice-append, take-slice, alike-take}

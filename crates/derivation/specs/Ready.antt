@@ -5,7 +5,7 @@ use Prim.Native.Nat.{ℕ}
 use Rattle.grammar.specs.Decode.{Rules}
 use Rattle.grammar.specs.Grammar.{compile, Limited}
 use Rattle.grammar.specs.Tables.{grammarIn, Fits}
-use Rattle.soundness.specs.Textbook.{LeftRecursive}
+use Rattle.closures.specs.Textbook.{LeftRecursive}
 
 -- tables that say rules within the limits, none of whose nonterminals is left recursive
 pub record Ready (t : List ℕ) : Type 0 where

@@ -15,8 +15,8 @@ use Rattle.soundness.specs.declared.judgement.Verdict.the-variants.{Sound, Refu
 use Rattle.soundness.specs.Check.{judged}
 use Rattle.soundness.specs.Compiled.{Compiled}
 use Rattle.derivation.proofs.ReadyLaws.{verdict-is, sound-judged}
-use Rattle.cache.specs.Layout.{minWords, slots, slotAt}
-use Rattle.cache.specs.Words.{decision}
+use Rattle.words.specs.Layout.{minWords, slots, slotAt}
+use Rattle.words.specs.Words.{decision}
 use Rattle.cache.specs.Recording.{Learned, learned, askStart, askStep}
 use Rattle.learning_c.specs.Questions.{startIn, stepIn, onRules, startOf, stepOf}
 

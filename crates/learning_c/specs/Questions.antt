@@ -10,8 +10,8 @@ use Rattle.grammar.specs.Grammar.{Grammar, compile}
 use Rattle.soundness.specs.declared.judgement.Verdict.{Verdict}
 use Rattle.soundness.specs.declared.judgement.Verdict.the-variants.{Sound, Refused}
 use Rattle.soundness.specs.Check.{judgeOf}
-use Rattle.cache.specs.Layout.{minWords, slots}
-use Rattle.cache.specs.Words.{decision}
+use Rattle.words.specs.Layout.{minWords, slots}
+use Rattle.words.specs.Words.{decision}
 use Rattle.cache.specs.Recording.{Learned, learned, askStart, askStep}
 
 -- the start of decision a, for a sound grammar

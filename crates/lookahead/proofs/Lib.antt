@@ -4,16 +4,6 @@ pub mod MoveLaws
 pub mod AddLaws
 pub mod CloseLaws
 pub mod KeyLaws
-pub mod PackLaws
-pub mod ExactLaws
-pub mod HeldLaws
-pub mod GrowLaws
-pub mod GrowSteps
-pub mod FollowLaws
-pub mod WorklistLaws
-pub mod SortLaws
-pub mod JudgeLaws
-pub mod LearnLaws
 pub mod OrderLaws
 pub mod StepLaws
 pub mod Bounds

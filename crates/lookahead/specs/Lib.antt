@@ -2,9 +2,6 @@
 pub mod Configs
 pub mod Closing
 pub mod Order
-pub mod Packing
 pub mod Outcomes
 pub mod Rules
 pub mod Worked
-pub mod Held
-pub mod Told

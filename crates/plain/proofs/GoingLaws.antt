@@ -13,7 +13,7 @@ use Rattle.grammar.specs.declared.Symbol.the-variants.{Token, Nonterminal, End}
 use Rattle.grammar.specs.Limits.{endPlace}
 use Rattle.grammar.specs.Grammar.{Grammar, facing, admits, first}
 use Rattle.grammar.specs.Tables.{grammarIn}
-use Rattle.soundness.specs.Textbook.{LeftRecursive}
+use Rattle.closures.specs.Textbook.{LeftRecursive}
 use Rattle.derivation.specs.Runs.{marked}
 use Rattle.derivation.specs.Cells.{derives?, runs?}
 use Rattle.derivation.specs.Machine.{lowest, Outcome, accepted, stuck, full}

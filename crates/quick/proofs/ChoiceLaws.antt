@@ -20,7 +20,7 @@ use Rattle.derivation.proofs.LowestLaws.{lowest-serves, first-lt}
 use Rattle.lookahead.specs.Configs.{In}
 use Rattle.lookahead.proofs.Following.{Valid}
 use Rattle.lookahead.proofs.Agreeing.{Marked}
-use Rattle.cache.specs.Layout.{fullWord}
+use Rattle.words.specs.Layout.{fullWord}
 use Rattle.cache.specs.Recording.{Learned, learned}
 use Rattle.cache.specs.Predict.{predict}
 use Rattle.cache.specs.Coherent.{Decides, Coherent, Extends}

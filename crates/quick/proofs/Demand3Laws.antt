@@ -26,8 +26,8 @@ use Rattle.derivation.specs.Demand2.{Known}
 use Rattle.derivation.proofs.Demand2Laws.{none-known, judged-sound}
 use Rattle.lookahead.specs.Configs.{In}
 use Rattle.lookahead.specs.Rules.{Each}
-use Rattle.cache.specs.Layout.{minWords}
-use Rattle.cache.specs.Begin.{beginWords, begun?}
+use Rattle.words.specs.Layout.{minWords}
+use Rattle.words.specs.Begin.{beginWords, begun?}
 use Rattle.cache.specs.Coherent.{Coherent, Extends}
 use Rattle.cache.proofs.SuitLaws.{Suits, decode-suits}
 use Rattle.cache.proofs.ExtendLaws.{extends-refl, extends-trans}

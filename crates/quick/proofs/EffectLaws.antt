@@ -21,8 +21,8 @@ use Rattle.derivation.specs.Machine as machine
 use Rattle.derivation.specs.Space.{maxTokens, spaceWords}
 use Rattle.derivation.specs.ReachRounds.{wrongPlace}
 use Rattle.derivation.specs.Plain.{refuse, clear, firstUnknown, sentence?, onOutcome}
-use Rattle.cache.specs.Layout.{minWords}
-use Rattle.cache.specs.Begin.{begun?}
+use Rattle.words.specs.Layout.{minWords}
+use Rattle.words.specs.Begin.{begun?}
 use Rattle.quick.specs.Quick.{Reply, reply, quickNote, answered, quick13, quick12, quick11, quick9, quick8, replyUnknown, replyVerdict, replyRules, quickReading}
 use Rattle.quick.specs.Effects.{Clears, Effect, accepted, cleared, untouched}
 

@@ -20,7 +20,7 @@ use Rattle.derivation.proofs.FrameWords.{held-pop, held-match, held-pick, pushe
 use Rattle.derivation.proofs.Entries.{Open}
 use Rattle.derivation.proofs.ReadyLaws.{ready-ordered}
 use Rattle.derivation.proofs.MarkedCells.{length-marked}
-use Rattle.cache.specs.Layout.{minWords}
+use Rattle.words.specs.Layout.{minWords}
 use Rattle.chart.specs.Chart.{Charted}
 use Rattle.plain.specs.Frames.{FramesBelow, frameHas}
 use Rattle.plain.specs.Machine.{ground, waiting}

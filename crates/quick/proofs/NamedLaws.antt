@@ -14,7 +14,7 @@ use Rattle.grammar.specs.Tables.{grammarIn, nonterminalsIn}
 use Rattle.derivation.specs.Machine.{Serves, lowest}
 use Rattle.derivation.specs.Ready.{Ready}
 use Rattle.derivation.proofs.LowestLaws.{lowest-serves}
-use Rattle.cache.specs.Layout.{slots}
+use Rattle.words.specs.Layout.{slots}
 use Rattle.cache.specs.Recording.{Learned, askStart, askStep}
 use Rattle.cache.specs.Predict.{Meaning, chosen, undecided, at, meaning, follow, predict}
 use Rattle.cache.proofs.LengthLaws.{length-askStart, length-askStep}

@@ -16,7 +16,7 @@ use Rattle.derivation.specs.Runs.{marked}
 use Rattle.derivation.specs.Ready.{Ready}
 use Rattle.derivation.proofs.Notes.{drop-of-get, get-lt}
 use Rattle.derivation.proofs.MarkedCells.{length-marked}
-use Rattle.cache.specs.Layout.{slots, fullWord}
+use Rattle.words.specs.Layout.{slots, fullWord}
 use Rattle.cache.specs.Recording.{Learned, learned, askStart, askStep}
 use Rattle.cache.specs.Predict.{follow, predict}
 use Rattle.cache.proofs.LengthLaws.{length-askStart, length-askStep}

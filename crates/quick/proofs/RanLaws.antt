@@ -18,7 +18,7 @@ use Rattle.derivation.specs.Machine.{stuck}
 use Rattle.derivation.specs.Space.{frameWords, spareWords}
 use Rattle.derivation.specs.Ready.{Ready}
 use Rattle.derivation.proofs.MarkedCells.{length-marked}
-use Rattle.cache.specs.Layout.{minWords}
+use Rattle.words.specs.Layout.{minWords}
 use Rattle.plain.specs.Choice.{orZero}
 use Rattle.plain.specs.Machine.{ground, outcomeIn}
 use Rattle.plain.specs.declared.machine.Outcome.{Outcome}

@@ -19,8 +19,8 @@ use Rattle.derivation.specs.Space.{maxTokens, spaceWords}
 use Rattle.derivation.specs.Plain.{Answer, refuse, firstUnknown, onOutcome}
 use Rattle.derivation.proofs.Demand2Laws.{none-known}
 use Rattle.derivation.proofs.ReadyLaws.{verdict-is, sound-judged}
-use Rattle.cache.specs.Layout.{minWords}
-use Rattle.cache.specs.Begin.{begun?}
+use Rattle.words.specs.Layout.{minWords}
+use Rattle.words.specs.Begin.{begun?}
 use Rattle.plain.specs.declared.machine.Outcome.{Outcome}
 use Rattle.plain.specs.declared.reading.Reading.the-variants as reading
 use Rattle.plain.specs.declared.tokens.Tokens.{Tokens}

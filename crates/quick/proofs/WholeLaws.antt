@@ -16,10 +16,10 @@ use Rattle.soundness.specs.declared.judgement.Verdict.{Verdict}
 use Rattle.soundness.specs.declared.judgement.Verdict.the-variants.{Sound, Refused}
 use Rattle.soundness.specs.Check.{judgeOf, checkOf}
 use Rattle.derivation.specs.Plain.{Answer}
-use Rattle.cache.specs.Layout.{minWords}
-use Rattle.cache.specs.Begin.{Begun, begun, beginWords, begin12, beginSound, beginRules, beginning}
-use Rattle.cache.specs.declared.beginning.Beginning.{Beginning}
-use Rattle.cache.specs.Beginning.{beginningNumber, begunBy}
+use Rattle.words.specs.Layout.{minWords}
+use Rattle.words.specs.Begin.{Begun, begun, beginWords, begin12, beginSound, beginRules, beginning}
+use Rattle.words.specs.declared.beginning.Beginning.{Beginning}
+use Rattle.words.specs.Beginning.{beginningNumber, begunBy}
 use Rattle.plain.specs.Reading.{answered}
 use Rattle.quick.specs.Quick.{Reply}
 use Rattle.quick.specs.Demand3.{Call, quick, AllAgree, wordsAfter}

@@ -20,7 +20,7 @@ use Rattle.plain.specs.Frames.{FramesBelow, frameHas, Good}
 use Rattle.plain.specs.declared.machine.Outcome.{Outcome}
 use Rattle.plain.specs.Machine.{ground, waiting, Called, outcomeIn, Counted}
 use Rattle.plain.specs.Going.{after, steps}
-use Rattle.cache.specs.Layout.{minWords}
+use Rattle.words.specs.Layout.{minWords}
 use Rattle.quick.specs.Machine.{Picked, quickChoice, Ended, stopped, quickRun}
 
 -- the alternatives of a list, and then this end

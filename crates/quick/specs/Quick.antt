@@ -15,8 +15,8 @@ use Rattle.soundness.specs.Check.{judgeOf}
 use Rattle.derivation.specs.Runs.{marked}
 use Rattle.derivation.specs.Space.{maxTokens, spaceWords}
 use Rattle.derivation.specs.Plain.{Answer, refuse, onOutcome, firstUnknown}
-use Rattle.cache.specs.Layout.{minWords}
-use Rattle.cache.specs.Begin.{begun?}
+use Rattle.words.specs.Layout.{minWords}
+use Rattle.words.specs.Begin.{begun?}
 use Rattle.quick.specs.Machine.{Ended, quickRead}
 
 -- an answer with its row, and the cache's words after it

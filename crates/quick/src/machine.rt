@@ -8,7 +8,7 @@ ghost use Prim.Native.Nat.{_≤_};
 ghost use lib.ListN.{length};
 ghost use Rattle.grammar.specs.Tables.{grammarIn};
 ghost use Rattle.derivation.specs.Ready.{Ready};
-ghost use Rattle.cache.specs.Layout.{minWords};
+ghost use Rattle.words.specs.Layout.{minWords};
 ghost use Rattle.chart.specs.Chart.{Lent};
 ghost use Rattle.plain.specs.Machine.{ground};
 ghost use Rattle.derivation.specs.Demand2.{Known};

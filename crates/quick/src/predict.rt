@@ -5,7 +5,7 @@ ghost use lib.ListN.{length, drop};
 ghost use Rattle.grammar.specs.Tables.{grammarIn, nonterminalsIn};
 ghost use Rattle.derivation.specs.Runs.{marked};
 ghost use Rattle.derivation.specs.Ready.{Ready};
-ghost use Rattle.cache.specs.Layout.{minWords};
+ghost use Rattle.words.specs.Layout.{minWords};
 ghost use Rattle.cache.specs.Recording.{learned};
 ghost use Rattle.cache.specs.Predict.{predict};
 ghost use Rattle.derivation.specs.Demand2.{Known};

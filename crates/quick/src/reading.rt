@@ -10,7 +10,7 @@ ghost use lib.ListN.{length};
 ghost use Rattle.grammar.specs.Tables.{grammarIn};
 ghost use Rattle.derivation.specs.Ready.{Ready};
 ghost use Rattle.derivation.specs.Plain.{onOutcome};
-ghost use Rattle.cache.specs.Layout.{minWords};
+ghost use Rattle.words.specs.Layout.{minWords};
 ghost use Rattle.chart.specs.Chart.{Lent, Charted, Filled};
 ghost use Rattle.plain.specs.Machine.{outcomeIn, Counted};
 ghost use Rattle.plain.specs.Reading.{answered};

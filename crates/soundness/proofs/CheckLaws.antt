@@ -12,9 +12,8 @@ use Rattle.grammar.specs.Decode.{Rules, Mark, got, refused, decode}
 use Rattle.grammar.specs.Grammar.{Grammar, compile}
 use Rattle.soundness.specs.declared.judgement.Verdict.{Verdict}
 use Rattle.soundness.specs.declared.judgement.Verdict.the-variants.{Sound, Refused}
-use Rattle.soundness.specs.Textbook.{Productive, LeftRecursive}
-use Rattle.soundness.specs.Closures.{lowestUnproductive, lowestLeftRecursive}
-use Rattle.soundness.specs.Check.{refuseAt, unproductiveOf, leftRecursiveOf, orElse, judgeOf, checkOf}
+use Rattle.closures.specs.Textbook.{Productive, LeftRecursive}
+use Rattle.soundness.specs.Check.{lowestUnproductive, lowestLeftRecursive, refuseAt, unproductiveOf, leftRecursiveOf, orElse, judgeOf, checkOf}
 use Rattle.soundness.proofs.LowestLaws.{lowest-unproductive, lowest-left-recursive}
 
 -- a nonterminal that derives no row of tokens

@@ -23,13 +23,15 @@ use Rattle.reader.proofs.ReadLaws.{Outcome, none, whole, outcome}
 use Rattle.grammar.proofs.WordLaws.{length-starts-in}
 use Rattle.soundness.specs.declared.judgement.Verdict.{Verdict}
 use Rattle.soundness.specs.declared.judgement.Verdict.the-variants.{Sound, Refused}
-use Rattle.soundness.specs.Textbook.{Move}
-use Rattle.soundness.specs.Closures.{deriving?, Corners, leftRecursive?, lowestUnproductive, lowestLeftRecursive}
-use Rattle.soundness.specs.Steps.{DerivingIs, reachOf}
-use Rattle.soundness.specs.Check.{refuseAt, unproductiveOf, leftRecursiveOf, verdictOn, judgeOf, judged, checkOf}
+use Rattle.closures.specs.Textbook.{Move}
+use Rattle.closures.specs.Closures.{deriving?}
+use Rattle.corners.specs.Corners.{Corners, leftRecursive?}
+use Rattle.soundness.specs.Check.{lowestUnproductive, lowestLeftRecursive, refuseAt, unproductiveOf, leftRecursiveOf, verdictOn, judgeOf, judged, checkOf}
+use Rattle.closures.specs.Steps.{DerivingIs}
+use Rattle.corners.specs.Steps.{reachOf}
 use Rattle.soundness.specs.Compiled.{Compiled}
-use Rattle.soundness.proofs.LeftRecursion.{move-to}
-use Rattle.soundness.proofs.Warshall.{reached}
+use Rattle.corners.proofs.LeftRecursion.{move-to}
+use Rattle.corners.proofs.Warshall.{reached}
 
 -- ---- 6
 pub unproductive-is : (t : List ℕ) (x n : ℕ) → DerivingIs true (grammarIn t) x → n ≡ nonterminalsIn t

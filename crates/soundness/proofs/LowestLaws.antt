@@ -6,10 +6,12 @@ use lib.ListN.{length}
 use Rattle.base.specs.Search.{LowestIs}
 use Rattle.base.proofs.Lowest.{lowest-is}
 use Rattle.grammar.specs.Grammar.{Grammar}
-use Rattle.soundness.specs.Textbook.{Productive, LeftRecursive}
-use Rattle.soundness.specs.Closures.{productive?, leftRecursive?, lowestUnproductive, lowestLeftRecursive}
-use Rattle.soundness.proofs.Deriving.{productive-iff}
-use Rattle.soundness.proofs.LeftRecursion.{leftRecursive-iff, reaches-from}
+use Rattle.closures.specs.Textbook.{Productive, LeftRecursive}
+use Rattle.closures.specs.Closures.{productive?}
+use Rattle.corners.specs.Corners.{leftRecursive?}
+use Rattle.soundness.specs.Check.{lowestUnproductive, lowestLeftRecursive}
+use Rattle.closures.proofs.Deriving.{productive-iff}
+use Rattle.corners.proofs.LeftRecursion.{leftRecursive-iff, reaches-from}
 
 not-T : (b : Bool) → T (not b) → ¬ T b
 not-T true t s = t

@@ -1,17 +1,29 @@
 -- The check: refusals 1 to 5 as the bytes come, then 6, then 7; and document 01's number and place of a verdict.
-use mathlib.Core.Bool.{cond}
+use mathlib.Core.Bool.{cond, not}
 use mathlib.Core.Option.{Option, none, some}
 use mathlib.Core.List.{List}
 use Prim.Native.Nat.{ℕ}
 use lib.Dec.{eqb}
+use lib.ListN.{length}
+use Rattle.base.specs.Search.{lowestFrom}
 use Rattle.number.specs.declared.Refusal.{Refusal}
 use Rattle.number.specs.declared.Refusal.the-variants.{Unproductive, LeftRecursive}
 use Rattle.number.specs.Refusals.{refusalNumber, refusalPlace}
 use Rattle.grammar.specs.Decode.{Rules, Parsed, got, refused, decode}
 use Rattle.grammar.specs.Grammar.{Grammar, compile}
-use Rattle.soundness.specs.Closures.{lowestUnproductive, lowestLeftRecursive}
+use Rattle.closures.specs.Closures.{deriving?, productive?}
+use Rattle.corners.specs.Corners.{leftRecursive?}
 use Rattle.soundness.specs.declared.judgement.Verdict.{Verdict}
 use Rattle.soundness.specs.declared.judgement.Verdict.the-variants.{Sound, Refused}
+
+-- the lowest of the grammar's nonterminals that derives no row of tokens, and the lowest that leads back to itself
+unfoldable pub lowestUnproductive : Grammar → Option ℕ
+unfolding lowestFrom deriving?
+lowestUnproductive g = lowestFrom (λ a. not (productive? g a)) 0 (length (g .starts))
+
+unfoldable pub lowestLeftRecursive : Grammar → Option ℕ
+unfolding lowestFrom leftRecursive?
+lowestLeftRecursive g = lowestFrom (leftRecursive? g) 0 (length (g .starts))
 
 -- a nonterminal that was found is refused
 abbrev pub refuseAt : (ℕ → Refusal) → Option ℕ → Verdict

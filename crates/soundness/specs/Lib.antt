@@ -1,7 +1,4 @@
--- When a grammar is sound: the textbook's words, the same worked out by rounds, and the check.
-pub mod Textbook
-pub mod Closures
-pub mod Steps
+-- The check: what it answers, and what it leaves in the tables.
 pub mod Check
 pub mod Compiled
 pub mod Cases

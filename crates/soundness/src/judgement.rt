@@ -77,7 +77,7 @@ fn unproductive(tables: &[u16]) -> Verdict
     requires { ⌜ Fits (now tables) ⌝ }
     ensures { λ r. ⌜ r ≡ unproductiveOf (grammarIn (now (tables .entry))) ⌝ }
 {
-    let productive = crate::closure::derivers(tables, true);
+    let productive = closures::derivers(tables, true);
     let n = grammar::nonterminals(tables);
     lowest_missing(productive, n)
 }
@@ -89,8 +89,8 @@ fn left_recursive(tables: &[u16]) -> Verdict
 {
     let n = grammar::nonterminals(tables);
     let mut rows = [0u32; 32];
-    crate::left::corners(tables, &mut rows);
-    crate::left::reach(&mut rows, n);
+    corners::corners(tables, &mut rows);
+    corners::reach(&mut rows, n);
     lowest_own(&rows, n)
 }
 

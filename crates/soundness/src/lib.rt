@@ -1,10 +1,6 @@
 // The grammar check: refusals 1 to 5 from the bytes, 6 and 7 from the tables. A grammar that passes is sound.
-mod closure;
 mod judgement;
-mod left;
-mod rounds;
 
 pub use judgement::Verdict;
 pub use judgement::check;
 pub use judgement::compile;
-pub use left::corners;

@@ -1,7 +1,7 @@
 -- `cache::asking::step_outcome` meets its contract.
 use Rattle.cache.proofs.AskSteps.{kept-few, part-short, part-kept}
-use Rattle.cache.proofs.SlotLaws.{slot-few}
-use Rattle.cache.proofs.WordLaws.{slot-within}
+use Rattle.words.proofs.SlotLaws.{slot-few}
+use Rattle.words.proofs.WordLaws.{slot-within}
 use lib.ListN.{length}
 use native.Mathlib.Omega.{arith}
 use borrow.Author.Needs.{needs}

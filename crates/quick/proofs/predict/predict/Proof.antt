@@ -6,7 +6,7 @@ use lib.ListN.{length, drop}
 use borrow.Author.Needs.{needs}
 use Rattle.grammar.specs.Tables.{grammarIn}
 use Rattle.derivation.specs.Runs.{marked}
-use Rattle.cache.specs.Layout as layout
+use Rattle.words.specs.Layout as layout
 use Rattle.cache.specs.Recording.{learned}
 use Rattle.cache.specs.Predict.{follow}
 use Rattle.quick.proofs.PredictSteps.{Asking, asking-on, asking-beyond, asking-over, asking-none, asking-some, predict-starts, start-slots, step-slots, token-small}

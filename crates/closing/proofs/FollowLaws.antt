@@ -1,0 +1,115 @@
+-- The code's moves: productions by their words in the tables, occurrences by the codes of places.
+use mathlib.Core.Path.{_≡_, refl, sym, ap, _∙_}
+use mathlib.Core.Logic.{_⊎_, inl, inr}
+use mathlib.Core.Bool.{Bool, true, false, cond}
+use mathlib.Core.List.{List, [], _∷_, map}
+use Prim.Native.Nat.{ℕ, zero, suc, _+_, _-_, _*_, _/_, _%_, _≤_, _<_}
+use native.Mathlib.Numerals.{add-one}
+use native.Mathlib.Omega.{arith}
+use native.Mathlib.Decide.{decLe}
+use lib.Dec.{eqb}
+use lib.ListN.{length, getD, take, drop, length-take, length-map, drop-of-length-le}
+use lib.Seq.{slice, slice-cons, drop-cons}
+use borrow.Author.Tests.{ne-eqb}
+use Rattle.base.proofs.Bits.{same?, eqb-iff}
+use Rattle.grammar.specs.declared.Symbol.{Symbol}
+use Rattle.grammar.specs.declared.Symbol.the-variants.{Token, Nonterminal, End}
+use Rattle.grammar.specs.declared.Place.{Place}
+use Rattle.grammar.specs.Limits.{endPlace}
+use Rattle.grammar.specs.Grammar.{nowhere, placeAt, facing, owner}
+use Rattle.grammar.specs.Tables.{placeWords, symbolOf, placeOf, ruleAt, grammarIn, nonterminalsIn}
+use Rattle.grammar.proofs.WordLaws.{code-end, code-token, code-nonterminal, place-in, place-past}
+use Rattle.derivation.specs.Ready.{Ready}
+use Rattle.derivation.proofs.FirstLaws.{rules-are, first-in}
+use Rattle.derivation.proofs.ReadyLaws.{ready-size, ready-call}
+use Rattle.lookahead.specs.Configs.{Config, config, calls?, behindFrom, entered}
+
+-- ---- the productions of a nonterminal
+-- into the productions whose words stand from k up to e in the tables
+unfoldable pub entering : List ℕ → Config → ℕ → ℕ → List Config
+entering t c k e = map (λ (f : ℕ). config f (c .alternative) (suc (c .place) ∷ c .stack)) (slice k e t)
+
+pub entering-first : (t : List ℕ) (c : Config) (k e : ℕ) {f : ℕ} → k < e → e ≤ length t → f ≡ getD t k 0
+    → entering t c k e ≡ config f (c .alternative) (suc (c .place) ∷ c .stack) ∷ entering t c (k + 1) e
+unfolding entering
+entering-first t c k e h l q = rw (slice-cons k e t 0 h l, q, add-one)
+
+pub entering-none : (t : List ℕ) (c : Config) (k e : ℕ) → e ≤ k → entering t c k e ≡ []
+unfolding entering
+entering-none t c k e h = let z : slice k e t ≡ [] = drop-of-length-le (take e t) {i = k} (omega (arith, length-take e t)) in rw z
+
+pub entering-all : (t : List ℕ) (ready : Ready t) (a : ℕ) (h : a < nonterminalsIn t) (c : Config) {s e : ℕ} → s ≡ ruleAt t a → e ≡ ruleAt t (a + 1)
+    → entering t c s e ≡ entered (grammarIn t) c a
+unfolding entering entered
+entering-all t ready a h c p q = ap (map (λ (f : ℕ). config f (c .alternative) (suc (c .place) ∷ c .stack))) (sym (rules-are t ready a h p q))
+
+-- a first place fits a head
+pub first-small : (t : List ℕ) (ready : Ready t) (a : ℕ) (h : a < nonterminalsIn t) {s e : ℕ} → s ≡ ruleAt t a → e ≡ ruleAt t (a + 1) → (k : ℕ) {f : ℕ} → s ≤ k → k < e → f ≡ getD t k 0 → f < 512
+first-small t ready a h p q k m l d = omega (arith, first-in t ready a h p q k m l d, ready-size t ready)
+
+-- ---- occurrences
+code-calls : (a c : ℕ) → eqb c (2 * a + 2) ≡ calls? a (symbolOf c)
+code-calls a c = go (same? c 0) (same? (c % 2) 1)
+  where
+    go : (c ≡ 0) ⊎ (c ≡ 0 → ⊥) → (c % 2 ≡ 1) ⊎ (c % 2 ≡ 1 → ⊥) → eqb c (2 * a + 2) ≡ calls? a (symbolOf c)
+    go (inl z) o = rw (← code-end c z) (ne-eqb c (2 * a + 2) (λ e. omega arith))
+    go (inr n) (inl o) = rw (← code-token c n o) (ne-eqb c (2 * a + 2) (λ e. omega arith))
+    go (inr n) (inr o) = rw (← code-nonterminal c n o) (eqb-iff c (2 * a + 2) (c / 2 - 1) a (λ e. omega arith) (λ e. omega arith))
+
+pub calls-is : (t : List ℕ) (p a : ℕ) {w : ℕ} → p < 256 → w ≡ getD t p 0 → eqb (w % 256) (2 * a + 2) ≡ calls? a (facing (grammarIn t) p)
+unfolding facing placeOf
+calls-is t p a {w} h e =
+    let q : placeOf w ≡ placeAt (grammarIn t) p = place-in t p (omega arith) (ap placeOf e) in
+    code-calls a (w % 256) ∙ ap (λ (x : Place). calls? a (x .symbol)) q
+
+pub owner-small : (t : List ℕ) (p : ℕ) {a : ℕ} → a ≡ owner (grammarIn t) p → a < 64
+unfolding owner placeOf
+owner-small t p {a} e = go (decLe p endPlace)
+  where
+    go : Dec (p ≤ endPlace) → a < 64
+    go (yes h) = let q : (placeOf (getD t p 0)) .owner ≡ a = ap (λ (x : Place). x .owner) (place-in t p h refl) ∙ sym e in omega arith
+    go (no h) = let q : (placeOf 0) .owner ≡ a = ap (λ (x : Place). x .owner) (place-past t p (omega arith) refl) ∙ sym e in omega arith
+
+-- behind the occurrences of a from place p on
+unfoldable pub behinds : List ℕ → ℕ → ℕ → ℕ → List Config
+unfolding behindFrom
+behinds t b a p = map (λ (q : ℕ). config q b []) (behindFrom a p (drop p (grammarIn t .places)))
+
+pub behinds-all : (t : List ℕ) (b a : ℕ) → behinds t b a 0 ≡ map (λ (q : ℕ). config q b []) (behindFrom a 0 (grammarIn t .places))
+unfolding behinds
+behinds-all t b a = refl
+
+module _ (t : List ℕ) (ready : Ready t) (b a : ℕ) where
+  places-long : length (grammarIn t .places) ≡ placeWords
+  unfolding grammarIn
+  places-long = omega (arith, length-map (take placeWords t) placeOf, length-take placeWords t, ready .fits .long)
+
+  behind-cons : (p : ℕ) → p < placeWords → behindFrom a p (drop p (grammarIn t .places)) ≡ cond (calls? a (facing (grammarIn t) p)) (suc p ∷ behindFrom a (suc p) (drop (suc p) (grammarIn t .places))) (behindFrom a (suc p) (drop (suc p) (grammarIn t .places)))
+  unfolding behindFrom facing
+  behind-cons p h = ap (behindFrom a p) (drop-cons (grammarIn t .places) p nowhere (omega (arith, places-long)))
+
+  pub behinds-hit : (p : ℕ) {r : Bool} → p < placeWords → r ≡ calls? a (facing (grammarIn t) p) → r ≡ true → behinds t b a p ≡ config (p + 1) b [] ∷ behinds t b a (p + 1)
+  unfolding behinds
+  behinds-hit p h e f = rw (behind-cons p h, sym e ∙ f, add-one)
+
+  pub behinds-miss : (p : ℕ) {r : Bool} → p < placeWords → r ≡ calls? a (facing (grammarIn t) p) → r ≡ false → behinds t b a p ≡ behinds t b a (p + 1)
+  unfolding behinds
+  behinds-miss p h e f = rw (behind-cons p h, sym e ∙ f, add-one)
+
+  -- past the productions nothing is called
+  none-called : (p : ℕ) → grammarIn t .size ≤ p → calls? a (facing (grammarIn t) p) ≡ false
+  none-called p h = go (facing (grammarIn t) p) refl
+    where
+      go : (s : Symbol) → facing (grammarIn t) p ≡ s → calls? a s ≡ false
+      go (Token k) e = refl
+      go (Nonterminal b) e = absurd (omega (arith, ready-call t ready p b e))
+      go End e = refl
+
+  none-behind : (n p : ℕ) → p + n ≡ placeWords → grammarIn t .size ≤ p → behindFrom a p (drop p (grammarIn t .places)) ≡ []
+  unfolding behindFrom
+  none-behind zero p e h = let z : drop p (grammarIn t .places) ≡ [] = drop-of-length-le (grammarIn t .places) {i = p} (omega (arith, places-long)) in rw z
+  none-behind (suc n) p e h = rw (behind-cons p (omega arith), none-called p h) (none-behind n (suc p) (omega arith) (omega arith))
+
+  pub behinds-none : (p : ℕ) → p ≤ placeWords → grammarIn t .size ≤ p → behinds t b a p ≡ []
+  unfolding behinds
+  behinds-none p l h = rw (none-behind (placeWords - p) p (omega arith) h)

@@ -1,0 +1,28 @@
+-- `closing::worklist::calls` meets its contract.
+use borrow.Author.Needs.{needs}
+use Rattle.closing.proofs.FollowLaws.{calls-is}
+use Rattle.closing.proofs.worklist.calls.Statement.{statement}
+use Rattle.closing.proofs.worklist.calls.Tie as tie
+
+mul-index : tie.Need-mul-index
+mul-index c = search needs
+
+shared-slice-read-index : tie.Need-shared-slice-read-index
+shared-slice-read-index c = search needs
+
+index-requires : tie.Need-index-requires
+index-requires c κs = search needs
+
+mul-result : tie.Need-mul-result
+mul-result c = search needs
+
+add-result : tie.Need-add-result
+add-result c = search needs
+
+returns : tie.Need-returns
+returns c = calls-is _ _ _ (c .before .before .before .pre .1) (c .index .ensures)
+
+pub calls-spec : {M : Type 1} → statement M
+calls-spec =
+    tie.close
+    (tie.spec mul-index shared-slice-read-index index-requires mul-result add-result returns)

@@ -1,0 +1,66 @@
+-- `closures::closure::derivers` meets its contract.
+use borrow.Author.Needs.{needs}
+use mathlib.Core.Path.{sym, _∙_}
+use Rattle.grammar.specs.Tables.{grammarIn}
+use Rattle.grammar.proofs.WordLaws.{length-starts-in}
+use Rattle.closures.specs.Steps.{Derivers}
+use Rattle.closures.proofs.ClosureSteps.{derivers-none, pass-keeps, closure-exact, closure-full}
+use Rattle.closures.proofs.closure.derivers.Statement.{statement}
+use Rattle.closures.proofs.closure.derivers.Tie as tie
+
+abbrev Inv-loop : tie.InvT-loop
+Inv-loop tables tokens n all set₀ left₀ set left = Derivers tokens (grammarIn tables) set
+
+abbrev μ-loop : tie.MeasureT-loop
+μ-loop tables tokens n all set₀ left₀ set left = left
+
+nonterminals-requires : tie.Need-nonterminals-requires Inv-loop μ-loop
+nonterminals-requires c κs = search needs
+
+below-requires : tie.Need-below-requires Inv-loop μ-loop
+below-requires c κs = search needs
+
+loop-holds : tie.Need-loop-holds Inv-loop μ-loop
+loop-holds c = derivers-none _ _
+
+pass-requires : tie.Need-pass-requires Inv-loop μ-loop
+pass-requires c κs = search needs
+
+returns : tie.Need-returns Inv-loop μ-loop
+returns c = closure-exact _ _ _ _ (length-starts-in _) (c .before .before .before .loop .inv) (sym (c .if1 .taken) ∙ c .before .pass .ensures)
+
+returns-2 : tie.Need-returns-2 Inv-loop μ-loop
+returns-2 c = closure-full _ _ _ _ (length-starts-in _ ∙ sym (c .before .before .before .before .before .before .nonterminals .ensures)) (pass-keeps _ _ _ _ (c .before .before .pass .ensures) (c .before .before .before .before .loop .inv)) (c .if2 .taken ∙ c .before .before .before .before .before .below .ensures)
+
+sub-left : tie.Need-sub-left Inv-loop μ-loop
+sub-left c = search needs
+
+loop-less : tie.Need-loop-less Inv-loop μ-loop
+loop-less c = search needs
+
+loop-again : tie.Need-loop-again Inv-loop μ-loop
+loop-again c = pass-keeps _ _ _ _ (c .before .before .pass .ensures) (c .before .before .before .before .loop .inv)
+
+by-rounds-requires : tie.Need-by-rounds-requires Inv-loop μ-loop
+by-rounds-requires c κs = search needs
+
+returns-3 : tie.Need-returns-3 Inv-loop μ-loop
+returns-3 c = search needs
+
+pub derivers-spec : {M : Type 1} → statement M
+derivers-spec =
+    tie.close
+    (tie.spec
+    Inv-loop
+    μ-loop
+    nonterminals-requires
+    below-requires
+    loop-holds
+    pass-requires
+    returns
+    returns-2
+    sub-left
+    loop-less
+    loop-again
+    by-rounds-requires
+    returns-3)

@@ -1,0 +1,51 @@
+-- `closures::closure::pass` meets its contract.
+use mathlib.Core.Path.{_≡_, ap}
+use Prim.Native.Nat.{ℕ, _≤_}
+use native.Mathlib.Omega.{arith}
+use Rattle.grammar.specs.Tables.{grammarIn, nonterminalsIn}
+use Rattle.closures.specs.Steps.{passOf}
+use Rattle.closures.proofs.ClosureSteps.{pass-more, pass-done}
+use Rattle.closures.proofs.closure.pass.Statement.{statement}
+use Rattle.closures.proofs.closure.pass.Tie as tie
+
+abbrev Inv-loop : tie.InvT-loop
+Inv-loop tables tokens from set₀ a₀ set a =
+    (a ≤ nonterminalsIn tables) × (passOf tokens (grammarIn tables) a set ≡ passOf tokens (grammarIn tables) (nonterminalsIn tables) from)
+
+abbrev μ-loop : tie.MeasureT-loop
+μ-loop tables tokens from set₀ a₀ set a = a
+
+nonterminals-requires : tie.Need-nonterminals-requires Inv-loop μ-loop
+nonterminals-requires c κs = c .before .pre .long
+
+loop-holds : tie.Need-loop-holds Inv-loop μ-loop
+loop-holds c = (omega (arith, c .nonterminals .ensures), ap (λ (n : ℕ). passOf (c .before .before .args .tokens) (grammarIn (c .before .before .args .tables .now)) n (c .before .before .args .from)) (c .nonterminals .ensures))
+
+sub-a : tie.Need-sub-a Inv-loop μ-loop
+sub-a c = omega arith
+
+step-requires : tie.Need-step-requires Inv-loop μ-loop
+step-requires c κs = (c .before .before .before .before .pre, omega arith)
+
+loop-less : tie.Need-loop-less Inv-loop μ-loop
+loop-less c = omega arith
+
+loop-again : tie.Need-loop-again Inv-loop μ-loop
+loop-again c = (omega arith, pass-more _ _ _ _ (omega arith) (c .before .before .loop .inv .1) (c .step .ensures))
+
+returns : tie.Need-returns Inv-loop μ-loop
+returns c = pass-done _ _ _ _ (omega arith) (c .before .loop .inv .1)
+
+pub pass-spec : {M : Type 1} → statement M
+pass-spec =
+    tie.close
+    (tie.spec
+    Inv-loop
+    μ-loop
+    nonterminals-requires
+    loop-holds
+    sub-a
+    step-requires
+    loop-less
+    loop-again
+    returns)

@@ -1,0 +1,64 @@
+-- `closures::rounds::note_rules` meets its contract.
+use borrow.Author.Needs.{needs}
+use mathlib.Core.Path.{_≡_}
+use Prim.Native.Nat.{_-_, _≤_}
+use native.Mathlib.Omega.{arith}
+use lib.ListN.{length}
+use Rattle.grammar.specs.Tables.{nonterminalsIn}
+use Rattle.closures.specs.Steps.{rowWords, Noted}
+use Rattle.closures.proofs.NoteSteps.{noted-none}
+use Rattle.closures.proofs.rounds.note_rules.Statement.{statement}
+use Rattle.closures.proofs.rounds.note_rules.Tie as tie
+
+abbrev Inv-loop : tie.InvT-loop
+Inv-loop tables tokens from needs₀ owners₀ n count₀ a₀ needs owners count a =
+    (a ≤ n) × (n ≡ nonterminalsIn tables) × (count ≤ rowWords) × (length needs ≡ rowWords) × (length owners ≡ rowWords)
+    × Noted tokens tables from count a 0 needs owners
+
+abbrev μ-loop : tie.MeasureT-loop
+μ-loop tables tokens from needs₀ owners₀ n count₀ a₀ needs owners count a = n - a
+
+nonterminals-requires : tie.Need-nonterminals-requires Inv-loop μ-loop
+nonterminals-requires c κs = search needs
+
+loop-holds : tie.Need-loop-holds Inv-loop μ-loop
+loop-holds c = (omega arith, c .nonterminals .ensures, omega arith, c .before .before .before .before .pre .1, rw (c .before .before .before .before .pre .2), rw (c .before .before .before .before .pre .2) (noted-none _ _ _ _ _ rowWords))
+
+note-rule-requires : tie.Need-note-rule-requires Inv-loop μ-loop
+note-rule-requires c κs = search needs
+
+add-a : tie.Need-add-a Inv-loop μ-loop
+add-a c = search needs
+
+loop-less : tie.Need-loop-less Inv-loop μ-loop
+loop-less c = search needs
+
+loop-again : tie.Need-loop-again Inv-loop μ-loop
+loop-again c = (omega arith, c .before .before .before .before .before .before .before .before .loop .inv .1, c .before .before .before .before .note-rule .ensures .0, omega (arith, c .before .before .before .before .note-rule .kept .1 .1 .1 .1 .1 .0), omega (arith, c .before .before .before .before .note-rule .kept .1 .1 .1 .1 .1 .1 .0), c .before .before .before .before .note-rule .ensures .1)
+
+same-length : tie.Need-same-length Inv-loop μ-loop
+same-length c = search needs
+
+same-length-2 : tie.Need-same-length-2 Inv-loop μ-loop
+same-length-2 c = search needs
+
+returns : tie.Need-returns Inv-loop μ-loop
+returns c =
+    let e : c .before .loop .a ≡ nonterminalsIn (c .before .before .before .before .before .before .args .tables .now) = omega arith in
+    (c .before .loop .inv .2, rw (← e) (c .before .loop .inv .5))
+
+pub note-rules-spec : {M : Type 1} → statement M
+note-rules-spec =
+    tie.close
+    (tie.spec
+    Inv-loop
+    μ-loop
+    nonterminals-requires
+    loop-holds
+    note-rule-requires
+    add-a
+    loop-less
+    loop-again
+    same-length
+    same-length-2
+    returns)

@@ -1,0 +1,85 @@
+-- From one addition to a list of them, as the code's loops make them: what is left gives the same end.
+use mathlib.Core.Path.{_≡_, refl, sym, subst, ap, _∙_}
+use mathlib.Core.Option.{Option, none, some}
+use mathlib.Core.List.{List, [], _∷_, _++_}
+use Prim.Native.Nat.{ℕ}
+use Rattle.configurations.specs.declared.members.Added.{Added}
+use Rattle.configurations.specs.declared.members.Added.the-variants.{Count, Full}
+use Rattle.lookahead.specs.Configs.{Config}
+use Rattle.lookahead.specs.Closing.{add, addAll}
+use Rattle.configurations.specs.Held.{held, Room, heldAfter, RoomAfter, Grows}
+
+-- what follows an answer
+abbrev pub then : Option (List Config) → (List Config → Option (List Config)) → Option (List Config)
+then none k = none
+then (some ms) k = k ms
+
+-- ---- answers
+pub grow-room : {r : Added} {hs ss : List ℕ} {o : Option (List Config)} → Grows r hs ss o → (m : ℕ) → r ≡ Count m → Room hs ss m
+unfolding RoomAfter
+grow-room {r} {hs} {ss} g m e = subst (λ (y : Added). RoomAfter y hs ss) e (g .room)
+
+pub grow-cast : {r : Added} {hs ss : List ℕ} {o p : Option (List Config)} → o ≡ p → Grows r hs ss o → Grows r hs ss p
+grow-cast e g = record { is = g .is ∙ e; room = g .room }
+
+pub grow-count : (hs ss : List ℕ) (n : ℕ) {o : Option (List Config)} → Room hs ss n → some (held hs ss 0 n) ≡ o → Grows (Count n) hs ss o
+unfolding heldAfter RoomAfter
+grow-count hs ss n room e = record { is = e; room = room }
+
+-- the answer is taken, and k follows
+module _ {r : Added} {hs ss : List ℕ} {o : Option (List Config)} (g : Grows r hs ss o) (k : List Config → Option (List Config)) {end : Option (List Config)} (h : then o k ≡ end) where
+  pub then-on : (m : ℕ) → r ≡ Count m → k (held hs ss 0 m) ≡ end
+  unfolding heldAfter
+  then-on m e =
+      let q : some (held hs ss 0 m) ≡ o = subst (λ (y : Added). heldAfter y hs ss ≡ o) e (g .is) in
+      ap (λ (x : Option (List Config)). then x k) q ∙ h
+
+  pub then-stop : r ≡ Full → {hs′ ss′ : List ℕ} → Grows Full hs′ ss′ end
+  unfolding heldAfter RoomAfter
+  then-stop e =
+      let q : none ≡ o = subst (λ (y : Added). heldAfter y hs ss ≡ o) e (g .is) in
+      record { is = ap (λ (x : Option (List Config)). then x k) q ∙ h; room = tt }
+
+-- ---- a list of additions
+pub addAll-cons : (ms : List Config) (d : Config) (ds : List Config) → addAll ms (d ∷ ds) ≡ then (add ms d) (λ m. addAll m ds)
+unfolding addAll
+addAll-cons ms d ds = go (add ms d)
+  where
+    go : (o : Option (List Config)) → (elim o as (λ _. Option (List Config)) [ none ↦ none | some m ↦ addAll m ds ]) ≡ then o (λ m. addAll m ds)
+    go none = refl
+    go (some m) = refl
+
+pub addAll-none : (ms : List Config) → addAll ms [] ≡ some ms
+unfolding addAll
+addAll-none ms = refl
+
+pub addAll-one : (ms : List Config) (d : Config) → addAll ms (d ∷ []) ≡ add ms d
+addAll-one ms d = addAll-cons ms d [] ∙ go (add ms d)
+  where
+    go : (o : Option (List Config)) → then o (λ m. addAll m []) ≡ o
+    go none = refl
+    go (some m) = addAll-none m
+
+pub addAll-append : (ds es ms : List Config) → addAll ms (ds ++ es) ≡ then (addAll ms ds) (λ m. addAll m es)
+addAll-append [] es ms = ap (λ (o : Option (List Config)). then o (λ m. addAll m es)) (sym (addAll-none ms))
+addAll-append (d ∷ ds) es ms = addAll-cons ms d (ds ++ es) ∙ go (add ms d) (λ m. addAll-append ds es m) ∙ ap (λ (o : Option (List Config)). then o (λ m. addAll m es)) (sym (addAll-cons ms d ds))
+  where
+    go : (o : Option (List Config)) → ((m : List Config) → addAll m (ds ++ es) ≡ then (addAll m ds) (λ m. addAll m es))
+        → then o (λ m. addAll m (ds ++ es)) ≡ then (then o (λ m. addAll m ds)) (λ m. addAll m es)
+    go none rec = refl
+    go (some m) rec = rec m
+
+-- ---- a loop over configurations: those that are left give the same end
+module _ (hs ss : List ℕ) (n : ℕ) {l : List Config} {end : Option (List Config)} (h : addAll (held hs ss 0 n) l ≡ end) where
+  module _ {d : Config} {ds : List Config} (e : l ≡ d ∷ ds) {r : Added} {hs′ ss′ : List ℕ} (g : Grows r hs′ ss′ (add (held hs ss 0 n) d)) where
+    opened : then (add (held hs ss 0 n) d) (λ m. addAll m ds) ≡ end
+    opened = sym (addAll-cons (held hs ss 0 n) d ds) ∙ ap (addAll (held hs ss 0 n)) (sym e) ∙ h
+
+    pub left-on : (m : ℕ) → r ≡ Count m → addAll (held hs′ ss′ 0 m) ds ≡ end
+    left-on m q = then-on g (λ m. addAll m ds) opened m q
+
+    pub left-stop : r ≡ Full → {hs″ ss″ : List ℕ} → Grows Full hs″ ss″ end
+    left-stop q = then-stop g (λ m. addAll m ds) opened q
+
+  pub left-none : Room hs ss n → l ≡ [] → Grows (Count n) hs ss end
+  left-none room e = grow-count hs ss n room (sym (addAll-none (held hs ss 0 n)) ∙ ap (addAll (held hs ss 0 n)) (sym e) ∙ h)

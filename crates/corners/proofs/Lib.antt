@@ -1,0 +1,4 @@
+-- Laws of moves: the rounds are the textbook's, and the loops are the rounds.
+pub mod LeftRecursion
+pub mod LeftSteps
+pub mod Warshall

@@ -1,0 +1,20 @@
+-- `corners::corners` meets its contract.
+use Rattle.corners.proofs.Warshall.{corners-are}
+use borrow.Author.Needs.{needs}
+use Rattle.corners.proofs.corners.Statement.{statement}
+use Rattle.corners.proofs.corners.Tie as tie
+
+derivers-requires : tie.Need-derivers-requires
+derivers-requires c κs = search needs
+
+begin-requires : tie.Need-begin-requires
+begin-requires c κs = search needs
+
+same-length : tie.Need-same-length
+same-length c = search needs
+
+returns : tie.Need-returns
+returns c = corners-are _ _ _ _ (c .before .before .before .before .derivers .ensures) (c .before .before .begin .ensures)
+
+pub corners-spec : {M : Type 1} → statement M
+corners-spec = tie.close (tie.spec derivers-requires begin-requires same-length returns)

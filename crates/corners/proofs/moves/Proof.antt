@@ -1,0 +1,61 @@
+-- `corners::moves` meets its contract.
+use borrow.Author.Needs.{needs}
+use Prim.Native.Nat.{_-_}
+use native.Mathlib.Omega.{arith}
+use Rattle.closures.proofs.ClosureSteps.{rule-within}
+use Rattle.corners.proofs.LeftSteps.{Rest, moves-begin, moves-next, moves-done}
+use Rattle.corners.proofs.moves.Statement.{statement}
+use Rattle.corners.proofs.moves.Tie as tie
+
+abbrev Inv-loop : tie.InvT-loop
+Inv-loop tables nullable a start end set₀ k₀ set k = Rest tables nullable a end set k
+
+abbrev μ-loop : tie.MeasureT-loop
+μ-loop tables nullable a start end set₀ k₀ set k = end - k
+
+rule-at-requires : tie.Need-rule-at-requires Inv-loop μ-loop
+rule-at-requires c κs = search needs
+
+add-rule-at : tie.Need-add-rule-at Inv-loop μ-loop
+add-rule-at c = search needs
+
+rule-at-requires-2 : tie.Need-rule-at-requires-2 Inv-loop μ-loop
+rule-at-requires-2 c κs = search needs
+
+loop-holds : tie.Need-loop-holds Inv-loop μ-loop
+loop-holds c = moves-begin _ _ _ _ (c .before .before .before .pre .1) (c .before .rule-at .ensures) (c .rule-at2 .ensures)
+
+first-place-requires : tie.Need-first-place-requires Inv-loop μ-loop
+first-place-requires c κs = let h = rule-within _ (c .before .before .before .before .before .pre .0) _ (c .before .before .before .before .before .pre .1) (c .before .before .rule-at2 .ensures) in omega (arith, c .before .before .before .before .before .pre .0 .long)
+
+left-from-requires : tie.Need-left-from-requires Inv-loop μ-loop
+left-from-requires c κs = search needs
+
+add-k : tie.Need-add-k Inv-loop μ-loop
+add-k c = search needs
+
+loop-less : tie.Need-loop-less Inv-loop μ-loop
+loop-less c = search needs
+
+loop-again : tie.Need-loop-again Inv-loop μ-loop
+loop-again c = moves-next (c .before .before .before .before .before .before .before .args .tables .now) (c .before .before .before .before .before .before .before .args .nullable) (c .before .before .before .before .before .before .before .args .a) (c .before .before .before .before .rule-at2 .result) (c .before .before .before .loop .set) (c .before .before .before .loop .k) (c .before .before .before .loop .inv) _ _ (omega arith) (let h = rule-within _ (c .before .before .before .before .before .before .before .pre .0) _ (c .before .before .before .before .before .before .before .pre .1) (c .before .before .before .before .rule-at2 .ensures) in omega (arith, c .before .before .before .before .before .before .before .pre .0 .long)) (c .before .first-place .ensures) (c .left-from .ensures)
+
+returns : tie.Need-returns Inv-loop μ-loop
+returns c = moves-done (c .before .before .before .before .before .args .tables .now) (c .before .before .before .before .before .args .nullable) (c .before .before .before .before .before .args .a) (c .before .before .rule-at2 .result) (c .before .loop .set) (c .before .loop .k) (c .before .loop .inv) (omega arith)
+
+pub moves-spec : {M : Type 1} → statement M
+moves-spec =
+    tie.close
+    (tie.spec
+    Inv-loop
+    μ-loop
+    rule-at-requires
+    add-rule-at
+    rule-at-requires-2
+    loop-holds
+    first-place-requires
+    left-from-requires
+    add-k
+    loop-less
+    loop-again
+    returns)

@@ -1,0 +1,3 @@
+-- Where moves lead, worked out by rounds.
+pub mod Corners
+pub mod Steps

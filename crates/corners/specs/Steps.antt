@@ -1,0 +1,44 @@
+-- What the loops of the code do, turn by turn. Internal: proofs/ says that the ends are those of Corners.
+use mathlib.Core.Path.{_≡_}
+use mathlib.Core.Bool.{cond, _||_}
+use mathlib.Core.List.{List}
+use Prim.Native.Nat.{ℕ, zero, suc, _<_}
+use lib.ListN.{getD, set}
+use lib.Bits.{bitOr}
+use lib.Dec.{eqb}
+use Rattle.base.specs.Bits.{testBit}
+use Rattle.base.specs.Rounds.{anyOf}
+use Rattle.grammar.specs.declared.Symbol.{Symbol}
+use Rattle.grammar.specs.Grammar.{Grammar, alternatives, suffix}
+use Rattle.corners.specs.Corners.{leads}
+
+-- r is x with what stands in the list behind only members of `nullable`
+unfoldable pub Leads : ℕ → ℕ → List Symbol → ℕ → Type 0
+Leads nullable x l r = (c : ℕ) → testBit r c ≡ (testBit x c || leads (testBit nullable) c l)
+
+-- r is the set of where one move leads from a
+unfoldable pub Moves : ℕ → Grammar → ℕ → ℕ → Type 0
+Moves nullable g a r = (c : ℕ) → testBit r c ≡ anyOf (λ f. leads (testBit nullable) c (suffix g f)) (alternatives g a)
+
+-- a row of such sets, one for each nonterminal below n
+unfoldable pub Rows : ℕ → Grammar → ℕ → List ℕ → Type 0
+unfolding Moves
+Rows nullable g n rows = (a : ℕ) → a < n → Moves nullable g a (getD rows a 0)
+
+-- row a is joined by `row`, which is that of b, if it holds b
+unfoldable pub joinOf : ℕ → ℕ → ℕ → List ℕ → List ℕ
+joinOf row b a rows = cond (testBit (getD rows a 0) b) (set rows a (bitOr (getD rows a 0) row)) rows
+
+-- so are the rows below a
+unfoldable pub throughOf : ℕ → ℕ → ℕ → List ℕ → List ℕ
+throughOf row b zero rows = rows
+throughOf row b (suc a) rows = joinOf row b a (throughOf row b a rows)
+
+-- of n rows, through b; an empty row joins nothing
+unfoldable pub pivotOf : ℕ → ℕ → List ℕ → List ℕ
+pivotOf n b rows = cond (eqb (getD rows b 0) 0) rows (throughOf (getD rows b 0) b n rows)
+
+-- through each nonterminal below b, in turn
+unfoldable pub reachOf : ℕ → ℕ → List ℕ → List ℕ
+reachOf n zero rows = rows
+reachOf n (suc b) rows = pivotOf n b (reachOf n b rows)

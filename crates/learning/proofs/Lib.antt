@@ -1,0 +1,3 @@
+-- Laws on the rules and the outcomes as the code works them out, one subject a file.
+pub mod JudgeLaws
+pub mod LearnLaws

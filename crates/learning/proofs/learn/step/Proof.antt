@@ -1,0 +1,55 @@
+-- `learning::learn::step` meets its contract.
+use borrow.Author.Needs.{needs}
+use Rattle.learning.proofs.LearnLaws.{step-full, step-on}
+use Rattle.configurations.proofs.GrowSteps.{grow-room}
+use Rattle.learning.proofs.learn.step.Statement.{statement}
+use Rattle.learning.proofs.learn.step.Tie as tie
+
+slice-aggregate-advance : tie.Need-slice-aggregate-advance
+slice-aggregate-advance c = search needs
+
+slice-aggregate-advance-2 : tie.Need-slice-aggregate-advance-2
+slice-aggregate-advance-2 c = search needs
+
+advance-requires : tie.Need-advance-requires
+advance-requires c κs = search needs
+
+enum-known-n : tie.Need-enum-known-n
+enum-known-n c = search needs
+
+enum-told : tie.Need-enum-told
+enum-told c = search needs
+
+returns : tie.Need-returns
+returns c = step-full _ _ _ (c .before .before .before .before .advance .ensures) (c .enum-told .given .1) _
+
+slice-aggregate-finish : tie.Need-slice-aggregate-finish
+slice-aggregate-finish c = search needs
+
+slice-aggregate-finish-2 : tie.Need-slice-aggregate-finish-2
+slice-aggregate-finish-2 c = search needs
+
+finish-requires : tie.Need-finish-requires
+finish-requires c κs = (c .before .before .before .before .before .before .before .before .before .before .before .before .before .before .pre .0, grow-room (c .before .before .before .before .before .before .before .before .advance .ensures) _ (c .before .before .before .before .n .given .1), c .before .before .before .before .before .before .before .before .before .before .before .before .before .before .pre .2)
+
+same-length : tie.Need-same-length
+same-length c = search needs
+
+returns-2 : tie.Need-returns-2
+returns-2 c = step-on _ _ _ (c .before .before .before .before .before .before .before .before .before .before .before .before .before .advance .ensures) _ (c .before .before .before .before .before .before .before .before .before .n .given .1) _ _ (c .before .before .before .before .finish .ensures)
+
+pub step-spec : {M : Type 1} → statement M
+step-spec =
+    tie.close
+    (tie.spec
+    slice-aggregate-advance
+    slice-aggregate-advance-2
+    advance-requires
+    enum-known-n
+    enum-told
+    returns
+    slice-aggregate-finish
+    slice-aggregate-finish-2
+    finish-requires
+    same-length
+    returns-2)

@@ -1,0 +1,55 @@
+-- `learning::rules::agreed` meets its contract.
+use mathlib.Core.Path.{_≡_, refl}
+use Prim.Native.Nat.{_-_, _≤_}
+use native.Mathlib.Omega.{arith}
+use borrow.Author.Needs.{needs}
+use Rattle.configurations.specs.Held.{held}
+use Rattle.lookahead.specs.Outcomes.{agreed}
+use Rattle.learning.proofs.JudgeLaws.{agreed-not, agreed-next, agreed-end}
+use Rattle.learning.proofs.rules.agreed.Statement.{statement}
+use Rattle.learning.proofs.rules.agreed.Tie as tie
+
+abbrev Inv-loop : tie.InvT-loop
+Inv-loop heads stacks from n b k₀ k = (k ≤ n) × (agreed b (held heads stacks k (n - k)) ≡ agreed b (held heads stacks from (n - from)))
+
+abbrev μ-loop : tie.MeasureT-loop
+μ-loop heads stacks from n b k₀ k = n - k
+
+loop-holds : tie.Need-loop-holds Inv-loop μ-loop
+loop-holds c = (omega arith, refl)
+
+member-requires : tie.Need-member-requires Inv-loop μ-loop
+member-requires c κs = search needs
+
+alternative-requires : tie.Need-alternative-requires Inv-loop μ-loop
+alternative-requires c κs = search needs
+
+returns : tie.Need-returns Inv-loop μ-loop
+returns c = agreed-not _ _ _ _ _ (c .before .before .before .before .loop .inv .1) (c .before .before .before .loop-test .taken) (c .before .before .member .ensures .0) (c .before .before .member .ensures .1) (c .before .alternative .ensures) (omega arith)
+
+add-k : tie.Need-add-k Inv-loop μ-loop
+add-k c = search needs
+
+loop-less : tie.Need-loop-less Inv-loop μ-loop
+loop-less c = search needs
+
+loop-again : tie.Need-loop-again Inv-loop μ-loop
+loop-again c = (omega arith, agreed-next _ _ _ _ _ (c .before .before .before .before .loop .inv .1) (c .before .before .before .loop-test .taken) (c .before .before .member .ensures .0) (c .before .before .member .ensures .1) (c .before .alternative .ensures) (omega arith))
+
+returns-2 : tie.Need-returns-2 Inv-loop μ-loop
+returns-2 c = agreed-end _ _ _ _ _ (c .before .loop .inv .1) (omega arith)
+
+pub agreed-spec : {M : Type 1} → statement M
+agreed-spec =
+    tie.close
+    (tie.spec
+    Inv-loop
+    μ-loop
+    loop-holds
+    member-requires
+    alternative-requires
+    returns
+    add-k
+    loop-less
+    loop-again
+    returns-2)

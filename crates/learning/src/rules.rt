@@ -1,0 +1,110 @@
+// Rules 2 to 5 on the kept configurations, which stand from `first` on up to n.
+ghost use mathlib.Core.Path.{_≡_};
+ghost use mathlib.Core.Bool.{not};
+ghost use Prim.Native.Nat.{_-_, _≤_};
+ghost use Rattle.base.specs.Rounds.{anyOf};
+ghost use Rattle.configurations.specs.Packing.{unpack};
+ghost use Rattle.lookahead.specs.Outcomes.{rivals, agreed, shared, settled, judged};
+ghost use Rattle.configurations.specs.Held.{held, Room};
+ghost use Rattle.learning.specs.Told.{Judges};
+use configurations::Config;
+
+// FULL, an alternative, or a state with that many configurations.
+pub enum Outcome {
+    Full,
+    Alternative(u32),
+    State(usize),
+}
+
+// Whether all from `from` on have alternative b.
+fn agreed(heads: &[u32], stacks: &[u64], from: usize, n: usize, b: u32) -> bool
+    requires { ⌜ Room (now heads) (now stacks) n × (from ≤ n) ⌝ }
+    ensures { λ r. ⌜ r ≡ agreed b (held (now (heads .entry)) (now (stacks .entry)) from (n - from)) ⌝ }
+{
+    let mut k = from;
+    while k < n {
+        let c = configurations::member(heads, stacks, k);
+        if c.alternative() != b {
+            return false;
+        }
+        k += 1;
+    }
+    true
+}
+
+// Whether two alternatives share a place and a stack. The search ends at the first such pair.
+fn shared(heads: &[u32], stacks: &[u64], first: usize, n: usize) -> bool
+    requires { ⌜ Room (now heads) (now stacks) n × (first ≤ n) ⌝ }
+    ensures { λ r. ⌜ r ≡ shared (held (now (heads .entry)) (now (stacks .entry)) first (n - first)) ⌝ }
+{
+    let mut found = false;
+    let mut i = first;
+    'search: while i < n {
+        let c = configurations::member(heads, stacks, i);
+        i += 1;
+        let mut j = i;
+        while j < n {
+            let d = configurations::member(heads, stacks, j);
+            if c.conflicts(d) {
+                found = true;
+                break 'search;
+            }
+            j += 1;
+        }
+    }
+    found
+}
+
+// Whether no other alternative stands at the place of c.
+fn alone(heads: &[u32], stacks: &[u64], first: usize, n: usize, c: Config) -> bool
+    requires { ⌜ Room (now heads) (now stacks) n × (first ≤ n) ⌝ }
+    ensures { λ r. ⌜ r ≡ not (anyOf (rivals (unpack (c .head) (c .stack))) (held (now (heads .entry)) (now (stacks .entry)) first (n - first))) ⌝ }
+{
+    let mut k = first;
+    while k < n {
+        let d = configurations::member(heads, stacks, k);
+        if c.rivals(d) {
+            return false;
+        }
+        k += 1;
+    }
+    true
+}
+
+// Whether some place belongs to one alternative only.
+fn settled(heads: &[u32], stacks: &[u64], first: usize, n: usize) -> bool
+    requires { ⌜ Room (now heads) (now stacks) n × (first ≤ n) ⌝ }
+    ensures { λ r. ⌜ r ≡ settled (held (now (heads .entry)) (now (stacks .entry)) first (n - first)) ⌝ }
+{
+    let mut k = first;
+    while k < n {
+        let c = configurations::member(heads, stacks, k);
+        if alone(heads, stacks, first, n, c) {
+            return true;
+        }
+        k += 1;
+    }
+    false
+}
+
+// Rules 2 to 5, in order.
+pub fn judge(heads: &[u32], stacks: &[u64], first: usize, n: usize) -> Outcome
+    requires { ⌜ Room (now heads) (now stacks) n × (first ≤ n) ⌝ }
+    ensures { λ r. ⌜ Judges r (held (now (heads .entry)) (now (stacks .entry)) first (n - first)) (judged (held (now (heads .entry)) (now (stacks .entry)) first (n - first))) ⌝ }
+{
+    if first == n {
+        return Outcome::Full;
+    }
+    let c = configurations::member(heads, stacks, first);
+    let b = c.alternative();
+    if agreed(heads, stacks, first + 1, n, b) {
+        return Outcome::Alternative(b);
+    }
+    if !shared(heads, stacks, first, n) {
+        return Outcome::State(n - first);
+    }
+    if settled(heads, stacks, first, n) {
+        return Outcome::State(n - first);
+    }
+    Outcome::Full
+}

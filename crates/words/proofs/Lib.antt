@@ -1,0 +1,7 @@
+-- Laws on the cache's words, one subject a file.
+pub mod WordLaws
+pub mod ByteLaws
+pub mod PackSteps
+pub mod SizeLaws
+pub mod BeginSteps
+pub mod SlotLaws
