@@ -15,3 +15,4 @@ pub mod FollowLaws
 pub mod PredictLaws
 pub mod StateSteps
 pub mod AskSteps
+pub mod PredictSteps

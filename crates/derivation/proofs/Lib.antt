@@ -32,3 +32,5 @@ pub mod MachineDepth
 pub mod ReadyLaws
 pub mod FirstLaws
 pub mod MarkedCells
+pub mod TokenLaws
+pub mod CountLaws
