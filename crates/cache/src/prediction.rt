@@ -24,10 +24,8 @@ pub struct Prediction {
 // What is predicted of nonterminal a at position i. What had to be worked out is recorded.
 pub fn predict(tables: &[u16], note: &[u16], cache: &mut [u32], a: usize, i: usize) -> Prediction
     requires { ⌜ Predictable (now tables) (now note) (now cache) a i ⌝ }
-    ensures {
-        λ r. ⌜ predicted (r .forecast) (now (cache .exit))
-            ≡ predict (grammarIn (now (tables .entry))) (now (cache .entry)) a (drop i (marked (now (note .entry)))) ⌝
-    }
+    ensures { λ r. ⌜ predicted (r .forecast) (now (cache .exit))
+        ≡ predict (grammarIn (now (tables .entry))) (now (cache .entry)) a (drop i (marked (now (note .entry)))) ⌝ }
 {
     let n = note.len();
     let slots = words::slots::slots(cache.len());
