@@ -37,3 +37,5 @@ pub mod MachineDepth
 pub mod ReadyLaws
 pub mod FirstLaws
 pub mod MarkedCells
+pub mod TokenLaws
+pub mod CountLaws

@@ -1,9 +1,9 @@
--- `plain::machine::token_at` meets its contract.
+-- `derivation::token_at` meets its contract: behind the last token of a note stands the end mark, before it the tokens stand as in the note.
 use native.Mathlib.Omega.{arith}
 use borrow.Author.Needs.{needs}
-use Rattle.plain.proofs.CallLaws.{token-mark, token-note}
-use Rattle.plain.proofs.machine.token_at.Statement.{statement}
-use Rattle.plain.proofs.machine.token_at.Tie as tie
+use Rattle.derivation.proofs.TokenLaws.{token-mark, token-note}
+use Rattle.derivation.proofs.token_at.Statement.{statement}
+use Rattle.derivation.proofs.token_at.Tie as tie
 
 returns : tie.Need-returns
 returns c = let a = c .before .before .args in token-mark (a .note .now) (a .i) (c .if1 .taken)
