@@ -17,8 +17,10 @@ use Rattle.derivation.specs.Runs.{Opens}
 use Rattle.derivation.specs.Machine.{Choice, choice, Serves, lowest, plainly}
 use Rattle.derivation.specs.Choosers.{names, thence, Served, AnyState, Keeps, Repeats, Alike}
 use Rattle.derivation.proofs.LowestLaws.{lowest-serves, first-lt}
-use Rattle.cache.specs.Coherent.{Decides}
-use Rattle.adaptive.specs.Predictor.{Forecast, Alternative, Full, Predicted, predicted, Predicts, FullOr, Predictor}
+use Rattle.cache.specs.Predictor.{Decides}
+use Rattle.cache.specs.declared.prediction.Forecast.{Forecast}
+use Rattle.cache.specs.declared.prediction.Forecast.the-variants.{Alternative, Full}
+use Rattle.cache.specs.Predictor.{Predicted, predicted, Predicts, FullOr, Predictor}
 use Rattle.adaptive.specs.Chooser.{settle, guided}
 
 -- ---- single choices

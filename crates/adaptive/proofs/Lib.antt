@@ -2,3 +2,6 @@
 pub mod Standing
 pub mod ChoiceLaws
 pub mod NoteLaws
+pub mod QuickLaws
+pub mod Demand3Laws
+pub mod EffectLaws

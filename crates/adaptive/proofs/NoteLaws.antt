@@ -11,7 +11,7 @@ use Rattle.grammar.specs.Grammar.{Grammar}
 use Rattle.grammar.specs.Ordered.{Ordered}
 use Rattle.derivation.specs.Runs.{marked}
 use Rattle.derivation.specs.Machine.{plainly, Outcome, accepted, stuck, full, Ended, ended, reading}
-use Rattle.derivation.specs.Choosers.{AnyState, Later, Right, Repeats}
+use Rattle.derivation.specs.Choosers.{AnyState, Later, Repeats}
 use Rattle.derivation.specs.Viable.{Sentence}
 use Rattle.derivation.specs.ReachRounds.{wrongPlace}
 use Rattle.derivation.specs.Plain.{clear, sentence?, onOutcome, readNote}
@@ -20,10 +20,11 @@ use Rattle.derivation.proofs.LockStep.{call-same}
 use Rattle.derivation.proofs.LowestLaws.{lowest-right}
 use Rattle.derivation.proofs.ReadingLaws.{sentence-serves, reading-sound}
 use Rattle.derivation.proofs.SentenceTest.{sentence-iff}
-use Rattle.adaptive.specs.Predictor.{Predicts, Predictor}
+use Rattle.cache.specs.Predictor.{Predicts, Predictor}
+use Rattle.cache.proofs.PredictorLaws.{Stands as Asks}
 use Rattle.adaptive.specs.Chooser.{guided}
 use Rattle.adaptive.proofs.ChoiceLaws.{guided-keeps, guided-repeats, guided-lowest}
-use Rattle.adaptive.proofs.Standing.{Stands, Waits, Asks, standing, first-waits, waits-asks}
+use Rattle.adaptive.proofs.Standing.{Stands, Waits, standing, first-waits, waits-asks}
 
 -- a note that is no sentence is refused with 10 by any reading that accepts sentences alone
 no-sentence : (g : Grammar) → Ordered g → (v row : List ℕ) (o : Outcome) → sentence? g v ≡ false → ((d : List ℕ) → o ≡ accepted d → Sentence g v)
@@ -40,16 +41,12 @@ module _ {C : Type 0} (Coherent : C → Type 0) (Extends : C → C → Type 0) (
   abbrev read : ℕ → C → Ended C
   read room c = reading g (marked v) (guided g (marked v) predict) room c
 
-  -- the plain chooser is right wherever it is asked
-  plain-right : Right AnyState (plainly g (marked v)) g (marked v) (Waits g)
-  plain-right = let r = lowest-right g (marked v) in record { keeps = r .keeps; serves = λ c S a i b h _ x. r .serves c S a i b h tt x }
-
   -- a sentence is read as the plain reading reads it
   read-same : (room : ℕ) (c : C) → Sentence g v → Coherent c → (read room c) .outcome ≡ (reading g (marked v) (plainly g (marked v)) room tt) .outcome
   unfolding reading
   read-same room c h j =
       call-same Coherent AnyState g (marked v) (Stands g) (Waits g) (standing g ordered) (guided g (marked v) predict) (plainly g (marked v))
-      (guided-keeps Coherent Extends g (marked v) (Asks g (marked v)) predict predictor) plain-right
+      (guided-keeps Coherent Extends g (marked v) (Asks g (marked v)) predict predictor) (lowest-right g (marked v) (Waits g))
       (guided-lowest Coherent Extends g (marked v) (Asks g (marked v)) predict predictor (Waits g) (waits-asks g ordered (marked v)))
       (suc (2 * room + length (marked v))) (endPlace ∷ []) 0 0 room c tt j tt (first-waits g ordered)
       (sentence-serves g (ordered .end-mark) (ordered .end-past) v h)

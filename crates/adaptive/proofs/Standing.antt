@@ -14,6 +14,7 @@ use Rattle.grammar.specs.Ordered.{Ordered}
 use Rattle.derivation.specs.Runs.{Run, Opens}
 use Rattle.derivation.specs.Choosers.{Ground}
 use Rattle.derivation.proofs.RunLaws.{run-le}
+use Rattle.cache.proofs.PredictorLaws.{Stands as Asks}
 use Rattle.lookahead.proofs.Following.{Valid, last, valid-below, valid-token, valid-call}
 
 -- ---- the end place lies under everything until the end mark is read
@@ -33,10 +34,6 @@ Stands g S i = Valid g S × Rests S
 -- nonterminal a waits over a stack
 abbrev pub Waits : Grammar → List ℕ → ℕ → ℕ → Type 0
 Waits g S a i = ((b f : ℕ) → first g a b ≡ some f → Valid g (f ∷ S)) × Based S
-
--- a predictor is asked over an open stack with a token left
-abbrev pub Asks : Grammar → List ℕ → List ℕ → ℕ → Type 0
-Asks g w S i = (i < length w) × Valid g S
 
 module _ (g : Grammar) (ordered : Ordered g) where
   rests-end : (p : ℕ) (S : List ℕ) → facing g p ≡ End → Rests (p ∷ S) → Rests S
@@ -75,5 +72,6 @@ module _ (g : Grammar) (ordered : Ordered g) where
   based-left (Run.expand f d x) floor = let h = ordered .end-mark in clash (cc)
   based-left (Run.expand f d x) (on h) = based-left x (on (on h))
 
+  -- and a predictor may be asked
   pub waits-asks : (w S : List ℕ) (a i b f : ℕ) → Waits g S a i → first g a b ≡ some f → Opens g w (f ∷ S) i → Asks g w (f ∷ S) i
-  waits-asks w S a i b f y q o = (based-left (o .1) (on (y .1)), y .0 b f q)
+  waits-asks w S a i b f y q o = (y .0 b f q, based-left (o .1) (on (y .1)))

@@ -8,8 +8,9 @@ use lib.Dec.{ltb}
 use lib.ListN.{length, drop}
 use Rattle.grammar.specs.Grammar.{Grammar, alternatives}
 use Rattle.derivation.specs.Machine.{Choice, choice, Chooser, lowest}
-use Rattle.adaptive.specs.Predictor.{Alternative, Full, Predicted, Predicts}
-use Rattle.adaptive.specs.CachePredictor.{predict}
+use Rattle.cache.specs.declared.prediction.Forecast.the-variants.{Alternative, Full}
+use Rattle.cache.specs.Predictor.{Predicted, Predicts}
+use Rattle.cache.specs.Predict.{predict}
 
 -- what was predicted of nonterminal a over the stack S that stays open, at position i of the marked note w
 unfoldable pub settle : {C : Type 0} → Grammar → List ℕ → List ℕ → ℕ → ℕ → Predicted C → Choice C

@@ -1,6 +1,4 @@
 -- The adaptive reading as a definition: the one machine with a chooser that predicts, its refusals, and demand 3.
-pub mod Predictor
-pub mod CachePredictor
 pub mod Chooser
 pub mod Quick
 pub mod Demand3

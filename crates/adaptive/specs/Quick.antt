@@ -10,9 +10,9 @@ use Rattle.derivation.specs.Runs.{marked}
 use Rattle.derivation.specs.Machine.{Ended, reading}
 use Rattle.derivation.specs.Gate.{atGate, gate}
 use Rattle.derivation.specs.Plain.{Answer, refuse, onOutcome}
-use Rattle.cache.specs.Layout.{minWords}
-use Rattle.cache.specs.Begin.{begun?}
-use Rattle.adaptive.specs.CachePredictor.{predict}
+use Rattle.words.specs.Layout.{minWords}
+use Rattle.words.specs.Begin.{begun?}
+use Rattle.cache.specs.Predict.{predict}
 use Rattle.adaptive.specs.Chooser.{guided, adaptively}
 
 -- an answer with its row, and the cache's words after it

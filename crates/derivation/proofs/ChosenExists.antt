@@ -140,7 +140,7 @@ module _ (g : Grammar) (ordered : Ordered g) (w : List ℕ) (n : ℕ) (reads : R
       → ((c : ℕ) → Serves g (marked w) (endPlace ∷ []) 0 0 c → b ≤ c) → Some
   enough b f h room k r q z l e x least =
       ending b f k room e least
-      (run-live AnyState g (marked w) Anywhere Anyone (anywhere g) (plainly g (marked w)) (lowest-right g (marked w)) k (f ∷ endPlace ∷ []) 0 room tt
+      (run-live AnyState g (marked w) Anywhere Anyone (anywhere g) (plainly g (marked w)) (lowest-right g (marked w) Anyone) k (f ∷ endPlace ∷ []) 0 room tt
       (omega arith)
       tt tt (r, x))
       (rw z (roomy (h + 1) h k 0 b f (omega arith) e refl))

@@ -66,7 +66,7 @@ module _ (s : List ℕ) (r : Rules) (m : Mark) (e : decode s ≡ got r m) (v : c
       go stuck q =
           wrong (wrongPlace g w)
           (goes-wrong w (λ x. reading-live g (ordered .end-mark) (ordered .end-past) w (plainly g (marked w)) AnyState Anywhere Anyone (anywhere g)
-          (lowest-right g (marked w)) tt (length row) tt tt x q))
+          (lowest-right g (marked w) Anyone) tt (length row) tt tt x q))
       go full q = by-test q (sentence? g w) refl
 
   -- DEMAND 2
