@@ -13,7 +13,7 @@ use lib.Count.{trailingZeros, under}
 use lib.Pow.{pow-pos, pow-lt, pow-mono, pow-add, shl-exact, shl-shr, shr-shr}
 use lib.Arith.{digits-mod}
 use borrow.Author.Tests.{eqb-true, eqb-false, eq-eqb, ne-eqb}
-use Rattle.base.specs.Bits.{bit, testBit, setBit, isSubset}
+use Rattle.base.specs.Bits.{wordBits, bit, testBit, setBit, isSubset}
 use Rattle.base.proofs.Booleans.{clash, same, and-T, T-and, or-T, T-or-l, T-or-r, T→true}
 
 pub same? : (a b : ℕ) → (a ≡ b) ⊎ (a ≡ b → ⊥)
@@ -106,10 +106,10 @@ test-below n k l = eq-eqb (bit (2 ^ n - 1) k) 1 (omega (arith, one, bit-pow-same
     one : min (bit (2 ^ k) k) (bit (2 ^ n - 1) k) ≡ bit (2 ^ k) k
     one = sym (bit-and (2 ^ k) (2 ^ n - 1) k) ∙ ap (λ (x : ℕ). bit x k) (and-mask (2 ^ k) n ∙ mod-eq-of-lt (pow-lt l))
 
--- a word has no member from 32 on
-pub test-high : (x k : ℕ) → x < 2 ^ 32 → 32 ≤ k → testBit x k ≡ false
+-- a word has no member from wordBits on
+pub test-high : (x k : ℕ) → x < 2 ^ wordBits → wordBits ≤ k → testBit x k ≡ false
 unfolding testBit
-test-high x k h l = rw (bit-high 32 x k h l)
+test-high x k h l = rw (bit-high wordBits x k h l)
 
 -- joining only adds
 pub or-ge : (x y : ℕ) → x ≤ bitOr x y
@@ -119,9 +119,9 @@ pub set-ge : (x j : ℕ) → x ≤ setBit x j
 unfolding setBit
 set-ge x j = or-ge x (2 ^ j)
 
-pub set-fits : (x j : ℕ) → x < 2 ^ 32 → j < 32 → setBit x j < 2 ^ 32
+pub set-fits : (x j : ℕ) → x < 2 ^ wordBits → j < wordBits → setBit x j < 2 ^ wordBits
 unfolding setBit
-set-fits x j h l = or-lt 32 x (2 ^ j) h (pow-lt l)
+set-fits x j h l = or-lt wordBits x (2 ^ j) h (pow-lt l)
 
 pub or-ge-r : (x y : ℕ) → y ≤ bitOr x y
 or-ge-r x y = omega (arith, or-add-and x y, and-le-l x y)
@@ -237,11 +237,11 @@ differ-one zero h = (omega arith, refl)
 differ-one (suc zero) h = (omega arith, refl)
 differ-one (suc (suc a)) h = absurd (omega arith)
 
-pub test-opposite : (x k : ℕ) → k < 32 → testBit (bitXor x (2 ^ 32 - 1)) k ≡ not (testBit x k)
+pub test-opposite : (x k : ℕ) → k < wordBits → testBit (bitXor x (2 ^ wordBits - 1)) k ≡ not (testBit x k)
 unfolding testBit bit
 test-opposite x k l =
-    let b : bit (2 ^ 32 - 1) k ≡ 1 = eqb-true (bit (2 ^ 32 - 1) k) 1 (test-below 32 k l) in
+    let b : bit (2 ^ wordBits - 1) k ≡ 1 = eqb-true (bit (2 ^ wordBits - 1) k) 1 (test-below wordBits k l) in
     let d : (differ (bit x k) 1 < 2) × (eqb (differ (bit x k) 1) 1 ≡ not (eqb (bit x k) 1)) = differ-one (bit x k) (bit-lt x k) in
-    let e : bit (bitXor x (2 ^ 32 - 1)) k ≡ differ (bit x k) 1
+    let e : bit (bitXor x (2 ^ wordBits - 1)) k ≡ differ (bit x k) 1
     = rw (xor-shr, xor-step, b) (digits-mod _ (d .0)) in
     ap (λ (y : ℕ). eqb y 1) e ∙ d .1

@@ -12,10 +12,10 @@ ghost use Rattle.closures.specs.Steps.{Derivers, DerivingIs, NeedIs, Not
 
 // Rows have a word for each production, at its place in the tables counted from grammar::FIRSTS; so long are the tables from there on. specs/Steps has
 // the same.
-const ROW_WORDS: usize = 291;
+const ROW_WORDS: usize = grammar::TABLE_WORDS - grammar::FIRSTS;
 
-// The set of all 32 nonterminals.
-const ALL: u32 = 4294967295;
+// The set of all nonterminals that there can be.
+const ALL: u32 = u32::MAX;
 
 // The nonterminals that a set must hold for every symbol from place `first` on to pass. If a token does not pass, no set will do: then ALL, since a set
 // that holds even the owner cannot gain it.

@@ -92,7 +92,7 @@ unfolding padded
 own-padded n c b f q =
     own-all 0 n [] (replicate (maxPlaces - length (layAll 0 n)) nowhere ++ (at nobody (Token endMark) ∷ [])) 0 refl c b f q ∙ zero-add c
 
--- ---- the end place is behind at most 255 places
+-- ---- the end place is behind all places
 module _ (l : List Place) (fits : length l ≤ maxPlaces) where
   abbrev pad : List Place
   pad = replicate (maxPlaces - length l) nowhere

@@ -7,6 +7,7 @@ use Prim.Native.Nat.{ℕ, zero, suc, _+_, _*_, _/_, _^_, _≤_, _<_}
 use native.Mathlib.Omega.{arith}
 use lib.ListN.{length, getD, set, length-set}
 use lib.Seq.{sets, length-sets, getD-set-same, getD-set-other}
+use Rattle.base.specs.Bits.{wordBits}
 use Rattle.positions.specs.Positions.{positionCount, setWords, five, member, unionOf}
 use Rattle.positions.specs.Words.{memberAt, setAt, putAt, total, Joined}
 use Rattle.positions.proofs.SetLaws.{Fit, fit-store, member-union}
@@ -43,7 +44,7 @@ length-at ws at = refl
 
 pub member-set : (ws : List ℕ) (at j : ℕ) → j < positionCount → member (setAt ws at) j ≡ memberAt ws at j
 unfolding member memberAt
-member-set ws at j h = rw (set-word ws at (j / 32) (omega arith))
+member-set ws at j h = rw (set-word ws at (j / wordBits) (omega arith))
 
 -- ---- a set that is put
 five-word : (s : List ℕ) (i : ℕ) → i < setWords → getD (five s) i 0 ≡ getD s i 0
@@ -64,13 +65,13 @@ put-word ws at k s h = sets-out ws at (five s) k h
 
 pub put-same : (ws : List ℕ) (at : ℕ) (s : List ℕ) (j : ℕ) → at + setWords ≤ length ws → j < positionCount → memberAt (putAt ws at s) at j ≡ member s j
 unfolding memberAt putAt member
-put-same ws at s j h l = rw (sets-in ws at (five s) (j / 32) h (omega arith), five-word s (j / 32) (omega arith))
+put-same ws at s j h l = rw (sets-in ws at (five s) (j / wordBits) h (omega arith), five-word s (j / wordBits) (omega arith))
 
 pub put-other : (ws : List ℕ) (at at′ : ℕ) (s : List ℕ) (j : ℕ) → j < positionCount → (at′ + setWords ≤ at) ⊎ (at + setWords ≤ at′) → memberAt (putAt ws at s) at′ j ≡ memberAt ws at′ j
 unfolding memberAt
-put-other ws at at′ s j l h = rw (put-word ws at (at′ + j / 32) s (⊎-elim (λ b. inl (omega arith)) (λ b. inr (omega arith)) h))
+put-other ws at at′ s j l h = rw (put-word ws at (at′ + j / wordBits) s (⊎-elim (λ b. inl (omega arith)) (λ b. inr (omega arith)) h))
 
--- ---- words of 32 bits stay such
+-- ---- words of wordBits bits stay such
 fit-sets : (ws : List ℕ) (at : ℕ) (vs : List ℕ) → Fit ws → Fit vs → Fit (sets ws at vs)
 fit-sets ws at [] f g = f
 fit-sets ws at (v ∷ vs) f g = fit-sets (set ws at v) (suc at) vs (fit-store ws at v (g 0) f) (λ k. g (suc k))
@@ -97,7 +98,7 @@ fit-put ws at s f g = fit-sets ws at (five s) f five-fit
     five-fit (suc (suc (suc (suc (suc k))))) = omega arith
 
 -- ---- sums
-pub total-le : (ws : List ℕ) → ((k : ℕ) → getD ws k 0 < 2 ^ 32) → total ws ≤ length ws * 2 ^ 32
+pub total-le : (ws : List ℕ) → ((k : ℕ) → getD ws k 0 < 2 ^ wordBits) → total ws ≤ length ws * 2 ^ wordBits
 unfolding total
 total-le [] h = omega arith
 total-le (x ∷ ws) h = omega (arith, h 0, total-le ws (λ k. h (suc k)))

@@ -11,32 +11,32 @@ use Rattle.reader.specs.Types.{Symbol, Token, Nonterminal, End, Place}
 use Rattle.grammar.specs.Limits.{maxKinds, maxNonterminals, maxPlaces, endPlace, endMark, nobody}
 use Rattle.grammar.specs.Decode.{Rules, AllOf, Legal, Production, Alternatives}
 use Rattle.grammar.specs.Grammar.{at, nowhere, layOne, layEach, layAll, sizeEach, sizeAll, startsEach, startsAll, padded, compile, Limited}
-use Rattle.grammar.specs.Tables.{placeWords, ruleWords, firstsAt, rulesAt, kindsAt, nonterminalsAt, sizeAt, tableWords, codeOf, wordOf, placeOf, ruleAt, startsIn, grammarIn}
+use Rattle.grammar.specs.Tables.{codes, owners, placeWords, ruleWords, firstsAt, rulesAt, kindsAt, nonterminalsAt, sizeAt, tableWords, codeOf, wordOf, placeOf, ruleAt, startsIn, grammarIn}
 use Rattle.grammar.proofs.CompileLaws.{length-all}
 use Rattle.reader.specs.Pass.{finished}
 use Rattle.grammar.proofs.WordLaws.{place-of-word, place-of-none}
 use Rattle.reader.proofs.PassLaws.{countsOf, firstsOf, laidOut, length-starts, length-size}
 
 -- ---- words back to places
-legal-code : (t n : ℕ) (x : Symbol) → Legal t n x → t ≤ maxKinds → n ≤ maxNonterminals → codeOf x < 256
+legal-code : (t n : ℕ) (x : Symbol) → Legal t n x → t ≤ maxKinds → n ≤ maxNonterminals → codeOf x < codes
 legal-code t n (Token k) h kt kn = omega arith
 legal-code t n (Nonterminal a) h kt kn = omega arith
 legal-code t n End h kt kn = absurd h
 
 module _ (t n : ℕ) (kt : t ≤ maxKinds) (kn : n ≤ maxNonterminals) where
-  back-one : (a : ℕ) → a < 64 → (β : List Symbol) → AllOf (Legal t n) β → map placeOf (map wordOf (layOne a β)) ≡ layOne a β
+  back-one : (a : ℕ) → a < owners → (β : List Symbol) → AllOf (Legal t n) β → map placeOf (map wordOf (layOne a β)) ≡ layOne a β
   unfolding layOne
   back-one a l [] h = ap (λ (x : Place). x ∷ []) (place-of-word (at a End) (omega arith) l)
   back-one a l (x ∷ β) h = ap₂ (λ (y : Place) (r : List Place). y ∷ r) (place-of-word (at a x) (legal-code t n x (h .0) kt kn) l) (back-one a l β (h .1))
 
-  back-each : (a : ℕ) → a < 64 → (l : List (List Symbol)) → AllOf (Production t n) l → map placeOf (map wordOf (layEach a l)) ≡ layEach a l
+  back-each : (a : ℕ) → a < owners → (l : List (List Symbol)) → AllOf (Production t n) l → map placeOf (map wordOf (layEach a l)) ≡ layEach a l
   unfolding layEach
   back-each a l [] h = refl
   back-each a l (β ∷ bs) h =
       ap (map placeOf) (map-append wordOf (layOne a β) (layEach a bs)) ∙ map-append placeOf (map wordOf (layOne a β)) (map wordOf (layEach a bs))
       ∙ ap₂ (λ (x y : List Place). x ++ y) (back-one a l β (h .0 .1)) (back-each a l bs (h .1))
 
-  back-all : (a : ℕ) (l : List (List (List Symbol))) → a + length l ≤ 64 → AllOf (Alternatives t n) l → map placeOf (map wordOf (layAll a l)) ≡ layAll a l
+  back-all : (a : ℕ) (l : List (List (List Symbol))) → a + length l ≤ owners → AllOf (Alternatives t n) l → map placeOf (map wordOf (layAll a l)) ≡ layAll a l
   unfolding layAll
   back-all a [] b h = refl
   back-all a (y ∷ l) b h =

@@ -9,17 +9,6 @@ ghost use Rattle.grammar.specs.Limits.{maxKinds, maxNonterminals, maxPlaces};
 ghost use Rattle.grammar.specs.Tables.{tableWords};
 ghost use Rattle.reader.specs.Pass.{Leaves, symbolsOf, productionsOf, nonterminalsOf, finished, passOf};
 
-// The limits of a grammar; specs/Limits of crate grammar has the same.
-const MAX_KINDS: usize = 100;
-
-const MAX_NONTERMINALS: usize = 32;
-
-const MAX_PRODUCTIONS: usize = 16;
-
-const MAX_LENGTH: usize = 30;
-
-const MAX_PLACES: usize = 255;
-
 // The symbols of a production of `owner`, from place `first` on, and its end. Answers the place behind them.
 fn symbols(
     bytes: &[u8],
@@ -72,11 +61,11 @@ fn productions(
     let mut left = count;
     while 0 < left {
         let at = c.at;
-        let n = c.limited(bytes, 0, MAX_LENGTH);
+        let n = c.limited(bytes, 0, grammar::MAX_LENGTH);
         let Read::Value(m, next) = n else {
             return n;
         };
-        if MAX_PLACES < p + m + 1 {
+        if grammar::MAX_PLACES < p + m + 1 {
             return Read::Refused(Refusal::OverLimit(at));
         }
         tables[grammar::FIRSTS + k] = base::narrow(p);
@@ -102,7 +91,7 @@ fn rules(bytes: &[u8], from: Cursor, kinds: usize, nonterminals: usize, tables: 
     let mut k = 0;
     let mut a = 0;
     while a < nonterminals {
-        let n = c.limited(bytes, 1, MAX_PRODUCTIONS);
+        let n = c.limited(bytes, 1, grammar::MAX_PRODUCTIONS);
         let Read::Value(m, next) = n else {
             return n;
         };
@@ -137,11 +126,11 @@ pub fn read_grammar(bytes: &[u8], tables: &mut [u16]) -> Read
     ensures { λ r. ⌜ Leaves r (now (tables .exit)) (passOf (now (bytes .entry)) (now (tables .entry))) ⌝ }
 {
     let c = Cursor { at: 0 };
-    let n = c.limited(bytes, 1, MAX_KINDS);
+    let n = c.limited(bytes, 1, grammar::MAX_KINDS);
     let Read::Value(kinds, next) = n else {
         return n;
     };
-    let m = next.limited(bytes, 1, MAX_NONTERMINALS);
+    let m = next.limited(bytes, 1, grammar::MAX_NONTERMINALS);
     let Read::Value(nonterminals, start) = m else {
         return m;
     };

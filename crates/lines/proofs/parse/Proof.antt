@@ -4,12 +4,13 @@ use Prim.Native.Nat.{_-_, _≤_}
 use native.Mathlib.Omega.{arith}
 use borrow.Author.Needs.{needs}
 use lib.ListN.{length, length-set}
+use Rattle.lines.specs.Line.{maxTokens, maxToken}
 use Rattle.lines.proofs.LineLaws.{Going, nothing, going-begins, blank-first, blank-many, blank-on, digit-below, digit-above, digit-sixth, digit-high, digit-on, last-empty, last-many, last-good}
 use Rattle.lines.proofs.parse.Statement.{statement}
 use Rattle.lines.proofs.parse.Tie as tie
 
 abbrev Inv-loop : tie.InvT-loop
-Inv-loop line note₀ n i₀ count₀ digits₀ value₀ note i count digits value = Going line note count digits value i × (length note ≡ length note₀) × (count ≤ 16) × (value ≤ 65535) × (i ≤ n)
+Inv-loop line note₀ n i₀ count₀ digits₀ value₀ note i count digits value = Going line note count digits value i × (length note ≡ length note₀) × (count ≤ maxTokens) × (value ≤ maxToken) × (i ≤ n)
 
 abbrev μ-loop : tie.MeasureT-loop
 μ-loop line note₀ n i₀ count₀ digits₀ value₀ note i count digits value = n - i

@@ -4,6 +4,7 @@ use native.Mathlib.Omega.{arith}
 use lib.Count.{trailing-le}
 use Rattle.positions.proofs.NextLaws.{from-none, from-some}
 use borrow.Author.Needs.{needs}
+use Rattle.base.specs.Bits.{wordBits}
 use Rattle.positions.proofs.from_bit.Statement.{statement}
 use Rattle.positions.proofs.from_bit.Tie as tie
 
@@ -20,7 +21,7 @@ number-requires : tie.Need-number-requires
 number-requires c κs = search needs
 
 add-result : tie.Need-add-result
-add-result c = let a = c .before .before .args in omega (arith, trailing-le 32 (a .x / 2 ^ a .k))
+add-result c = let a = c .before .before .args in omega (arith, trailing-le wordBits (a .x / 2 ^ a .k))
 
 returns-2 : tie.Need-returns-2
 returns-2 c = from-some _ _ (omega arith) (omega arith) (c .number .ensures)

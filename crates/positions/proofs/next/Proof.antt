@@ -4,11 +4,12 @@ use native.Mathlib.Omega.{arith}
 use Rattle.positions.specs.Positions.{setWords}
 use Rattle.positions.proofs.NextLaws.{Clear, clear-none, none-left, all-clear, word-found, word-clear}
 use borrow.Author.Needs.{needs}
+use Rattle.base.specs.Bits.{wordBits}
 use Rattle.positions.proofs.next.Statement.{statement}
 use Rattle.positions.proofs.next.Tie as tie
 
 abbrev Inv-loop : tie.InvT-loop
-Inv-loop from s w₀ k₀ w k = (k < 32) × (from ≤ w * 32 + k) × Clear (s .words) from (w * 32 + k)
+Inv-loop from s w₀ k₀ w k = (k < wordBits) × (from ≤ w * wordBits + k) × Clear (s .words) from (w * wordBits + k)
 
 abbrev μ-loop : tie.MeasureT-loop
 μ-loop from s w₀ k₀ w k = setWords - w

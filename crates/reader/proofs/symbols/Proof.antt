@@ -2,8 +2,9 @@
 use native.Mathlib.Omega.{arith}
 use borrow.Author.Needs.{needs}
 use mathlib.Core.Path.{_≡_}
-use Prim.Native.Nat.{_+_}
+use Prim.Native.Nat.{_+_, _-_}
 use lib.ListN.{length, length-set}
+use Rattle.grammar.specs.Tables.{codes}
 use Rattle.reader.specs.Pass.{symbolsOf}
 use Rattle.number.proofs.NumberLaws.{symbol-low}
 use Rattle.reader.proofs.PassSteps.{symbols-done, symbols-refused, symbols-more}
@@ -37,7 +38,9 @@ returns : tie.Need-returns Inv-loop μ-loop
 returns c = symbols-refused _ _ _ _ _ _ _ _ (omega arith) (c .before .before .before .before .loop .inv .2) (c .before .before .symbol .ensures) (c .enum-told .given .1)
 
 symbol-word-requires : tie.Need-symbol-word-requires Inv-loop μ-loop
-symbol-word-requires c κs = symbol-low _ _ _ _ (omega arith) (omega arith) (c .before .before .before .symbol .ensures) (c .before .n .given .1)
+symbol-word-requires c κs =
+    let low = symbol-low _ _ _ _ (codes - 1) (omega arith) (omega arith) (c .before .before .before .symbol .ensures) (c .before .n .given .1) in
+    omega arith
 
 mul-tables : tie.Need-mul-tables Inv-loop μ-loop
 mul-tables c = search needs
