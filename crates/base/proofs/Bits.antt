@@ -212,7 +212,9 @@ subset-iff x y = (to, from)
 
     from : ((k : ℕ) → T (testBit x k) → T (testBit y k)) → T (eqb (bitOr x y) y)
     from h =
-        let e : bitOr x y ≡ y = sets-same (bitOr x y) y (λ k. test-or x y k ∙ same (testBit x k || testBit y k) (testBit y k) (λ t. ⊎-elim (h k) (λ s. s) (or-T (testBit x k) (testBit y k) t)) (T-or-r (testBit x k) (testBit y k))) in
+        let e : bitOr x y ≡ y = sets-same (bitOr x y) y
+        (λ k. test-or x y k ∙ same (testBit x k || testBit y k) (testBit y k) (λ t. ⊎-elim (h k) (λ s. s) (or-T (testBit x k) (testBit y k) t))
+        (T-or-r (testBit x k) (testBit y k))) in
         rw e (eqb-refl y)
 
 pub subset-none : (y : ℕ) → isSubset 0 y ≡ true
@@ -224,12 +226,14 @@ subset-set x k y = same (isSubset (setBit x k) y) (isSubset x y && testBit y k) 
     to : T (isSubset (setBit x k) y) → T (isSubset x y && testBit y k)
     to t =
         let h : (j : ℕ) → T (testBit x j || eqb j k) → T (testBit y j) = λ j s. subset-iff (setBit x k) y .0 t j (rw test-set s) in
-        T-and (isSubset x y) (testBit y k) (subset-iff x y .1 (λ j s. h j (T-or-l (testBit x j) (eqb j k) s))) (h k (T-or-r (testBit x k) (eqb k k) (eqb-refl k)))
+        T-and (isSubset x y) (testBit y k) (subset-iff x y .1 (λ j s. h j (T-or-l (testBit x j) (eqb j k) s)))
+        (h k (T-or-r (testBit x k) (eqb k k) (eqb-refl k)))
 
     from : T (isSubset x y && testBit y k) → T (isSubset (setBit x k) y)
     from t =
         let s = and-T (isSubset x y) (testBit y k) t in
-        subset-iff (setBit x k) y .1 (λ j m. elim (or-T (testBit x j) (eqb j k) (rw test-set at m)) [ inl u ↦ subset-iff x y .0 (s .0) j u | inr u ↦ rw (eqb→eq j k u) (s .1) ])
+        subset-iff (setBit x k) y .1 (λ j m. elim (or-T (testBit x j) (eqb j k) (rw test-set at m))
+        [ inl u ↦ subset-iff x y .0 (s .0) j u | inr u ↦ rw (eqb→eq j k u) (s .1) ])
 
 -- ---- the opposite of a word: every bit turned
 differ-one : (a : ℕ) → a < 2 → (differ a 1 < 2) × (eqb (differ a 1) 1 ≡ not (eqb a 1))

@@ -55,7 +55,8 @@ fn note_rule(
     needs: &mut [u32],
     owners: &mut [u32],
 ) -> usize
-    requires { ⌜ Fits (now tables) × (a < nonterminalsIn (now tables)) × (count ≤ rowWords) × (length (now needs) ≡ rowWords) × (length (now owners) ≡ rowWords) × Noted tokens (now tables) from count a 0 (now needs) (now owners) ⌝ }
+    requires { ⌜ Fits (now tables) × (a < nonterminalsIn (now tables)) × (count ≤ rowWords) × (length (now needs) ≡ rowWords)
+        × (length (now owners) ≡ rowWords) × Noted tokens (now tables) from count a 0 (now needs) (now owners) ⌝ }
     ensures { λ r. ⌜ (r ≤ rowWords) × Noted tokens (now (tables .entry)) from r (a + 1) 0 (now (needs .exit)) (now (owners .exit)) ⌝ }
 {
     if base::has(from, a) {
@@ -85,7 +86,8 @@ fn note_rules(
     owners: &mut [u32],
 ) -> usize
     requires { ⌜ Fits (now tables) × (length (now needs) ≡ rowWords) × (now owners ≡ replicate rowWords 0) ⌝ }
-    ensures { λ r. ⌜ (r ≤ rowWords) × Noted tokens (now (tables .entry)) from r (nonterminalsIn (now (tables .entry))) 0 (now (needs .exit)) (now (owners .exit)) ⌝ }
+    ensures { λ r. ⌜ (r ≤ rowWords)
+        × Noted tokens (now (tables .entry)) from r (nonterminalsIn (now (tables .entry))) 0 (now (needs .exit)) (now (owners .exit)) ⌝ }
 {
     let n = grammar::nonterminals(tables);
     let mut count = 0;

@@ -82,7 +82,8 @@ place-of-none = refl
 pub place-past : (t : List ℕ) (p : ℕ) {x : Place} → endPlace < p → x ≡ placeOf 0 → x ≡ placeAt (grammarIn t) p
 unfolding grammarIn
 place-past t p h e =
-    e ∙ place-of-none ∙ sym (List·getD-eq-default (map placeOf (take placeWords t)) nowhere {n = p} (omega (arith, length-map (take placeWords t) placeOf, length-take placeWords t)))
+    e ∙ place-of-none ∙ sym (List·getD-eq-default (map placeOf (take placeWords t)) nowhere {n = p}
+    (omega (arith, length-map (take placeWords t) placeOf, length-take placeWords t)))
 
 pub place-in : (t : List ℕ) (p : ℕ) {x : Place} → p ≤ endPlace → x ≡ placeOf (getD t p 0) → x ≡ placeAt (grammarIn t) p
 unfolding grammarIn

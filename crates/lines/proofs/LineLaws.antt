@@ -137,7 +137,8 @@ module _ (s note : List ℕ) (k d v i : ℕ) (x : Going s note k d v i) where
     pub last-many : (d ≡ 0 → ⊥) → maxTokens ≤ k → k ≤ length note → none ≡ lineOf s
     last-many z m q = end-many (some []) last z m q
 
-    pub last-good : {t : ℕ} → (d ≡ 0 → ⊥) → k < maxTokens → maxTokens ≤ length note → t ≡ v → some (take (k + 1) (set note k t)) ≡ lineOf s
+    pub last-good : {t : ℕ} → (d ≡ 0 → ⊥) → k < maxTokens → maxTokens ≤ length note → t ≡ v → some (take (k + 1) (set note k t))
+        ≡ lineOf s
     unfolding few
     last-good {t} z h q e =
         let u = take (k + 1) (set note k t) in

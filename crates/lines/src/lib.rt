@@ -24,7 +24,8 @@ pub enum Line {
     Bad,
 }
 
-// Reads a line, without its end: up to MAX_TOKENS tokens, each of 1 to MAX_DIGITS digits and at most MAX_TOKEN, single blanks between. The tokens are put at the note's start.
+// Reads a line, without its end: up to MAX_TOKENS tokens, each of 1 to MAX_DIGITS digits and at most MAX_TOKEN, single blanks between. The tokens are put at
+// the note's start.
 pub fn parse(line: &[u8], note: &mut [u16]) -> Line
     requires { ⌜ maxTokens ≤ length (now note) ⌝ }
     ensures { λ r. ⌜ noteIn r (now (note .exit)) ≡ lineOf (now (line .entry)) ⌝ }

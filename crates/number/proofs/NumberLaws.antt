@@ -68,7 +68,8 @@ module _ (s : List ℕ) (at : ℕ) where
               )
 
           pub three : {v : ℕ} → at + 1 + 1 < length s → 0 < getD s (at + 1 + 1) 0 → getD s (at + 1 + 1) 0 ≤ 3
-              → v ≡ getD s at 0 % 128 + (getD s (at + 1) 0 % 128 + getD s (at + 1 + 1) 0 * 128) * 128 → Value v (cursor (at + 1 + 1 + 1)) ≡ numberAt s at
+              → v ≡ getD s at 0 % 128 + (getD s (at + 1) 0 % 128 + getD s (at + 1 + 1) 0 * 128) * 128 → Value v (cursor (at + 1 + 1 + 1))
+              ≡ numberAt s at
           unfolding numberAt secondByte thirdByte
           three h2 p q e =
               rw e (simp (
@@ -153,10 +154,12 @@ tested-is ok f (Value w d) {v} {c} e = go (ok w) refl
     go false q = let z : Refused f ≡ Value v c = rw q at e in clash (cc)
 tested-is ok f (Refused r) e = clash (cc)
 
-pub limited-is : (s : List ℕ) (lo hi at : ℕ) {n : Read} {v : ℕ} {c : Cursor} → n ≡ limitedAt s lo hi at → n ≡ Value v c → (lo ≤ v) × (v ≤ hi)
+pub limited-is : (s : List ℕ) (lo hi at : ℕ) {n : Read} {v : ℕ} {c : Cursor} → n ≡ limitedAt s lo hi at → n ≡ Value v c → (lo ≤ v)
+    × (v ≤ hi)
 unfolding limitedAt
 limited-is s lo hi at {n} {v} {c} e h =
-    let t = and-T (leb lo v) (leb v hi) (true→T (leb lo v && leb v hi) (tested-is (λ v. leb lo v && leb v hi) (OverLimit at) (numberAt s at) (sym e ∙ h))) in
+    let t = and-T (leb lo v) (leb v hi)
+    (true→T (leb lo v && leb v hi) (tested-is (λ v. leb lo v && leb v hi) (OverLimit at) (numberAt s at) (sym e ∙ h))) in
     (leb→le lo v (t .0), leb→le v hi (t .1))
 
 -- a legal symbol's number is below m, if those of the highest token and of the highest nonterminal are
@@ -172,5 +175,6 @@ pub symbol-legal : (s : List ℕ) (t n at : ℕ) {x : Read} {v : ℕ} {c : Curso
 unfolding symbolAt
 symbol-legal s t n at e h = tested-is (legal t n) (UnknownSymbol at) (numberAt s at) (sym e ∙ h)
 
-pub symbol-low : (s : List ℕ) (t n at : ℕ) {x : Read} {v : ℕ} {c : Cursor} (m : ℕ) → 2 * suc t ≤ m → 2 * n ≤ m → x ≡ symbolAt s t n at → x ≡ Value v c → v < m
+pub symbol-low : (s : List ℕ) (t n at : ℕ) {x : Read} {v : ℕ} {c : Cursor} (m : ℕ) → 2 * suc t ≤ m → 2 * n ≤ m → x ≡ symbolAt s t n at
+    → x ≡ Value v c → v < m
 symbol-low s t n at {x} {v} m kt kn e h = legal-low t n v m (symbol-legal s t n at e h) kt kn

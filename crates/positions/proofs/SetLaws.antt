@@ -13,7 +13,8 @@ use lib.Count.{trailingZeros}
 use lib.Dec.{T, eqb}
 use borrow.Author.Tests.{ne-eqb, eqb-false, not-true, not-false}
 use Rattle.base.specs.Bits.{wordBits, testBit}
-use Rattle.base.proofs.Bits.{same?, eqb-iff, test-or, test-and, test-set, test-none, test-high, or-ge, or-ge-r, or-pos, set-fits, trailing-found, test-opposite}
+use Rattle.base.proofs.Bits.{same?, eqb-iff, test-or, test-and, test-set, test-none, test-high, or-ge, or-ge-r, or-pos, set-fits, trailing-found}
+use Rattle.base.proofs.Bits.{test-opposite}
 use Rattle.base.proofs.Booleans.{T→true, true→T, and-T, T-and, or-none}
 use Rattle.positions.specs.Positions.{positionCount, setWords, emptySet, member, withOf, unionOf, meetsOf, allWords, common, oppositeOf, Full, NextOf}
 
@@ -47,7 +48,12 @@ member-with s k j h = ⊎-elim here there (same? (j / wordBits) (k / wordBits))
     there ne = rw (getD-set-other s (k / wordBits) (j / wordBits) _ 0 ne, ne-eqb j k (λ e. ne (ap (λ (x : ℕ). x / wordBits) e))) (sym (or-none _))
 
     here : j / wordBits ≡ k / wordBits → member (withOf s k) j ≡ (member s j || eqb j k)
-    here e = rw (e, getD-set-same s (k / wordBits) _ 0 (omega arith), test-set, eqb-iff (j % wordBits) (k % wordBits) j k (λ f. omega arith) (λ f. omega arith))
+    here e = rw (
+      e,
+      getD-set-same s (k / wordBits) _ 0 (omega arith),
+      test-set,
+      eqb-iff (j % wordBits) (k % wordBits) j k (λ f. omega arith) (λ f. omega arith),
+    )
 
 -- ---- unions
 pub length-union : (a b : List ℕ) → length (unionOf a b) ≡ 5
@@ -151,7 +157,8 @@ module _ (a b : List ℕ) where
   -- sets that meet share a member; the words must have wordBits bits, for a higher bit is no position
   pub meets-out : Fit a → T (meetsOf a b) → (j : ℕ) × (j < positionCount) × T (member a j) × T (member b j)
   unfolding meetsOf
-  meets-out w t = met w (word-held (common a b) (⊎-elim (λ z. absurd (eqb-false _ 0 (not-true _ (T→true _ t)) z)) (λ n. omega arith) (same? (allWords (common a b)) 0)))
+  meets-out w t = met w (word-held (common a b)
+      (⊎-elim (λ z. absurd (eqb-false _ 0 (not-true _ (T→true _ t)) z)) (λ n. omega arith) (same? (allWords (common a b)) 0)))
 
   pub meets-in : (j : ℕ) → j < positionCount → T (member a j) → T (member b j) → T (meetsOf a b)
   unfolding member meetsOf
@@ -198,8 +205,13 @@ opposite-word s (suc (suc (suc (suc (suc i))))) l = absurd (omega arith)
 
 pub member-opposite : (s : List ℕ) (j : ℕ) → j < positionCount → member (oppositeOf s) j ≡ not (member s j)
 unfolding member
-member-opposite s j l = ap (λ (x : ℕ). testBit x (j % wordBits)) (opposite-word s (j / wordBits) (omega arith)) ∙ test-opposite (getD s (j / wordBits) 0) (j % wordBits) (omega arith)
+member-opposite s j l = ap (λ (x : ℕ). testBit x (j % wordBits)) (opposite-word s (j / wordBits) (omega arith))
+    ∙ test-opposite (getD s (j / wordBits) 0) (j % wordBits) (omega arith)
 
 -- what stands before the first position that is missing is held
-pub full-is : (s c : List ℕ) (from n m : ℕ) {r : Bool} → n < positionCount → c ≡ oppositeOf s → NextOf c from m → (r ≡ true → n < m) → Full r s from n
-full-is s c from n m h e x t = record { all = λ q k a b. not-false (member s k) (sym (member-opposite s k (omega arith)) ∙ (ap (λ (l : List ℕ). member l k) (sym e) ∙ x .none k a (let z = t q in omega arith))) }
+pub full-is : (s c : List ℕ) (from n m : ℕ) {r : Bool} → n < positionCount → c ≡ oppositeOf s → NextOf c from m → (r ≡ true → n < m)
+    → Full r s from n
+full-is s c from n m h e x t = record {
+  all = λ q k a b. not-false (member s k)
+      (sym (member-opposite s k (omega arith)) ∙ (ap (λ (l : List ℕ). member l k) (sym e) ∙ x .none k a (let z = t q in omega arith)));
+}

@@ -19,7 +19,8 @@ sets-out ws at (v ∷ vs) k h =
     sets-out (set ws at v) (suc at) vs k (⊎-elim (λ l. inl (omega arith)) (λ l. inr (omega arith)) h)
     ∙ getD-set-other ws at k v 0 (λ e. ⊎-elim (λ l. omega arith) (λ l. omega arith) h)
 
-sets-in : (ws : List ℕ) (at : ℕ) (vs : List ℕ) (i : ℕ) → at + length vs ≤ length ws → i < length vs → getD (sets ws at vs) (at + i) 0 ≡ getD vs i 0
+sets-in : (ws : List ℕ) (at : ℕ) (vs : List ℕ) (i : ℕ) → at + length vs ≤ length ws → i < length vs → getD (sets ws at vs) (at + i) 0
+    ≡ getD vs i 0
 sets-in ws at [] i h l = absurd (omega arith)
 sets-in ws at (v ∷ vs) zero h l =
     let e : at + 0 ≡ at = omega arith in
@@ -63,11 +64,13 @@ pub put-word : (ws : List ℕ) (at k : ℕ) (s : List ℕ) → (k < at) ⊎ (at 
 unfolding putAt
 put-word ws at k s h = sets-out ws at (five s) k h
 
-pub put-same : (ws : List ℕ) (at : ℕ) (s : List ℕ) (j : ℕ) → at + setWords ≤ length ws → j < positionCount → memberAt (putAt ws at s) at j ≡ member s j
+pub put-same : (ws : List ℕ) (at : ℕ) (s : List ℕ) (j : ℕ) → at + setWords ≤ length ws → j < positionCount → memberAt (putAt ws at s) at j
+    ≡ member s j
 unfolding memberAt putAt member
 put-same ws at s j h l = rw (sets-in ws at (five s) (j / wordBits) h (omega arith), five-word s (j / wordBits) (omega arith))
 
-pub put-other : (ws : List ℕ) (at at′ : ℕ) (s : List ℕ) (j : ℕ) → j < positionCount → (at′ + setWords ≤ at) ⊎ (at + setWords ≤ at′) → memberAt (putAt ws at s) at′ j ≡ memberAt ws at′ j
+pub put-other : (ws : List ℕ) (at at′ : ℕ) (s : List ℕ) (j : ℕ) → j < positionCount → (at′ + setWords ≤ at) ⊎ (at + setWords ≤ at′)
+    → memberAt (putAt ws at s) at′ j ≡ memberAt ws at′ j
 unfolding memberAt
 put-other ws at at′ s j l h = rw (put-word ws at (at′ + j / wordBits) s (⊎-elim (λ b. inl (omega arith)) (λ b. inr (omega arith)) h))
 
@@ -119,7 +122,8 @@ module _ {r : Bool} {ws after : List ℕ} {at : ℕ} {s : List ℕ} (h : Joined 
       go true e = omega (arith, h .grown e)
       go false e = omega (arith, ap total (h .same e))
 
-  pub joined-other : (at′ j : ℕ) → j < positionCount → (at′ + setWords ≤ at) ⊎ (at + setWords ≤ at′) → memberAt after at′ j ≡ memberAt ws at′ j
+  pub joined-other : (at′ j : ℕ) → j < positionCount → (at′ + setWords ≤ at) ⊎ (at + setWords ≤ at′) → memberAt after at′ j
+      ≡ memberAt ws at′ j
   joined-other at′ j l d = rw (h .words) (put-other ws at at′ _ j l d)
 
   pub joined-same : (j : ℕ) → j < positionCount → at + setWords ≤ length ws → memberAt after at j ≡ (memberAt ws at j || member s j)

@@ -52,8 +52,10 @@ fn productions(
     first: usize,
     production: usize,
 ) -> Read
-    requires { ⌜ (kinds ≤ maxKinds) × (nonterminals ≤ maxNonterminals) × (production ≤ first) × (first ≤ maxPlaces) × (length (now tables) ≡ tableWords) ⌝ }
-    ensures { λ r. ⌜ Leaves r (now (tables .exit)) (productionsOf (now (bytes .entry)) kinds nonterminals owner count from first production (now (tables .entry))) ⌝ }
+    requires { ⌜ (kinds ≤ maxKinds) × (nonterminals ≤ maxNonterminals) × (production ≤ first) × (first ≤ maxPlaces)
+        × (length (now tables) ≡ tableWords) ⌝ }
+    ensures { λ r. ⌜ Leaves r (now (tables .exit))
+        (productionsOf (now (bytes .entry)) kinds nonterminals owner count from first production (now (tables .entry))) ⌝ }
 {
     let mut c = from;
     let mut p = first;
@@ -84,7 +86,8 @@ fn productions(
 // All nonterminals. Answers the number of places.
 fn rules(bytes: &[u8], from: Cursor, kinds: usize, nonterminals: usize, tables: &mut [u16]) -> Read
     requires { ⌜ (kinds ≤ maxKinds) × (nonterminals ≤ maxNonterminals) × (length (now tables) ≡ tableWords) ⌝ }
-    ensures { λ r. ⌜ Leaves r (now (tables .exit)) (nonterminalsOf (now (bytes .entry)) kinds nonterminals 0 nonterminals from 0 0 (now (tables .entry))) ⌝ }
+    ensures { λ r. ⌜ Leaves r (now (tables .exit)) (nonterminalsOf (now (bytes .entry)) kinds nonterminals 0 nonterminals from 0 0 (now (tables .entry)))
+        ⌝ }
 {
     let mut c = from;
     let mut p = 0;

@@ -23,7 +23,10 @@ same-length-2 : tie.Need-same-length-2
 same-length-2 c = search needs
 
 returns : tie.Need-returns
-returns c = told (c .before .before .before .before .before .before .before .plain .result) _ (c .number .ensures) (c .before .before .place .ensures) (c .before .count .ensures) (c .before .before .before .before .before .before .before .plain .ensures)
+returns c =
+    let at-place = c .before .before in
+    let at-plain = at-place .before .before .before .before .before in
+    told (at-plain .plain .result) _ (c .number .ensures) (at-place .place .ensures) (c .before .count .ensures) (at-plain .plain .ensures)
 
 pub allstar-plain-spec : {M : Type 1} → statement M
 allstar-plain-spec =

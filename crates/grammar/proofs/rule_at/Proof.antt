@@ -19,7 +19,9 @@ index-requires : tie.Need-index-requires
 index-requires c κs = search needs
 
 add-result : tie.Need-add-result
-add-result c = omega (arith, c .before .shared-slice-known2 .given (rulesAt + c .before .before .before .args .a))
+add-result c =
+    let at-entry = c .before .before .before in
+    omega (arith, c .before .shared-slice-known2 .given (rulesAt + at-entry .args .a))
 
 returns : tie.Need-returns
 unfolding ruleAt

@@ -9,7 +9,8 @@ use Rattle.notes.proofs.feed.Statement.{statement}
 use Rattle.notes.proofs.feed.Tie as tie
 
 abbrev Inv-loop : tie.InvT-loop
-Inv-loop bytes line₀ kept cache₀ space₀ n k₀ i₀ line cache space k i = (k ≤ maxKept) × (length line ≡ length line₀) × (length cache ≡ length cache₀) × (length space ≡ length space₀)
+Inv-loop bytes line₀ kept cache₀ space₀ n k₀ i₀ line cache space k i = (k ≤ maxKept) × (length line ≡ length line₀)
+    × (length cache ≡ length cache₀) × (length space ≡ length space₀)
 
 abbrev μ-loop : tie.MeasureT-loop
 μ-loop bytes line₀ kept cache₀ space₀ n k₀ i₀ line cache space k i = n - i

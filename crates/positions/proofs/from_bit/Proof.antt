@@ -21,7 +21,9 @@ number-requires : tie.Need-number-requires
 number-requires c κs = search needs
 
 add-result : tie.Need-add-result
-add-result c = let a = c .before .before .args in omega (arith, trailing-le wordBits (a .x / 2 ^ a .k))
+add-result c =
+    let at-entry = c .before .before in
+    let a = at-entry .args in omega (arith, trailing-le wordBits (a .x / 2 ^ a .k))
 
 returns-2 : tie.Need-returns-2
 returns-2 c = from-some _ _ (omega arith) (omega arith) (c .number .ensures)

@@ -36,7 +36,9 @@ add-result : tie.Need-add-result Inv-loop μ-loop
 add-result c = search needs
 
 returns-2 : tie.Need-returns-2 Inv-loop μ-loop
-returns-2 c = word-found _ _ _ _ _ (c .before .before .before .before .loop .inv .2) (c .before .from-bit .ensures) (omega arith) (omega arith) (omega arith)
+returns-2 c =
+    let at-loop = c .before .before .before .before in
+    word-found _ _ _ _ _ (at-loop .loop .inv .2) (c .before .from-bit .ensures) (omega arith) (omega arith) (omega arith)
 
 add-w : tie.Need-add-w Inv-loop μ-loop
 add-w c = search needs
@@ -45,7 +47,9 @@ loop-less : tie.Need-loop-less Inv-loop μ-loop
 loop-less c = search needs
 
 loop-again : tie.Need-loop-again Inv-loop μ-loop
-loop-again c = (omega arith, omega arith, word-clear _ _ _ _ _ (c .before .before .before .before .loop .inv .2) (c .before .from-bit .ensures) (omega arith))
+loop-again c =
+    let at-loop = c .before .before .before .before in
+    (omega arith, omega arith, word-clear _ _ _ _ _ (at-loop .loop .inv .2) (c .before .from-bit .ensures) (omega arith))
 
 returns-3 : tie.Need-returns-3 Inv-loop μ-loop
 returns-3 c = all-clear _ _ _ (omega arith) (c .before .loop .inv .2)

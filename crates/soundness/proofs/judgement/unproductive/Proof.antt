@@ -15,7 +15,9 @@ lowest-missing-requires : tie.Need-lowest-missing-requires
 lowest-missing-requires c κs = search needs
 
 returns : tie.Need-returns
-returns c = c .lowest-missing .ensures ∙ unproductive-is _ _ _ (c .before .before .derivers .ensures) (c .before .nonterminals .ensures)
+returns c =
+    let at-derivers = c .before .before in
+    c .lowest-missing .ensures ∙ unproductive-is _ _ _ (at-derivers .derivers .ensures) (c .before .nonterminals .ensures)
 
 pub unproductive-spec : {M : Type 1} → statement M
 unproductive-spec =
