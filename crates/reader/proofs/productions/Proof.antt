@@ -73,7 +73,7 @@ slice-write-tables : tie.Need-slice-write-tables Inv-loop μ-loop
 slice-write-tables c = search needs
 
 symbols-requires : tie.Need-symbols-requires Inv-loop μ-loop
-symbols-requires c κs = simp length-set (omega arith)
+symbols-requires c κs = record { kinds-most = omega arith; few = omega arith; room = omega arith; long = simp length-set (omega arith) }
 
 enum-known-piece : tie.Need-enum-known-piece Inv-loop μ-loop
 enum-known-piece c = search needs

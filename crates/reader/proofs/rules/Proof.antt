@@ -54,7 +54,8 @@ slice-write-tables : tie.Need-slice-write-tables Inv-loop μ-loop
 slice-write-tables c = search needs
 
 productions-requires : tie.Need-productions-requires Inv-loop μ-loop
-productions-requires c κs = simp length-set (omega arith)
+productions-requires c κs =
+    (record { kinds-most = omega arith; few = omega arith; room = omega arith; long = simp length-set (omega arith) }, omega arith)
 
 enum-known-piece : tie.Need-enum-known-piece Inv-loop μ-loop
 enum-known-piece c = search needs

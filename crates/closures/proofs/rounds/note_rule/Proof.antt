@@ -27,7 +27,7 @@ has-requires c κs = search needs
 returns : tie.Need-returns Inv-loop μ-loop
 returns c =
     let at-entry = c .before .before .before .before .before in
-    (at-entry .pre .2, noted-skip _ _ _ _ _ _ _ _ (at-entry .pre .5) (c .before .has .ensures) (c .if1 .taken))
+    (at-entry .pre .used, noted-skip _ _ _ _ _ _ _ _ (at-entry .pre .noted) (c .before .has .ensures) (c .if1 .taken))
 
 rule-at-requires : tie.Need-rule-at-requires Inv-loop μ-loop
 rule-at-requires c κs = search needs
@@ -53,10 +53,10 @@ loop-holds c =
     let at-entry = c .before .before .before .before .before .before .before in
     let from = rule-from (at-entry .args .tables .now) (at-entry .args .a) in
     let from2 = rule-from (at-entry .args .tables .now) (at-entry .args .a + 1) in
-    let within = rule-within _ (at-entry .pre .0) _ (at-entry .pre .1) (c .rule-at2 .ensures) in
+    let within = rule-within _ (at-entry .pre .fits) _ (at-entry .pre .named) (c .rule-at2 .ensures) in
     let e : firstsAt + (c .before .rule-at .result - firstsAt) ≡ ruleAt (at-entry .args .tables .now) (at-entry .args .a) =
     omega (arith, c .before .rule-at .ensures) in
-    (omega arith, omega arith, e, omega (arith, c .rule-at2 .ensures), refl, refl, noted-begin _ _ _ _ _ _ _ _ (at-entry .pre .5) e)
+    (omega arith, omega arith, e, omega (arith, c .rule-at2 .ensures), refl, refl, noted-begin _ _ _ _ _ _ _ _ (at-entry .pre .noted) e)
 
 add-first-place : tie.Need-add-first-place Inv-loop μ-loop
 add-first-place c = search needs
@@ -108,7 +108,7 @@ loop-again c =
       at-loop .loop .inv .3,
       simp length-set (omega arith),
       simp length-set (omega arith),
-      noted-more _ _ _ _ _ _ _ _ (at-loop .loop .inv .6) _ _ _ (at-entry .pre .1) (omega arith) (omega arith) (omega arith, inside)
+      noted-more _ _ _ _ _ _ _ _ (at-loop .loop .inv .6) _ _ _ (at-entry .pre .named) (omega arith) (omega arith) (omega arith, inside)
           (at-first-place .first-place .ensures) (at-need-from .need-from .ensures) (c .with .ensures),
     )
 
@@ -122,7 +122,7 @@ returns-2 : tie.Need-returns-2 Inv-loop μ-loop
 returns-2 c =
     let at-loop = c .before .before in
     let at-entry = at-loop .before .before .before .before .before .before .before .before in
-    (at-entry .pre .2, noted-done _ _ _ _ _ _ _ _ (at-loop .loop .inv .6) _ (omega arith) (omega arith) (omega arith))
+    (at-entry .pre .used, noted-done _ _ _ _ _ _ _ _ (at-loop .loop .inv .6) _ (omega arith) (omega arith) (omega arith))
 
 same-length-3 : tie.Need-same-length-3 Inv-loop μ-loop
 same-length-3 c = search needs
