@@ -1,4 +1,4 @@
--- `allstar_c::allstar_begin` meets its contract.
+-- `allstar_c::allstar_begin` meets its contract: the number, the place and the words stored are those of what `begin` answers and leaves.
 use Rattle.allstar_c.proofs.Answers.{told-begun}
 use borrow.Author.Needs.{needs}
 use Rattle.allstar_c.proofs.allstar_begin.Statement.{statement}

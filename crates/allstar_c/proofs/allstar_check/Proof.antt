@@ -1,4 +1,4 @@
--- `allstar_c::allstar_check` meets its contract.
+-- `allstar_c::allstar_check` meets its contract: the number and the place stored are those of the verdict that `check` answers.
 use Rattle.soundness.specs.Check.{verdictNumber, verdictPlace}
 use mathlib.Core.Path.{ap, _∙_}
 use borrow.Author.Needs.{needs}

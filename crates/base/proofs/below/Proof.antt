@@ -1,4 +1,4 @@
--- `base::below` meets its contract.
+-- `base::below` meets its contract: a one shifted by n is 2 ^ n, and a word has room for one less as long as n is no more than its bits.
 use borrow.Author.Needs.{needs}
 use Prim.Native.Nat.{_^_, _≤_}
 use native.Mathlib.Omega.{arith}

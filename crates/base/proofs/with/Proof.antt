@@ -1,4 +1,4 @@
--- `base::with` meets its contract.
+-- `base::with` meets its contract: a one shifted by k < wordBits loses no bit, so it is the 2 ^ k that `setBit` joins.
 use Rattle.base.specs.Bits.{wordBits, setBit}
 use Rattle.base.proofs.Bits.{shl-one}
 use borrow.Author.Needs.{needs}

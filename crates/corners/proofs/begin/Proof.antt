@@ -1,4 +1,4 @@
--- `corners::begin` meets its contract.
+-- `corners::begin` meets its contract: the rows below a are right, and a turn writes that of a and touches no other.
 use borrow.Author.Needs.{needs}
 use mathlib.Core.Path.{_≡_, refl}
 use Prim.Native.Nat.{_≤_, _-_}

@@ -1,4 +1,4 @@
--- `corners::corners` meets its contract.
+-- `corners::corners` meets its contract: the set of those that derive the empty row is the one that `move?` asks for, so the rows say where one move leads.
 use Rattle.corners.proofs.Warshall.{corners-are}
 use borrow.Author.Needs.{needs}
 use Rattle.corners.proofs.corners.Statement.{statement}

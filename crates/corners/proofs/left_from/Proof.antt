@@ -1,4 +1,5 @@
--- `corners::left_from` meets its contract.
+-- `corners::left_from` meets its contract: what the set and the rest of the production lead to together is what the whole leads to; a token, an end or a
+-- nonterminal that is not nullable ends it.
 use borrow.Author.Needs.{needs}
 use Prim.Native.Nat.{_-_}
 use native.Mathlib.Omega.{arith}

@@ -1,4 +1,4 @@
--- `corners::moves` meets its contract.
+-- `corners::moves` meets its contract: what the set and the productions from k on lead to together is what all of them lead to.
 use borrow.Author.Needs.{needs}
 use Prim.Native.Nat.{_-_}
 use native.Mathlib.Omega.{arith}

@@ -1,4 +1,4 @@
--- `corners::reach` meets its contract.
+-- `corners::reach` meets its contract: the rows are closed through every nonterminal below b, as in `reachOf`; an empty row joins nothing.
 use borrow.Author.Needs.{needs}
 use mathlib.Core.Path.{_≡_, refl, ap, _∙_}
 use Prim.Native.Nat.{ℕ, _≤_, _-_}

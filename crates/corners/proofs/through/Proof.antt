@@ -1,4 +1,4 @@
--- `corners::through` meets its contract.
+-- `corners::through` meets its contract: the rows below a are joined, as in `throughOf`.
 use borrow.Author.Needs.{needs}
 use mathlib.Core.Path.{_≡_, refl, ap, _∙_}
 use Prim.Native.Nat.{ℕ, _≤_, _-_}

@@ -1,4 +1,4 @@
--- `grammar::rule_at` meets its contract.
+-- `grammar::rule_at` meets its contract: the word of nonterminal a lies in the tables, for there is one more of them than nonterminals.
 use Rattle.grammar.specs.Tables.{rulesAt, ruleAt}
 use Prim.Native.Nat.{_+_}
 use native.Mathlib.Omega.{arith}

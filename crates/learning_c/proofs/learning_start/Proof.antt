@@ -1,4 +1,4 @@
--- `learning_c::learning_start` meets its contract.
+-- `learning_c::learning_start` meets its contract: a grammar that is refused is answered by 0, and a sound one is ready for the question, as in `startOf`.
 use borrow.Author.Needs.{needs}
 use Rattle.derivation.proofs.ReadyLaws.{sound-ready}
 use Rattle.learning_c.proofs.QuestionLaws.{start-refused, start-asked}

@@ -1,4 +1,4 @@
--- `learning_c::start` meets its contract.
+-- `learning_c::start` meets its contract: each way out, a cache too short, a decision that is known or one that is not, is one case of `startIn`.
 use borrow.Author.Needs.{needs}
 use native.Mathlib.Omega.{arith}
 use denote.Ref.{now}

@@ -1,4 +1,4 @@
--- `learning_c::step` meets its contract.
+-- `learning_c::step` meets its contract: each way out, a token too high, a slot that is there or one that is not, is one case of `stepIn`.
 use borrow.Author.Needs.{needs}
 use native.Mathlib.Omega.{arith}
 use denote.Ref.{now}

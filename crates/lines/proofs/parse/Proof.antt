@@ -1,4 +1,5 @@
--- `lines::parse` meets its contract.
+-- `lines::parse` meets its contract: the tokens put down and what is left of the line give what the whole line says (`Going`), and each way out is one case of
+-- `lineOf`.
 use mathlib.Core.Path.{_≡_, refl}
 use Prim.Native.Nat.{_-_, _≤_}
 use native.Mathlib.Omega.{arith}

@@ -1,4 +1,4 @@
--- `notes::answer` is safe and ends.
+-- `notes::answer` is safe and ends: a note that was parsed has no more tokens than the array has words.
 use mathlib.Core.Path.{sym}
 use native.Mathlib.Omega.{arith}
 use lib.Seq.{length-take-le}

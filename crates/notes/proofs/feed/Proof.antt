@@ -1,4 +1,4 @@
--- `notes::feed` meets its contract.
+-- `notes::feed` meets its contract: each byte leaves at most maxKept bytes kept, and so does the last.
 use mathlib.Core.Path.{_≡_, refl}
 use Prim.Native.Nat.{_-_, _≤_}
 use native.Mathlib.Omega.{arith}

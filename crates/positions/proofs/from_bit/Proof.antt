@@ -1,4 +1,5 @@
--- `positions::from_bit` meets its contract.
+-- `positions::from_bit` meets its contract: the word shifted by k is empty, and then no bit from k on is set, or its trailing zeros lead to the lowest such
+-- bit.
 use Prim.Native.Nat.{_/_, _^_}
 use native.Mathlib.Omega.{arith}
 use lib.Count.{trailing-le}

@@ -1,4 +1,5 @@
--- `positions::join` meets its contract.
+-- `positions::join` meets its contract: the set at `at` is read, joined and put back; where the two sets have the same words, nothing had to be put, and else a
+-- word grew.
 use native.Mathlib.Omega.{arith}
 use Rattle.positions.proofs.JoinLaws.{join-same, join-grown}
 use borrow.Author.Needs.{needs}

@@ -1,4 +1,4 @@
--- `positions::next` meets its contract.
+-- `positions::next` meets its contract: words are searched from the one of `from` on, and every word passed had no member from `from` on (`Clear`).
 use Prim.Native.Nat.{_+_, _-_, _*_, _≤_, _<_}
 use native.Mathlib.Omega.{arith}
 use Rattle.positions.specs.Positions.{setWords}

@@ -1,4 +1,5 @@
--- `reader::productions` meets its contract.
+-- `reader::productions` meets its contract: what is left of the productions leaves the same as all of them did at the start; a turn reads one, and each way out
+-- is one case of `productionsOf`.
 use native.Mathlib.Omega.{arith}
 use borrow.Author.Needs.{needs}
 use mathlib.Core.Path.{_≡_}

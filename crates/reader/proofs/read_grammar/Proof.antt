@@ -1,4 +1,5 @@
--- `reader::read_grammar` meets its contract.
+-- `reader::read_grammar` meets its contract: each way out is one case of `passOf`; the two counts are within limits once they are read, which the rest of the
+-- pass asks for.
 use Rattle.reader.proofs.PassSteps.{pass-kinds, pass-count, pass-rules, pass-trailing, pass-whole, rules-end}
 use Rattle.number.proofs.NumberLaws.{limited-is}
 use native.Mathlib.Omega.{arith}

@@ -1,4 +1,5 @@
--- `reader::rules` meets its contract.
+-- `reader::rules` meets its contract: what is left of the nonterminals leaves the same as all of them did at the start; there are never more productions than
+-- places, so each has its word.
 use native.Mathlib.Omega.{arith}
 use borrow.Author.Needs.{needs}
 use mathlib.Core.Path.{_≡_, refl}

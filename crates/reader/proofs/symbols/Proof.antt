@@ -1,4 +1,5 @@
--- `reader::symbols` meets its contract.
+-- `reader::symbols` meets its contract: what is left of the symbols leaves the same as all of them did at the start, and a legal symbol within the limits has a
+-- code that fits its word.
 use native.Mathlib.Omega.{arith}
 use borrow.Author.Needs.{needs}
 use mathlib.Core.Path.{_≡_}

@@ -1,4 +1,5 @@
--- `closures::closure::all_pass` meets its contract.
+-- `closures::closure::all_pass` meets its contract: the answer for the rest of the production is the answer for the whole of it; each way out is what `passes`
+-- says of the symbol that is faced.
 use native.Mathlib.Omega.{arith}
 use borrow.Author.Needs.{needs}
 use mathlib.Core.Path.{_≡_}

@@ -1,4 +1,5 @@
--- `closures::closure::derivers` meets its contract.
+-- `closures::closure::derivers` meets its contract: passes only add what derives, so a pass that adds nothing, or one that leaves nothing out, ends at the
+-- closure; what two passes leave open, rounds settle.
 use borrow.Author.Needs.{needs}
 use mathlib.Core.Path.{sym, _∙_}
 use Rattle.grammar.specs.Tables.{grammarIn}

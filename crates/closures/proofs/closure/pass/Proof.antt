@@ -1,4 +1,4 @@
--- `closures::closure::pass` meets its contract.
+-- `closures::closure::pass` meets its contract: what is left of the pass gives the same as the whole pass did at the start, and a turn is one step of `passOf`.
 use mathlib.Core.Path.{_≡_, ap}
 use Prim.Native.Nat.{ℕ, _≤_}
 use native.Mathlib.Omega.{arith}

@@ -1,4 +1,4 @@
--- `closures::closure::some_passes` meets its contract.
+-- `closures::closure::some_passes` meets its contract: no production before k passes, so the productions from k on decide, and the first that passes answers.
 use native.Mathlib.Omega.{arith}
 use borrow.Author.Needs.{needs}
 use mathlib.Core.Path.{_≡_}

@@ -1,4 +1,4 @@
--- `closures::closure::step` meets its contract.
+-- `closures::closure::step` meets its contract: each way out is one case of `stepOf`.
 use Rattle.closures.proofs.ClosureSteps.{step-has, step-adds, step-stays}
 use borrow.Author.Needs.{needs}
 use Rattle.closures.proofs.closure.step.Statement.{statement}

@@ -1,4 +1,5 @@
--- `closures::rounds::by_rounds` meets its contract.
+-- `closures::rounds::by_rounds` meets its contract: rounds only add what derives, so sets grow as numbers and the loop ends; a round that adds nothing ends at
+-- the closure.
 use borrow.Author.Needs.{needs}
 use mathlib.Core.Path.{sym, _∙_}
 use Prim.Native.Nat.{_<_, _-_, _^_}

@@ -1,4 +1,5 @@
--- `closures::rounds::need_from` meets its contract.
+-- `closures::rounds::need_from` meets its contract: the need so far and that of the rest of the production together are that of the whole; where a token does
+-- not pass, no set will do.
 use borrow.Author.Needs.{needs}
 use Prim.Native.Nat.{_-_}
 use native.Mathlib.Omega.{arith}

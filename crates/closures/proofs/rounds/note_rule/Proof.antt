@@ -1,4 +1,5 @@
--- `closures::rounds::note_rule` meets its contract.
+-- `closures::rounds::note_rule` meets its contract: a's productions before word k are noted, and those of the nonterminals below stay noted, for no two
+-- nonterminals share a word.
 use borrow.Author.Needs.{needs}
 use mathlib.Core.Path.{_≡_, refl}
 use Prim.Native.Nat.{suc, _+_, _-_, _≤_, _<_}

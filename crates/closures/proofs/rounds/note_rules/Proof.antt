@@ -1,4 +1,4 @@
--- `closures::rounds::note_rules` meets its contract.
+-- `closures::rounds::note_rules` meets its contract: the nonterminals below a are noted, at the start none, at the end all.
 use borrow.Author.Needs.{needs}
 use mathlib.Core.Path.{_≡_}
 use Prim.Native.Nat.{_-_, _≤_}

@@ -1,4 +1,4 @@
--- `closures::rounds::round` meets its contract.
+-- `closures::rounds::round` meets its contract: the first k productions are judged, as in `roundOf`.
 use borrow.Author.Needs.{needs}
 use mathlib.Core.Path.{_≡_, refl, ap, _∙_}
 use Prim.Native.Nat.{ℕ, _≤_, _-_}

@@ -1,4 +1,4 @@
--- `number::Cursor::limited` meets its contract.
+-- `number::Cursor::limited` meets its contract: each way out, a number refused, too low, too high or good, is one case of `limitedAt`.
 use Rattle.number.proofs.NumberLaws.{limited-refused, limited-below, limited-above, limited-in}
 use native.Mathlib.Omega.{arith}
 use borrow.Author.Needs.{needs}

@@ -1,4 +1,4 @@
--- `number::Cursor::symbol` meets its contract.
+-- `number::Cursor::symbol` meets its contract: each way out, a number refused, an illegal symbol or a legal one, is one case of `symbolAt`.
 use Rattle.number.proofs.NumberLaws.{symbol-refused, symbol-illegal, symbol-in}
 use borrow.Author.Needs.{needs}
 use Rattle.number.proofs.Cursor.symbol.Statement.{statement}

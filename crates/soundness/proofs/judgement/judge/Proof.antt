@@ -1,4 +1,4 @@
--- `soundness::judgement::judge` meets its contract.
+-- `soundness::judgement::judge` meets its contract: each way out, 6 refused or 7 asked, is one case of `judgeOf`.
 use borrow.Author.Needs.{needs}
 use Rattle.soundness.proofs.Judging.{judge-first, judge-second}
 use Rattle.soundness.proofs.judgement.judge.Statement.{statement}

@@ -1,4 +1,5 @@
--- `soundness::judgement::left_recursive` meets its contract.
+-- `soundness::judgement::left_recursive` meets its contract: rows that say where one move leads, closed by Warshall, say where one or more do, so a row that
+-- holds its own nonterminal is left recursion.
 use mathlib.Core.Path.{_∙_}
 use Rattle.soundness.proofs.Judging.{recursive-is}
 use borrow.Author.Needs.{needs}

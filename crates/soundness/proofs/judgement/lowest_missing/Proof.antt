@@ -1,4 +1,5 @@
--- `soundness::judgement::lowest_missing` meets its contract.
+-- `soundness::judgement::lowest_missing` meets its contract: no nonterminal before the one looked at is missing, so the search from there on gives what the
+-- whole search gives.
 use borrow.Author.Needs.{needs}
 use mathlib.Core.Path.{_≡_, ap, sym, _∙_}
 use mathlib.Core.Bool.{not}

@@ -1,4 +1,5 @@
--- `soundness::judgement::lowest_own` meets its contract.
+-- `soundness::judgement::lowest_own` meets its contract: no row before the one looked at holds its own nonterminal, so the search from there on gives what the
+-- whole search gives.
 use borrow.Author.Needs.{needs}
 use mathlib.Core.Path.{_≡_, ap, sym, _∙_}
 use Prim.Native.Nat.{_≤_, _-_}

@@ -1,4 +1,5 @@
--- `soundness::judgement::unproductive` meets its contract.
+-- `soundness::judgement::unproductive` meets its contract: the set holds exactly the nonterminals that derive some row of tokens, so the lowest that it misses
+-- is the lowest of 6.
 use Rattle.soundness.proofs.Judging.{unproductive-is}
 use mathlib.Core.Path.{_∙_}
 use borrow.Author.Needs.{needs}
