@@ -23,8 +23,14 @@ nonterminals-requires c κs = search needs
 
 loop-holds : tie.Need-loop-holds Inv-loop μ-loop
 loop-holds c =
-    let at-entry = c .before .before .before .before in
-    (omega arith, c .nonterminals .ensures, omega arith, at-entry .pre .needs-long, rw (at-entry .pre .owners-none), rw (at-entry .pre .owners-none) (noted-none _ _ _ _ _ rowWords))
+    let at-entry = c .before .before .before .before in (
+      omega arith,
+      c .nonterminals .ensures,
+      omega arith,
+      at-entry .pre .needs-long,
+      rw (at-entry .pre .owners-none),
+      rw (at-entry .pre .owners-none) (noted-none _ _ _ _ _ rowWords),
+    )
 
 note-rule-requires : tie.Need-note-rule-requires Inv-loop μ-loop
 note-rule-requires c κs = search needs
