@@ -38,7 +38,8 @@ pub extern "C" fn allstar_plain(
     place: &mut u64,
     count: &mut u64,
 ) -> u32
-    ensures { λ r. ⌜ answer r (now (place .exit)) (now (count .exit)) (now (row .exit)) ≡ plainReading (now (grammar .entry)) (now (note .entry)) (now (row .entry)) (length (now (workspace .entry))) ⌝ }
+    ensures { λ r. ⌜ answer r (now (place .exit)) (now (count .exit)) (now (row .exit))
+        ≡ plainReading (now (grammar .entry)) (now (note .entry)) (now (row .entry)) (length (now (workspace .entry))) ⌝ }
 {
     let reading = plain::plain(grammar, note, row, workspace);
     *place = reading.place() as u64;
@@ -58,7 +59,8 @@ pub extern "C" fn allstar_quick(
     place: &mut u64,
     count: &mut u64,
 ) -> u32
-    ensures { λ r. ⌜ reply (answer r (now (place .exit)) (now (count .exit)) (now (row .exit))) (now (cache .exit)) ≡ quickReading (now (grammar .entry)) (now (note .entry)) (now (row .entry)) (length (now (workspace .entry))) (now (cache .entry)) ⌝ }
+    ensures { λ r. ⌜ reply (answer r (now (place .exit)) (now (count .exit)) (now (row .exit))) (now (cache .exit))
+        ≡ quickReading (now (grammar .entry)) (now (note .entry)) (now (row .entry)) (length (now (workspace .entry))) (now (cache .entry)) ⌝ }
 {
     let reply = quick::quick(grammar, note, row, cache, workspace);
     *place = reply.place() as u64;
