@@ -7,6 +7,18 @@ ghost use Rattle.grammar.specs.Tables.{wordOf, symbolOf, placeOf, gramma
 ghost use Rattle.grammar.specs.Limits.{maxNonterminals};
 ghost use Rattle.grammar.specs.Decode.{written};
 
+// The limits of a grammar: the highest token kind, nonterminals, productions of a nonterminal, symbols of a production, places of all productions.
+// specs/Limits has the same.
+pub const MAX_KINDS: usize = 100;
+
+pub const MAX_NONTERMINALS: usize = 32;
+
+pub const MAX_PRODUCTIONS: usize = 16;
+
+pub const MAX_LENGTH: usize = 30;
+
+pub const MAX_PLACES: usize = 255;
+
 // The place behind the start symbol, where the end mark is due; it is the last that the tables hold.
 pub const END_PLACE: usize = 255;
 
