@@ -25,7 +25,7 @@ use Rattle.derivation.proofs.Entries.{open-start}
 use Rattle.derivation.proofs.FrameWords.{pushed-returns}
 use Rattle.derivation.proofs.ReadyLaws.{ready-ordered, ready-first}
 use Rattle.derivation.proofs.MarkedCells.{length-marked, derives-inside}
-use Rattle.chart.specs.Chart.{Lent, Charted}
+use Rattle.cells.specs.Chart.{Lent, Charted}
 use Rattle.plain.specs.Frames.{frameHas, Good, Serving, pushOf}
 use Rattle.plain.specs.Choice.{orZero, lowestIn}
 use Rattle.plain.specs.Machine.{Named, pushIf, ground, readingOf, Ran}

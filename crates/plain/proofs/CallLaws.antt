@@ -26,7 +26,7 @@ use Rattle.derivation.proofs.Notes.{get-lt}
 use Rattle.derivation.proofs.LowestLaws.{lowest-serves}
 use Rattle.derivation.proofs.MarkedCells.{derives-inside}
 use Rattle.derivation.proofs.ReadyLaws.{ready-first, ready-call, ready-next}
-use Rattle.chart.specs.Chart.{Lent, LentAt, EndsOf}
+use Rattle.cells.specs.Chart.{Lent, LentAt, EndsOf}
 use Rattle.derivation.proofs.FirstLaws.{rule-within, rules-are, first-at}
 use Rattle.plain.specs.Frames.{Serving, pushOf}
 use Rattle.plain.specs.Choice.{Leading, endsIn, orZero, lowestIn}

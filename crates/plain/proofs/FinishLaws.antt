@@ -37,7 +37,7 @@ use Rattle.derivation.specs.Ready.{Ready}
 use Rattle.derivation.proofs.CellLaws.{runs-iff}
 use Rattle.derivation.proofs.LowestLaws.{lowest-serves}
 use Rattle.derivation.proofs.ReadyLaws.{verdict-is, sound-judged}
-use Rattle.chart.specs.Chart.{Lent, Charted}
+use Rattle.cells.specs.Chart.{Lent, Charted}
 use Rattle.plain.specs.Choice.{orZero, lowestIn}
 use Rattle.plain.specs.Machine.{outcomeIn, Ran}
 use Rattle.plain.specs.Reading.{answered, tokensOf}

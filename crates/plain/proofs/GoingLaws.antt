@@ -25,7 +25,7 @@ use Rattle.derivation.proofs.CompiledDepth.{end-quiet, compile-reads}
 use Rattle.derivation.proofs.FrameWords.{Held, held-pop, held-match, held-pick, held-room, room, pushed-returns, returns-length}
 use Rattle.derivation.proofs.ReadyLaws.{ready-ordered, ready-call}
 use Rattle.derivation.proofs.MarkedCells.{length-marked}
-use Rattle.chart.specs.Chart.{Lent, Charted}
+use Rattle.cells.specs.Chart.{Lent, Charted}
 use Rattle.plain.specs.Frames.{frameHas, EveryFrame}
 use Rattle.plain.specs.Machine.{ground}
 use Rattle.plain.specs.Going.{after, steps, onward, Going}

@@ -10,7 +10,7 @@ use Rattle.derivation.specs.Runs.{marked}
 use Rattle.derivation.specs.Machine.{lowest, Outcome, prefix, run}
 use Rattle.derivation.specs.Space.{returnsOf}
 use Rattle.derivation.proofs.FrameWords.{Held}
-use Rattle.chart.specs.Chart.{Lent, Charted}
+use Rattle.cells.specs.Chart.{Lent, Charted}
 use Rattle.plain.specs.Frames.{EveryFrame, Good}
 use Rattle.plain.specs.Machine.{ground}
 

@@ -11,7 +11,7 @@ use Rattle.derivation.specs.Runs.{marked}
 use Rattle.derivation.specs.Cells.{derives?, runs?}
 use Rattle.derivation.specs.Machine as machine
 use Rattle.derivation.specs.Space.{frameWords, returnsOf, Pushed}
-use Rattle.chart.specs.Chart.{cellsEnd, Charted}
+use Rattle.cells.specs.Chart.{cellsEnd, Charted}
 use Rattle.plain.specs.Frames.{frameHas, pushOf}
 use Rattle.plain.specs.Choice.{orZero}
 use Rattle.plain.specs.declared.machine.Outcome.{Outcome}

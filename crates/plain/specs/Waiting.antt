@@ -9,7 +9,7 @@ use Rattle.grammar.specs.Grammar.{facing}
 use Rattle.grammar.specs.Tables.{grammarIn}
 use Rattle.derivation.specs.Runs.{marked}
 use Rattle.derivation.proofs.FrameWords.{Held}
-use Rattle.chart.specs.Chart.{Lent, Charted}
+use Rattle.cells.specs.Chart.{Lent, Charted}
 use Rattle.plain.specs.Frames.{EveryFrame, Good}
 use Rattle.plain.specs.Machine.{ground}
 

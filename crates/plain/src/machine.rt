@@ -10,7 +10,7 @@ ghost use Rattle.grammar.specs.Limits.{endPlace};
 ghost use Rattle.grammar.specs.Grammar.{first};
 ghost use Rattle.grammar.specs.Tables.{grammarIn, nonterminalsIn};
 ghost use Rattle.derivation.specs.Ready.{Ready};
-ghost use Rattle.chart.specs.Chart.{Lent, LentAt, Charted};
+ghost use Rattle.cells.specs.Chart.{Lent, LentAt, Charted};
 ghost use Rattle.plain.specs.Choice.{lowestIn};
 ghost use Rattle.plain.specs.Machine.{Named, Roomy, pushIf, ground, Called, readingOf, Ran};
 ghost use Rattle.plain.specs.Going.{Going};
@@ -70,7 +70,7 @@ pub fn call(
     requires { ⌜ Ready (now tables) × (places ≡ grammarIn (now tables) .size) × (base ≡ ground (now tables) (now note)) × Waiting (now tables) (now note) (now ws) d p a i ⌝ }
     ensures { λ r. ⌜ Called (now (tables .entry)) (now (note .entry)) (now (ws .entry)) (now (ws .exit)) d p a i r ⌝ }
 {
-    let ends = chart::ends_of(tables, ws, places, a, i);
+    let ends = cells::ends_of(tables, ws, a, i);
     let rest = crate::frames::rest(ws, base, d - 1);
     let s = crate::choice::serving(ws, places, note.len(), ends, p + 1, rest);
     choose(tables, ws, places, base, d, p + 1, a, i, s)

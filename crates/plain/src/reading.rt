@@ -12,7 +12,7 @@ ghost use Rattle.grammar.specs.Tables.{grammarIn};
 ghost use Rattle.derivation.specs.Ready.{Ready};
 ghost use Rattle.derivation.specs.Plain.{sentence?, clear, onOutcome, readNote, from11, from8, plainReading};
 ghost use Rattle.derivation.specs.ReachRounds.{wrongPlace};
-ghost use Rattle.chart.specs.Chart.{Lent, Charted};
+ghost use Rattle.cells.specs.Chart.{Lent, Charted};
 ghost use Rattle.plain.specs.Machine.{outcomeIn, Counted};
 ghost use Rattle.plain.specs.Reading.{readingNumber, readingPlace, readingCount, answered};
 
@@ -119,7 +119,7 @@ fn no_sentence(tables: &[u16], note: &[u16], row: &mut [u16], ws: &[u32], places
     ensures { λ r. ⌜ answered r (now (row .exit)) ≡ clear 10 (wrongPlace (grammarIn (now (tables .entry))) (now (note .entry))) (now (row .entry)) ⌝ }
 {
     clear_from(row, 0);
-    let wrong = reach::wrong_place(tables, note, ws, places);
+    let wrong = reach::wrong_place(tables, note, ws);
     Reading::NoSentence(wrong)
 }
 
@@ -156,7 +156,7 @@ fn read(tables: &[u16], note: &[u16], row: &mut [u16], ws: &mut [u32], places: u
     requires { ⌜ Ready (now tables) × (places ≡ grammarIn (now tables) .size) × Lent places (length (now note)) (now ws) ⌝ }
     ensures { λ r. ⌜ answered r (now (row .exit)) ≡ readNote (grammarIn (now (tables .entry))) (now (note .entry)) (now (row .entry)) ⌝ }
 {
-    chart::fill(tables, note, ws, places);
+    chart::fill(tables, note, ws);
     let outcome = crate::machine::run(tables, note, row, ws, places);
     finish(tables, note, row, ws, places, outcome)
 }

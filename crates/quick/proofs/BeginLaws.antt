@@ -22,7 +22,7 @@ use Rattle.derivation.proofs.ReadyLaws.{ready-first}
 use Rattle.derivation.proofs.MarkedCells.{derives-inside}
 use Rattle.cache.specs.Recording.{learned}
 use Rattle.cache.specs.Predict.{predict}
-use Rattle.chart.specs.Chart.{Lent, Filled}
+use Rattle.cells.specs.Chart.{Lent, Filled}
 use Rattle.plain.specs.Frames.{Serving}
 use Rattle.plain.specs.Choice.{orZero, lowestIn}
 use Rattle.plain.specs.Machine.{pushIf, ground}

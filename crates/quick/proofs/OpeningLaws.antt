@@ -18,7 +18,7 @@ use Rattle.derivation.proofs.Entries.{open-start}
 use Rattle.derivation.proofs.ReadyLaws.{ready-ordered}
 use Rattle.derivation.proofs.MarkedCells.{length-marked}
 use Rattle.words.specs.Layout.{minWords}
-use Rattle.chart.specs.Chart.{Lent}
+use Rattle.cells.specs.Chart.{Lent}
 use Rattle.plain.specs.Frames.{Good}
 use Rattle.plain.specs.Machine.{ground}
 use Rattle.plain.specs.Going.{after, steps}

@@ -4,7 +4,7 @@ use mathlib.Core.List.{List}
 use Prim.Native.Nat.{ℕ}
 use lib.ListN.{length}
 use Rattle.grammar.specs.Grammar.{Grammar}
-use Rattle.chart.specs.Chart.{Charted}
+use Rattle.cells.specs.Chart.{Charted}
 use Rattle.plain.specs.declared.reading.Reading.{Reading}
 use Rattle.plain.specs.Reading as plain
 use Rattle.quick.specs.Quick.{Reply, reply, quickNote, answered}

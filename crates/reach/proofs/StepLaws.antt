@@ -23,7 +23,7 @@ use Rattle.derivation.proofs.Notes.{get-lt}
 use Rattle.derivation.proofs.RunLaws.{der-le, der-in}
 use Rattle.derivation.proofs.CellLaws.{derives-sound, derives-complete}
 use Rattle.derivation.proofs.ReadyLaws.{ready-first, ready-next, ready-size}
-use Rattle.chart.specs.Chart.{cellHas, ChartedFrom, Charted, EndsOf}
+use Rattle.cells.specs.Chart.{cellHas, ChartedFrom, Charted, EndsOf}
 use Rattle.derivation.proofs.FirstLaws.{get-some}
 use Rattle.reach.specs.Sets.{Inside, Added, PointOf}
 use Rattle.reach.specs.Passes.{Opening, Leads, match, call, return}

@@ -13,7 +13,7 @@ use Rattle.positions.specs.Words.{total}
 use Rattle.derivation.specs.Ready.{Ready}
 use Rattle.derivation.specs.Runs.{Der}
 use Rattle.derivation.specs.Viable.{Reach}
-use Rattle.chart.specs.Chart.{Lent, Charted}
+use Rattle.cells.specs.Chart.{Lent, Charted}
 use Rattle.reach.specs.Sets.{Inside, stands}
 
 -- what the code goes by: tables of P places, a note w, and its derivation cells

@@ -75,7 +75,7 @@ fn step(
             mark(sets, p + 1, i + 1)
         }
         Symbol::Nonterminal(a) => {
-            let ends = chart::ends_of(tables, ws, places, a, i);
+            let ends = cells::ends_of(tables, ws, a, i);
             let entered = enter(tables, sets, a, i);
             let returned = positions::join(sets, positions::WORDS * (p + 1), ends);
             entered || returned

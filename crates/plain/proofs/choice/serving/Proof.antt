@@ -1,9 +1,9 @@
 -- `plain::choice::serving` meets its contract.
-use Rattle.chart.proofs.ThroughLaws.{next-behind}
+use Rattle.cells.proofs.ThroughLaws.{next-behind}
 use Prim.Native.Nat.{_-_}
 use native.Mathlib.Omega.{arith}
 use borrow.Author.Needs.{needs}
-use Rattle.chart.proofs.Spots.{spot-in}
+use Rattle.cells.proofs.Spots.{spot-in}
 use Rattle.plain.proofs.ChoiceLoops.{Keeping, keeping-begins, keeping-with, keeping-same, keeping-ends}
 use Rattle.plain.proofs.choice.serving.Statement.{statement}
 use Rattle.plain.proofs.choice.serving.Tie as tie

@@ -1,7 +1,7 @@
 -- `plain::reading::read` meets its contract.
 use mathlib.Core.Path.{_∙_}
 use borrow.Author.Needs.{needs}
-use Rattle.chart.proofs.Spots.{lent-kept}
+use Rattle.cells.proofs.Spots.{lent-kept}
 use Rattle.plain.proofs.FinishLaws.{read-is}
 use Rattle.plain.proofs.reading.read.Statement.{statement}
 use Rattle.plain.proofs.reading.read.Tie as tie
