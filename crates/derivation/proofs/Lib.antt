@@ -32,3 +32,4 @@ pub mod MachineDepth
 pub mod ReadyLaws
 pub mod FirstLaws
 pub mod MarkedCells
+pub mod TokenLaws
