@@ -17,7 +17,8 @@ use Rattle.configurations.specs.Packing.{packAll}
 use Rattle.words.specs.Layout.{slots, stepAt, fullWord, stateWord}
 use Rattle.words.specs.Words.{word, held, startOf, stepOf, decision, keptWords, keptIn, setStart, setStep}
 use Rattle.cache.specs.Recording.{learned, find, recordNew, recordOutcome, askStart, askStep}
-use Rattle.cache.specs.Coherent.{Decides, Coherent, Extends}
+use Rattle.cache.specs.Predictor.{Decides}
+use Rattle.cache.specs.Coherent.{Coherent, Extends}
 use Rattle.cache.proofs.SuitLaws.{Suits}
 use Rattle.cache.proofs.ExtendLaws.{extends-trans, kept-extends}
 use Rattle.cache.proofs.FieldLaws.{Field, of-start, of-step, field-cell, field-extends, field-says, recorded-stays}

@@ -1,56 +1,65 @@
 -- What a word means, and where a prediction goes from there, over any words.
-use mathlib.Core.Path.{_≡_, refl}
+use mathlib.Core.Path.{_≡_, refl, ap, _∙_}
+use mathlib.Core.Bool.{false}
 use mathlib.Core.List.{List, [], _∷_}
-use Prim.Native.Nat.{ℕ, _-_, _≤_, _<_}
+use Prim.Native.Nat.{ℕ, zero, suc, _-_, _≤_, _<_}
 use native.Mathlib.Omega.{arith}
+use lib.Dec.{ltb, leb}
 use lib.ListN.{length}
-use borrow.Author.Tests.{lt-ltb, le-ltb}
-use Rattle.grammar.specs.Limits.{maxProductions}
-use Rattle.grammar.specs.Grammar.{Grammar}
+use borrow.Author.Tests.{lt-ltb, le-ltb, le-leb, lt-leb}
+use Rattle.base.proofs.Booleans.{and-none}
+use Rattle.grammar.specs.Grammar.{Grammar, alternatives}
 use Rattle.words.specs.Layout.{slots, fullWord, stateWord}
+use Rattle.cache.specs.declared.prediction.Forecast.the-variants.{Alternative, Full}
+use Rattle.cache.specs.Predictor.{predicted}
 use Rattle.cache.specs.Recording.{Learned, learned, askStep}
-use Rattle.cache.specs.Predict.{chosen, undecided, at, meaning, follow}
+use Rattle.cache.specs.Predict.{Meaning, chosen, undecided, at, meaning, meaningOf, follow}
 
 -- ---- words
-pub meaning-full : (n : ℕ) → meaning n fullWord ≡ undecided
+-- what tells no state and none of n alternatives says FULL
+pub meaning-none : (n k w : ℕ) → w ≤ fullWord → (0 < w → n < w) → meaning n k w ≡ undecided
 unfolding meaning
-meaning-full n = refl
-
-pub meaning-none : (n : ℕ) → meaning n 0 ≡ undecided
-unfolding meaning
-meaning-none n = refl
+meaning-none n k zero l h = refl
+meaning-none n k (suc w) l h = rw (le-ltb fullWord (suc w) l, lt-leb (suc w) n (h (omega arith)), and-none (ltb 0 (suc w)))
 
 -- no state has that many slots
-pub meaning-beyond : (n w : ℕ) → fullWord < w → n ≤ w - stateWord 0 → meaning n w ≡ undecided
+pub meaning-beyond : (n k w : ℕ) → fullWord < w → k ≤ w - stateWord 0 → meaning n k w ≡ undecided
 unfolding meaning
-meaning-beyond n w l h = rw (lt-ltb 0 w (omega arith), le-ltb w fullWord (omega arith), lt-ltb fullWord w l, le-ltb (w - stateWord 0) n h)
+meaning-beyond n k w l h = rw (lt-ltb fullWord w l, le-ltb (w - stateWord 0) k h)
 
-pub meaning-chosen : (n b : ℕ) → 1 ≤ b → b ≤ maxProductions → meaning n b ≡ chosen b
+pub meaning-chosen : (n k b : ℕ) → 1 ≤ b → b ≤ n → b ≤ fullWord → meaning n k b ≡ chosen b
 unfolding meaning
-meaning-chosen n b l h = rw (lt-ltb 0 b l, lt-ltb b fullWord (omega arith))
+meaning-chosen n k b l h m = rw (le-ltb fullWord b m, lt-ltb 0 b l, le-leb b n h)
 
-pub meaning-state : (n w s : ℕ) → w ≡ stateWord s → s < n → meaning n w ≡ at s
+pub meaning-state : (n k w s : ℕ) → w ≡ stateWord s → s < k → meaning n k w ≡ at s
 unfolding meaning
-meaning-state n w s e l =
-    let d : w - stateWord 0 ≡ s = omega arith in
-    rw (lt-ltb 0 w (omega arith), le-ltb w fullWord (omega arith), lt-ltb fullWord w (omega arith), d, lt-ltb s n l)
+meaning-state n k w s e l = let d : w - stateWord 0 ≡ s = omega arith in rw (lt-ltb fullWord w (omega arith), d, lt-ltb s k l)
 
 -- ---- predictions
 module _ (g : Grammar) where
-  pub follow-unsure : (ts : List ℕ) (a : ℕ) (l : Learned) → meaning (slots (length (l .words))) (l .said) ≡ undecided → follow g a ts l ≡ learned fullWord (l .words)
+  -- the same word means the same over words of the same length
+  pub meaning-same : (a : ℕ) (l : Learned) (d : List ℕ) → length d ≡ length (l .words) → meaningOf g a (learned (l .said) d) ≡ meaningOf g a l
+  unfolding meaningOf
+  meaning-same a l d n = ap (λ (k : ℕ). meaning (length (alternatives g a)) (slots k) (l .said)) n
+
+  pub meaning-is : (a : ℕ) (l : Learned) → meaningOf g a l ≡ meaning (length (alternatives g a)) (slots (length (l .words))) (l .said)
+  unfolding meaningOf
+  meaning-is a l = refl
+
+  pub follow-unsure : (ts : List ℕ) (a : ℕ) (l : Learned) → meaningOf g a l ≡ undecided → follow g a ts l ≡ predicted Full (l .words)
   unfolding follow
   follow-unsure [] a l e = rw (follow, e)
   follow-unsure (t ∷ ts) a l e = rw (follow, e)
 
-  pub follow-sure : (ts : List ℕ) (a b : ℕ) (l : Learned) → meaning (slots (length (l .words))) (l .said) ≡ chosen b → follow g a ts l ≡ learned b (l .words)
+  pub follow-sure : (ts : List ℕ) (a b : ℕ) (l : Learned) → meaningOf g a l ≡ chosen b → follow g a ts l ≡ predicted (Alternative b) (l .words)
   unfolding follow
   follow-sure [] a b l e = rw (follow, e)
   follow-sure (t ∷ ts) a b l e = rw (follow, e)
 
-  pub follow-over : (a s : ℕ) (l : Learned) → meaning (slots (length (l .words))) (l .said) ≡ at s → follow g a [] l ≡ learned fullWord (l .words)
+  pub follow-over : (a s : ℕ) (l : Learned) → meaningOf g a l ≡ at s → follow g a [] l ≡ predicted Full (l .words)
   unfolding follow
   follow-over a s l e = rw (follow, e)
 
-  pub follow-on : (t : ℕ) (ts : List ℕ) (a s : ℕ) (l : Learned) → meaning (slots (length (l .words))) (l .said) ≡ at s → follow g a (t ∷ ts) l ≡ follow g a ts (askStep g (l .words) a s t)
+  pub follow-on : (t : ℕ) (ts : List ℕ) (a s : ℕ) (l : Learned) → meaningOf g a l ≡ at s → follow g a (t ∷ ts) l ≡ follow g a ts (askStep g (l .words) a s t)
   unfolding follow
   follow-on t ts a s l e = rw (follow, e)

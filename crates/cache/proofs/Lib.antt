@@ -12,6 +12,9 @@ pub mod RecordLaws
 pub mod AgainLaws
 pub mod BeginLaws
 pub mod FollowLaws
+pub mod ForecastLaws
 pub mod PredictLaws
+pub mod PredictorLaws
 pub mod StateSteps
 pub mod AskSteps
+pub mod PredictSteps

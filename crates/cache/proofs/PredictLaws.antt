@@ -1,12 +1,16 @@
 -- Predictions over coherent words: they keep the words coherent, agree with every derivation, and say the same again over words that have only grown.
 use mathlib.Core.Path.{_≡_, refl, sym, subst, ap, _∙_}
 use mathlib.Core.Logic.{_⊎_, inl, inr}
+use mathlib.Core.Bool.{Bool, true, false}
 use mathlib.Core.Option.{some}
 use mathlib.Core.List.{List, [], _∷_, List·Memᴰ·head, List·Memᴰ·tail}
 use Prim.Native.Nat.{ℕ, suc, _-_, _≤_, _<_}
 use native.Mathlib.Omega.{arith}
+use lib.Dec.{ltb}
 use lib.ListN.{length, drop}
-use Rattle.grammar.specs.Grammar.{Grammar, first}
+use borrow.Author.Tests.{ltb-true, ltb-false}
+use Rattle.grammar.specs.Limits.{maxProductions}
+use Rattle.grammar.specs.Grammar.{Grammar, alternatives, first}
 use Rattle.grammar.specs.Ordered.{Ordered}
 use Rattle.derivation.specs.Runs.{Run}
 use Rattle.derivation.proofs.Notes.{get-of-drop, get-lt}
@@ -21,26 +25,47 @@ use Rattle.lookahead.proofs.Agreeing.{Allows, this, there, over, Marked, start-
 use Rattle.words.specs.Layout.{slots, fullWord}
 use Rattle.words.specs.Words.{held, decision, keptWords, keptIn}
 use Rattle.cache.specs.Recording.{Learned, learned, askStart, askStep}
-use Rattle.cache.specs.Predict.{chosen, undecided, at, meaning, follow, predict}
-use Rattle.cache.specs.Coherent.{Decides, Says, Coherent, Extends}
-use Rattle.cache.proofs.FollowLaws.{meaning-full, meaning-chosen, meaning-state, follow-unsure, follow-sure, follow-over, follow-on}
+use Rattle.cache.specs.declared.prediction.Forecast.the-variants.{Alternative}
+use Rattle.cache.specs.Predictor.{Predicted, predicted, FullOr}
+use Rattle.cache.specs.Predictor as predictor
+use Rattle.cache.specs.Predict.{chosen, undecided, at, meaning, meaningOf, follow, predict}
+use Rattle.cache.specs.Predictor.{Decides}
+use Rattle.cache.specs.Coherent.{Says, Coherent, Extends}
+use Rattle.cache.proofs.FollowLaws.{meaning-none, meaning-chosen, meaning-state, meaning-is, meaning-same, follow-unsure, follow-sure, follow-over, follow-on}
 use Rattle.cache.proofs.SuitLaws.{Suits}
 use Rattle.cache.proofs.ExtendLaws.{extends-refl, extends-trans}
 use Rattle.cache.proofs.RecordLaws.{Asked, ask-start, ask-step}
 use Rattle.cache.proofs.AgainLaws.{again-start, again-step}
 
 -- ---- what a word means
--- what the word w means of decision a, where it was said for the outcome o
-pub data Meant (c : List ℕ) (a w : ℕ) : Outcome → Type 0 where
-  unsure : {o : Outcome} → meaning (slots (length c)) w ≡ undecided → Meant c a w o
-  sure : (b : ℕ) → meaning (slots (length c)) w ≡ chosen b → Meant c a w (alternative b)
-  stands : (s : ℕ) (ks : List Config) → meaning (slots (length c)) w ≡ at s → s < held c → decision c s ≡ a → keptWords c s ≡ packAll ks → Meant c a w (state ks)
+-- what was said last of decision a means, where it was said for the outcome o
+pub data Meant (g : Grammar) (a : ℕ) (l : Learned) : Outcome → Type 0 where
+  unsure : {o : Outcome} → meaningOf g a l ≡ undecided → Meant g a l o
+  sure : (b : ℕ) → meaningOf g a l ≡ chosen b → Meant g a l (alternative b)
+  stands : (s : ℕ) (ks : List Config) → meaningOf g a l ≡ at s → s < held (l .words) → decision (l .words) s ≡ a → keptWords (l .words) s ≡ packAll ks
+      → Meant g a l (state ks)
 
-meant : {g : Grammar} {bytes c : List ℕ} {a w : ℕ} (o : Outcome) → Coherent g bytes c → (w ≡ fullWord) ⊎ Says c a w o → Meant c a w o
-meant {c = c} o h (inl e) = unsure (rw e (meaning-full (slots (length c))))
-meant {c = c} full h (inr e) = unsure (rw e (meaning-full (slots (length c))))
-meant {c = c} (alternative b) h (inr (e, l, m)) = sure b (rw e (meaning-chosen (slots (length c)) b l m))
-meant {c = c} {w = w} (state ks) h (inr (s, e, l, d, k)) = stands s ks (meaning-state (slots (length c)) w s e (omega (arith, h .held-fits))) l d k
+module _ (g : Grammar) (bytes : List ℕ) (a : ℕ) (few : length (alternatives g a) ≤ maxProductions) (l : Learned) where
+  said-full : l .said ≡ fullWord → meaningOf g a l ≡ undecided
+  said-full e = meaning-is g a l ∙ meaning-none (length (alternatives g a)) (slots (length (l .words))) (l .said) (omega arith) (λ _. omega arith)
+
+  -- an alternative that the nonterminal does not have counts as FULL
+  said-alternative : (b : ℕ) → l .said ≡ b → 1 ≤ b → b ≤ maxProductions → Meant g a l (alternative b)
+  said-alternative b e m n = go (ltb (length (alternatives g a)) b) refl
+    where
+      go : (x : Bool) → ltb (length (alternatives g a)) b ≡ x → Meant g a l (alternative b)
+      go true q = let h = ltb-true (length (alternatives g a)) b q in
+          unsure (meaning-is g a l ∙ meaning-none (length (alternatives g a)) (slots (length (l .words))) (l .said) (omega arith) (λ _. omega arith))
+      go false q = let h = ltb-false (length (alternatives g a)) b q in
+          sure b (meaning-is g a l ∙ (ap (meaning (length (alternatives g a)) (slots (length (l .words)))) e
+          ∙ meaning-chosen (length (alternatives g a)) (slots (length (l .words))) b m (omega arith) (omega arith)))
+
+  meant : (o : Outcome) → Coherent g bytes (l .words) → (l .said ≡ fullWord) ⊎ Says (l .words) a (l .said) o → Meant g a l o
+  meant o h (inl e) = unsure (said-full e)
+  meant full h (inr e) = unsure (said-full e)
+  meant (alternative b) h (inr (e, m, n)) = said-alternative b e m n
+  meant (state ks) h (inr (s, e, m, d, k)) =
+      stands s ks (meaning-is g a l ∙ meaning-state (length (alternatives g a)) (slots (length (l .words))) (l .said) s e (omega (arith, h .held-fits))) m d k
 
 -- ---- predictions
 module _ (g : Grammar) (bytes : List ℕ) (suits : Suits g bytes) where
@@ -49,27 +74,26 @@ module _ (g : Grammar) (bytes : List ℕ) (suits : Suits g bytes) where
   Tokens ts = Each (λ (t : ℕ). t ≤ g .kinds) ts
 
   -- coherent words, and all that c holds still stands in them
-  pub record Grown (c d : List ℕ) : Type 0 where
-    pub coherent : Coherent g bytes d
-    pub extends : Extends g c d
+  abbrev pub Grown : List ℕ → List ℕ → Type 0
+  Grown c d = predictor.Grown (Coherent g bytes) (Extends g) c d
 
-  asked-meant : {c : List ℕ} {a : ℕ} {o : Outcome} {l : Learned} → Asked g bytes c a o l → Meant (l .words) a (l .said) o
-  asked-meant {o = o} x = meant o (x .coherent) (x .says)
+  asked-meant : {c : List ℕ} {a : ℕ} {o : Outcome} {l : Learned} → Asked g bytes c a o l → Meant g a l o
+  asked-meant {a = a} {o = o} {l = l} x = meant g bytes a (suits .bounded .few a) l o (x .coherent) (x .says)
 
   still : (c d : List ℕ) → c ≡ d → Coherent g bytes c → Grown c d
   still c d e h = rw (← e) (record { coherent = h; extends = extends-refl g c })
 
   abbrev Grows : List ℕ → Type 0
-  Grows ts = (a : ℕ) (l : Learned) (o : Outcome) → Coherent g bytes (l .words) → Meant (l .words) a (l .said) o → Tokens ts → Grown (l .words) ((follow g a ts l) .words)
+  Grows ts = (a : ℕ) (l : Learned) (o : Outcome) → Coherent g bytes (l .words) → Meant g a l o → Tokens ts → Grown (l .words) ((follow g a ts l) .state)
 
   grow-none : Grows []
-  grow-none a l o h (unsure e) k = still (l .words) ((follow g a [] l) .words) (rw (follow-unsure g [] a l e)) h
-  grow-none a l o h (sure b e) k = still (l .words) ((follow g a [] l) .words) (rw (follow-sure g [] a b l e)) h
-  grow-none a l o h (stands s ks e _ _ _) k = still (l .words) ((follow g a [] l) .words) (rw (follow-over g a s l e)) h
+  grow-none a l o h (unsure e) k = still (l .words) ((follow g a [] l) .state) (rw (follow-unsure g [] a l e)) h
+  grow-none a l o h (sure b e) k = still (l .words) ((follow g a [] l) .state) (rw (follow-sure g [] a b l e)) h
+  grow-none a l o h (stands s ks e _ _ _) k = still (l .words) ((follow g a [] l) .state) (rw (follow-over g a s l e)) h
 
   grow-on : (t : ℕ) (ts : List ℕ) → Grows ts → Grows (t ∷ ts)
-  grow-on t ts rec a l o h (unsure e) k = still (l .words) ((follow g a (t ∷ ts) l) .words) (rw (follow-unsure g (t ∷ ts) a l e)) h
-  grow-on t ts rec a l o h (sure b e) k = still (l .words) ((follow g a (t ∷ ts) l) .words) (rw (follow-sure g (t ∷ ts) a b l e)) h
+  grow-on t ts rec a l o h (unsure e) k = still (l .words) ((follow g a (t ∷ ts) l) .state) (rw (follow-unsure g (t ∷ ts) a l e)) h
+  grow-on t ts rec a l o h (sure b e) k = still (l .words) ((follow g a (t ∷ ts) l) .state) (rw (follow-sure g (t ∷ ts) a b l e)) h
   grow-on t ts rec a l o h (stands s ks e m d _) k =
       let x = ask-step g bytes suits (l .words) a s t h m (k t (List·Memᴰ·head refl)) d in
       let y = rec a (askStep g (l .words) a s t) (stepOutcome g t (keptIn (l .words) s)) (x .coherent) (asked-meant x) (λ u n. k u (List·Memᴰ·tail n)) in
@@ -80,7 +104,7 @@ module _ (g : Grammar) (bytes : List ℕ) (suits : Suits g bytes) where
   follow-grows (t ∷ ts) = grow-on t ts (follow-grows ts)
 
   -- A PREDICTION KEEPS coherent words coherent, and only adds to them
-  pub predict-grows : (c : List ℕ) (a : ℕ) (ts : List ℕ) → Coherent g bytes c → Decides g a → Tokens ts → Grown c ((predict g c a ts) .words)
+  pub predict-grows : (c : List ℕ) (a : ℕ) (ts : List ℕ) → Coherent g bytes c → Decides g a → Tokens ts → Grown c ((predict g c a ts) .state)
   unfolding predict
   predict-grows c a ts h d k =
       let x = ask-start g bytes suits c a h d in
@@ -98,10 +122,11 @@ module _ (g : Grammar) (bytes : List ℕ) (suits : Suits g bytes) where
     kept-states c s ks v e = ap unpackAll e ∙ unpack-all ks (states-packable g (suits .bounded) v)
 
     abbrev Agrees : List ℕ → Type 0
-    Agrees ts = (a : ℕ) (l : Learned) (o : Outcome) (i : ℕ) → Coherent g bytes (l .words) → Meant (l .words) a (l .said) o → Given a o → Tokens ts → Allows g ordered b w i o → drop i w ≡ ts
-        → ((follow g a ts l) .said ≡ fullWord) ⊎ ((follow g a ts l) .said ≡ b)
+    Agrees ts = (a : ℕ) (l : Learned) (o : Outcome) (i : ℕ) → Coherent g bytes (l .words) → Meant g a l o → Given a o → Tokens ts → Allows g ordered b w i o → drop i w ≡ ts
+        → FullOr b ((follow g a ts l) .forecast)
 
-    agree-sure : (ts : List ℕ) (a b′ : ℕ) (l : Learned) (i : ℕ) → meaning (slots (length (l .words))) (l .said) ≡ chosen b′ → Allows g ordered b w i (alternative b′) → (follow g a ts l) .said ≡ b
+    agree-sure : (ts : List ℕ) (a b′ : ℕ) (l : Learned) (i : ℕ) → meaningOf g a l ≡ chosen b′ → Allows g ordered b w i (alternative b′)
+        → (follow g a ts l) .forecast ≡ Alternative b
     agree-sure ts a b′ l i e this = rw (follow-sure g ts a b l e)
 
     agree-none : Agrees []
@@ -110,9 +135,9 @@ module _ (g : Grammar) (bytes : List ℕ) (suits : Suits g bytes) where
     agree-none a l o i h (stands s ks e _ _ _) v k x q = inl (rw (follow-over g a s l e))
 
     agree-step : (t : ℕ) (ts : List ℕ) → Agrees ts → (a : ℕ) (l : Learned) (s : ℕ) (ks : List Config) (i : ℕ) → Coherent g bytes (l .words)
-        → meaning (slots (length (l .words))) (l .said) ≡ at s → s < held (l .words) → decision (l .words) s ≡ a → keptWords (l .words) s ≡ packAll ks
+        → meaningOf g a l ≡ at s → s < held (l .words) → decision (l .words) s ≡ a → keptWords (l .words) s ≡ packAll ks
         → States g a ks → Tokens (t ∷ ts) → Allows g ordered b w i (state ks) → drop i w ≡ t ∷ ts
-        → ((follow g a (t ∷ ts) l) .said ≡ fullWord) ⊎ ((follow g a (t ∷ ts) l) .said ≡ b)
+        → FullOr b ((follow g a (t ∷ ts) l) .forecast)
     agree-step t ts rec a l s ks i h e m d z v k (over q) p = absurd (omega (arith, get-lt w i (get-of-drop w i p .0)))
     agree-step t ts rec a l s ks i h e m d z v k (there f) p =
         let x = ask-step g bytes suits (l .words) a s t h m (k t (List·Memᴰ·head refl)) d in
@@ -137,7 +162,7 @@ module _ (g : Grammar) (bytes : List ℕ) (suits : Suits g bytes) where
     -- THE PREDICTION LAW: if alternative b can derive the whole rest with what is open, the prediction is FULL or exactly b
     pub predict-agrees : (c : List ℕ) (a f i : ℕ) (S : List ℕ) {r : List ℕ} → Coherent g bytes c → Decides g a → Tokens (drop i w) → i < length w
         → first g a b ≡ some f → Run g w (f ∷ S) i (length w) r → Valid g (f ∷ S)
-        → ((predict g c a (drop i w)) .said ≡ fullWord) ⊎ ((predict g c a (drop i w)) .said ≡ b)
+        → FullOr b ((predict g c a (drop i w)) .forecast)
     unfolding predict
     predict-agrees c a f i S h d k l q x v =
         let y = ask-start g bytes suits c a h d in
@@ -145,32 +170,32 @@ module _ (g : Grammar) (bytes : List ℕ) (suits : Suits g bytes) where
 
   -- ---- a prediction again
   abbrev Again : List ℕ → Type 0
-  Again ts = (a : ℕ) (l : Learned) (o : Outcome) (d : List ℕ) → Coherent g bytes (l .words) → Meant (l .words) a (l .said) o → Tokens ts → Coherent g bytes d
-      → Extends g ((follow g a ts l) .words) d → length d ≡ length (l .words) → follow g a ts (learned (l .said) d) ≡ learned ((follow g a ts l) .said) d
+  Again ts = (a : ℕ) (l : Learned) (o : Outcome) (d : List ℕ) → Coherent g bytes (l .words) → Meant g a l o → Tokens ts → Coherent g bytes d
+      → Extends g ((follow g a ts l) .state) d → length d ≡ length (l .words) → follow g a ts (learned (l .said) d) ≡ predicted ((follow g a ts l) .forecast) d
 
-  again-unsure : (ts : List ℕ) (a : ℕ) (l : Learned) (d : List ℕ) → length d ≡ length (l .words) → meaning (slots (length (l .words))) (l .said) ≡ undecided
-      → follow g a ts (learned (l .said) d) ≡ learned ((follow g a ts l) .said) d
-  again-unsure ts a l d n e = let e′ : meaning (slots (length d)) (l .said) ≡ undecided = rw n e in rw (follow-unsure g ts a (learned (l .said) d) e′, follow-unsure g ts a l e)
+  again-unsure : (ts : List ℕ) (a : ℕ) (l : Learned) (d : List ℕ) → length d ≡ length (l .words) → meaningOf g a l ≡ undecided
+      → follow g a ts (learned (l .said) d) ≡ predicted ((follow g a ts l) .forecast) d
+  again-unsure ts a l d n e = let e′ : meaningOf g a (learned (l .said) d) ≡ undecided = meaning-same g a l d n ∙ e in rw (follow-unsure g ts a (learned (l .said) d) e′, follow-unsure g ts a l e)
 
-  again-sure : (ts : List ℕ) (a b : ℕ) (l : Learned) (d : List ℕ) → length d ≡ length (l .words) → meaning (slots (length (l .words))) (l .said) ≡ chosen b
-      → follow g a ts (learned (l .said) d) ≡ learned ((follow g a ts l) .said) d
-  again-sure ts a b l d n e = let e′ : meaning (slots (length d)) (l .said) ≡ chosen b = rw n e in rw (follow-sure g ts a b (learned (l .said) d) e′, follow-sure g ts a b l e)
+  again-sure : (ts : List ℕ) (a b : ℕ) (l : Learned) (d : List ℕ) → length d ≡ length (l .words) → meaningOf g a l ≡ chosen b
+      → follow g a ts (learned (l .said) d) ≡ predicted ((follow g a ts l) .forecast) d
+  again-sure ts a b l d n e = let e′ : meaningOf g a (learned (l .said) d) ≡ chosen b = meaning-same g a l d n ∙ e in rw (follow-sure g ts a b (learned (l .said) d) e′, follow-sure g ts a b l e)
 
   again-none : Again []
   again-none a l o d h (unsure e) k j x n = again-unsure [] a l d n e
   again-none a l o d h (sure b e) k j x n = again-sure [] a b l d n e
   again-none a l o d h (stands s ks e _ _ _) k j x n =
-      let e′ : meaning (slots (length d)) (l .said) ≡ at s = rw n e in rw (follow-over g a s (learned (l .said) d) e′, follow-over g a s l e)
+      let e′ : meaningOf g a (learned (l .said) d) ≡ at s = meaning-same g a l d n ∙ e in rw (follow-over g a s (learned (l .said) d) e′, follow-over g a s l e)
 
   again-on : (t : ℕ) (ts : List ℕ) → Again ts → Again (t ∷ ts)
   again-on t ts rec a l o d h (unsure e) k j x n = again-unsure (t ∷ ts) a l d n e
   again-on t ts rec a l o d h (sure b e) k j x n = again-sure (t ∷ ts) a b l d n e
   again-on t ts rec a l o d h (stands s ks e m z _) k j x n =
-      let e′ : meaning (slots (length d)) (l .said) ≡ at s = rw n e in
+      let e′ : meaningOf g a (learned (l .said) d) ≡ at s = meaning-same g a l d n ∙ e in
       let y = ask-step g bytes suits (l .words) a s t h m (k t (List·Memᴰ·head refl)) z in
       let l′ = askStep g (l .words) a s t in
       let more : Tokens ts = λ u v. k u (List·Memᴰ·tail v) in
-      let x′ : Extends g ((follow g a ts l′) .words) d = subst (λ (f : Learned). Extends g (f .words) d) (follow-on g t ts a s l e) x in
+      let x′ : Extends g ((follow g a ts l′) .state) d = subst (λ (f : Predicted (List ℕ)). Extends g (f .state) d) (follow-on g t ts a s l e) x in
       let grown = follow-grows ts a l′ (stepOutcome g t (keptIn (l .words) s)) (y .coherent) (asked-meant y) more in
       let said = again-step g bytes suits (l .words) d a s t h m (k t (List·Memᴰ·head refl)) z j (extends-trans g _ _ _ (grown .extends) x′) in
       let n′ : length d ≡ length (l′ .words) = n ∙ sym (y .extends .as-long) in
@@ -182,8 +207,8 @@ module _ (g : Grammar) (bytes : List ℕ) (suits : Suits g bytes) where
   follow-again (t ∷ ts) = again-on t ts (follow-again ts)
 
   -- A PREDICTION THAT WAS MADE before says the same again over words that have only grown, and leaves them as found
-  pub predict-again : (c d : List ℕ) (a : ℕ) (ts : List ℕ) → Coherent g bytes c → Decides g a → Tokens ts → Coherent g bytes d → Extends g ((predict g c a ts) .words) d
-      → predict g d a ts ≡ learned ((predict g c a ts) .said) d
+  pub predict-again : (c d : List ℕ) (a : ℕ) (ts : List ℕ) → Coherent g bytes c → Decides g a → Tokens ts → Coherent g bytes d → Extends g ((predict g c a ts) .state) d
+      → predict g d a ts ≡ predicted ((predict g c a ts) .forecast) d
   unfolding predict
   predict-again c d a ts h z k j x =
       let y = ask-start g bytes suits c a h z in

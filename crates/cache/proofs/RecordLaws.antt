@@ -14,7 +14,8 @@ use Rattle.lookahead.specs.Outcomes.{Outcome, full, alternative, state, startOu
 use Rattle.words.specs.Layout.{slots, startAt, stepAt, fullWord, stateWord}
 use Rattle.words.specs.Words.{word, held, startOf, stepOf, decision, keptIn, setStart, setStep, addState}
 use Rattle.cache.specs.Recording.{Learned, learned, find, recordNew, recordOutcome, askStart, askStep}
-use Rattle.cache.specs.Coherent.{Decides, Says, Coherent, Extends}
+use Rattle.cache.specs.Predictor.{Decides}
+use Rattle.cache.specs.Coherent.{Says, Coherent, Extends}
 use Rattle.cache.proofs.FitLaws.{Recordable, start-recordable, step-recordable}
 use Rattle.cache.proofs.SuitLaws.{Suits}
 use Rattle.cache.proofs.ExtendLaws.{extends-refl, extends-trans, says-extends}

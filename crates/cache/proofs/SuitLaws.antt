@@ -14,7 +14,7 @@ use Rattle.reader.proofs.ReadLaws.{decode-limited}
 use Rattle.lookahead.proofs.Bounds.{Bounded, compile-bounded}
 use Rattle.words.specs.Layout.{fixedWords, bytesAt}
 use Rattle.words.specs.Begin.{packBytes}
-use Rattle.cache.specs.Coherent.{Decides}
+use Rattle.cache.specs.Predictor.{Decides}
 use Rattle.words.proofs.ByteLaws.{packed-few, decode-few}
 
 pub record Suits (g : Grammar) (bytes : List ℕ) : Type 0 where

@@ -16,11 +16,8 @@ use Rattle.lookahead.specs.Rules.{Each}
 use Rattle.words.specs.Layout.{minWords, fixedWords, slots, heldAt, startAt, bytesAt, slotAt, countAt, stepAt, configsAt, fullWord, stateWord}
 use Rattle.configurations.specs.Packing.{packAll}
 use Rattle.words.specs.Words.{word, held, startOf, stepOf, decision, keptWords, keptIn}
+use Rattle.cache.specs.Predictor.{Decides}
 use Rattle.words.specs.Begin.{packBytes, begun?}
-
--- a nonterminal of two or more productions
-abbrev pub Decides : Grammar → ℕ → Type 0
-Decides g a = 1 < length (alternatives g a)
 
 -- the word w says the outcome o of decision a
 abbrev pub Says : List ℕ → ℕ → ℕ → Outcome → Type 0

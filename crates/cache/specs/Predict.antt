@@ -1,33 +1,55 @@
--- A prediction: from the start of a decision over the tokens that are left, as long as there is a state to step from.
+-- A prediction of the lookahead cache: from the start of a decision over the tokens that are left, as long as there is a state to step from.
 use mathlib.Core.Bool.{_&&_, cond}
 use mathlib.Core.List.{List, [], _∷_}
-use Prim.Native.Nat.{ℕ, _-_}
-use lib.Dec.{ltb}
+use Prim.Native.Nat.{ℕ, _-_, _≤_, _<_}
+use lib.Dec.{ltb, leb}
 use lib.ListN.{length}
-use Rattle.grammar.specs.Grammar.{Grammar}
-use Rattle.words.specs.Layout.{slots, fullWord, stateWord}
-use Rattle.cache.specs.Recording.{Learned, learned, askStart, askStep}
+use Rattle.grammar.specs.Grammar.{Grammar, alternatives}
+use Rattle.grammar.specs.Tables.{grammarIn, nonterminalsIn}
+use Rattle.derivation.specs.Ready.{Ready}
+use Rattle.derivation.specs.Demand2.{Known}
+use Rattle.words.specs.Layout.{minWords, slots, fullWord, stateWord}
+use Rattle.cache.specs.declared.prediction.Forecast.the-variants.{Alternative, Full}
+use Rattle.cache.specs.Predictor.{Predicted, predicted}
+use Rattle.cache.specs.Recording.{Learned, askStart, askStep}
 
--- what a word says in a cache of so many slots: an alternative, FULL, or a state. Words that no recording leaves say FULL.
+-- what a word says: one of n alternatives, FULL, or one of so many slots. Words that no recording leaves say FULL.
 pub data Meaning : Type 0 where
   chosen : ℕ → Meaning
   undecided : Meaning
   at : ℕ → Meaning
 
-unfoldable pub meaning : ℕ → ℕ → Meaning
-meaning n w = cond (ltb 0 w && ltb w fullWord) (chosen w) (cond (ltb fullWord w && ltb (w - stateWord 0) n) (at (w - stateWord 0)) undecided)
+unfoldable pub meaning : ℕ → ℕ → ℕ → Meaning
+meaning n k w =
+    let state = cond (ltb (w - stateWord 0) k) (at (w - stateWord 0)) undecided in
+    let alternative = cond (ltb 0 w && leb w n) (chosen w) undecided in
+    cond (ltb fullWord w) state alternative
 
--- from what was said last, over these tokens, the end mark included: the alternative, or the word for FULL, and the cache after it
-unfoldable pub follow : Grammar → ℕ → List ℕ → Learned → Learned
-unfolding meaning slots askStep
-follow g a [] l = elim (meaning (slots (length (l .words))) (l .said)) [ chosen b ↦ learned b (l .words) | undecided ↦ learned fullWord (l .words) | at s ↦ learned fullWord (l .words) ]
+-- what was said last of decision a
+unfoldable pub meaningOf : Grammar → ℕ → Learned → Meaning
+unfolding meaning slots alternatives
+meaningOf g a l = meaning (length (alternatives g a)) (slots (length (l .words))) (l .said)
+
+-- from what was said last, over these tokens, the end mark included: what is predicted, and the cache after it
+unfoldable pub follow : Grammar → ℕ → List ℕ → Learned → Predicted (List ℕ)
+unfolding meaningOf askStep
+follow g a [] l =
+    elim (meaningOf g a l) [ chosen b ↦ predicted (Alternative b) (l .words) | undecided ↦ predicted Full (l .words) | at s ↦ predicted Full (l .words) ]
 follow g a (t ∷ ts) l =
-    elim (meaning (slots (length (l .words))) (l .said)) [
-      | chosen b ↦ learned b (l .words)
-      | undecided ↦ learned fullWord (l .words)
+    elim (meaningOf g a l) [
+      | chosen b ↦ predicted (Alternative b) (l .words)
+      | undecided ↦ predicted Full (l .words)
       | at s ↦ follow g a ts (askStep g (l .words) a s t)
     ]
 
-unfoldable pub predict : Grammar → List ℕ → ℕ → List ℕ → Learned
+unfoldable pub predict : Grammar → List ℕ → ℕ → List ℕ → Predicted (List ℕ)
 unfolding follow askStart
 predict g c a ts = follow g a ts (askStart g c a)
+
+-- nonterminal a can be predicted at position i of the note w, by these tables and words
+pub record Predictable (t w c : List ℕ) (a i : ℕ) : Type 0 where
+  pub ready : Ready t
+  pub long : minWords ≤ length c
+  pub names : a < nonterminalsIn t
+  pub within : i ≤ length w
+  pub known : Known (grammarIn t .kinds) w

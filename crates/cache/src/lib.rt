@@ -1,9 +1,13 @@
-// The lookahead cache: what is looked up and recorded in it. How its words begin is `words`.
+// The lookahead cache: what is looked up and recorded in it, and what it predicts. How its words begin is `words`.
 mod asking;
+mod prediction;
 mod recording;
 
 pub use asking::ask_start;
 pub use asking::ask_step;
+pub use prediction::Forecast;
+pub use prediction::Prediction;
+pub use prediction::predict;
 pub use words::Beginning;
 pub use words::MIN_WORDS;
 pub use words::begin;

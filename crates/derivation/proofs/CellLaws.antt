@@ -27,7 +27,8 @@ use Rattle.derivation.proofs.CellGrid.{cells, length-cells, cells-in, I
 data Way (g : Grammar) (w : List ℕ) (X : Cell → Bool) (p i j : ℕ) : Type 0 where
   end : facing g p ≡ End → i ≡ j → Way g w X p i j
   token : {k t : ℕ} → facing g p ≡ Token k → getElem? w i ≡ some t → T (admits g k t) → T (X (cell (suc p) (suc i) j)) → Way g w X p i j
-  call : {a f m : ℕ} (b : ℕ) → facing g p ≡ Nonterminal a → first g a b ≡ some f → i ≤ m → m ≤ j → T (X (cell f i m)) → T (X (cell (suc p) m j))
+  call : {a f m : ℕ} (b : ℕ) → facing g p ≡ Nonterminal a → first g a b ≡ some f → i ≤ m → m ≤ j → T (X (cell f i m))
+      → T (X (cell (suc p) m j))
       → Way g w X p i j
 
 module _ (g : Grammar) (w : List ℕ) (X : Cell → Bool) (p i j : ℕ) where
@@ -104,7 +105,8 @@ module _ (g : Grammar) (w : List ℕ) where
           let hp = faces-place g (c .place) (λ q. clash (cc)) in
           absurd (out (record { place-in = hp; from-in = omega arith; upto-in = l }))
 
-  settled : (c : Cell) → List·Memᴰ c (cells (length (g .places)) (length w)) ⊎ ((X Y : Cell → Bool) → T (cellRound g w X c) → T (cellRound g w Y c))
+  settled : (c : Cell) → List·Memᴰ c (cells (length (g .places)) (length w))
+      ⊎ ((X Y : Cell → Bool) → T (cellRound g w X c) → T (cellRound g w Y c))
   settled c = go (inside? (length (g .places)) (length w) c)
     where
       go : Dec (Inside (length (g .places)) (length w) c)

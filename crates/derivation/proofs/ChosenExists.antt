@@ -19,14 +19,16 @@ use Rattle.grammar.proofs.OrderedLaws.{compile-ordered}
 use Rattle.grammar.proofs.PlaceLaws.{compile-within}
 use Rattle.closures.specs.Textbook.{LeftRecursive}
 use Rattle.derivation.specs.Runs.{Run, Whole, marked}
-use Rattle.derivation.specs.Machine.{Chooser, Serves, lowest, Outcome, accepted, stuck, full, Step, step, run}
+use Rattle.derivation.specs.Machine.{Chooser, Serves, lowest, plainly, Outcome, accepted, stuck, full, Step, step, followStep, run}
+use Rattle.derivation.specs.Choosers.{Anywhere, Anyone, AnyState, anywhere}
 use Rattle.derivation.specs.Chosen.{Chosen}
 use Rattle.derivation.specs.Steps.{popped, matched, picked, Quiet, Reads}
 use Rattle.derivation.proofs.WholeChosen.{start-chosen}
 use Rattle.derivation.proofs.WholeNotes.{whole-sentence}
-use Rattle.derivation.proofs.MachineLaws.{Seen, see, run-live}
+use Rattle.derivation.proofs.MachineLaws.{Names, Seen, see, prefix-full}
+use Rattle.derivation.proofs.MachineLive.{run-live}
 use Rattle.derivation.proofs.LowestLaws.{lowest-serves, lowest-right}
-use Rattle.derivation.proofs.LowestReading.{prefix-full}
+use Rattle.derivation.proofs.LowestReading.{plainRun}
 use Rattle.derivation.proofs.Entries.{Open, open-start, open-step}
 use Rattle.derivation.proofs.Depth.{frames}
 use Rattle.derivation.proofs.CompiledDepth.{end-quiet, compile-reads}
@@ -70,69 +72,77 @@ module _ (P : ℕ) where
       omega arith
 
 -- ---- with as much room as the potential the machine is never full
-module _ (g : Grammar) (ordered : Ordered g) (w : List ℕ) (n : ℕ) (reads : Reads g w n) (G : List ℕ) (silent : Quiet g G) (choose : Chooser)
-    (P : ℕ) (within : (p d : ℕ) → facing g p ≡ Nonterminal d → p < P) (D : ℕ) (deep : (p i : ℕ) (S : List ℕ) → Open g G n (p ∷ S) i → length S ≤ D) where
+module _ {C : Type 0} (g : Grammar) (ordered : Ordered g) (w : List ℕ) (n : ℕ) (reads : Reads g w n) (G : List ℕ) (silent : Quiet g G)
+    (choose : Chooser C)
+    (P : ℕ) (within : (p d : ℕ) → facing g p ≡ Nonterminal d → p < P) (D : ℕ)
+    (deep : (p i : ℕ) (S : List ℕ) → Open g G n (p ∷ S) i → length S ≤ D) where
   abbrev Roomy : ℕ → Type 0
-  Roomy k = (S : List ℕ) (i room h : ℕ) → Open g G n S i → length S + h ≡ suc D → potential P h S ≤ room → ¬ (run g w choose k S i room ≡ full)
+  Roomy k = (S : List ℕ) (i room h : ℕ) (c : C) → Open g G n S i → length S + h ≡ suc D → potential P h S ≤ room
+      → ¬ ((run g w choose k S i room c) .outcome ≡ full)
 
-  room-step : (k : ℕ) → Roomy k → (S : List ℕ) (i room h : ℕ) → Open g G n S i → length S + h ≡ suc D → potential P h S ≤ room
-      → run g w choose (suc k) S i room ≡ full → (x : Step) → step g w choose S i room ≡ x → Seen g w choose S i room x → ⊥
-  unfolding run
-  room-step k rec S i room h o l m q x d (Seen.ended e) = clash (cc)
-  room-step k rec S i room h o l m q x d (Seen.halted e) = clash (cc)
-  room-step k rec S i room h o l m q x d (Seen.crammed {p = p} {a = a} {S = S′} e) =
+  room-step : (k : ℕ) → Roomy k → (named : Names) (S : List ℕ) (i room h : ℕ) (c : C) → Open g G n S i → length S + h ≡ suc D
+      → potential P h S ≤ room
+      → (x : Step) → Seen g w named S i room x → ¬ ((followStep (run g w choose k) i room x c) .outcome ≡ full)
+  room-step k rec named S i room h c o l m x (Seen.ended e) q = clash (cc)
+  room-step k rec named S i room h c o l m x (Seen.halted e) q = clash (cc)
+  room-step k rec named S i room h c o l m x (Seen.crammed {p = p} {a = a} {S = S′} e) q =
       let u = potential-call P h p S′ (within p a e) in
       omega arith
-  room-step k rec S i room h o l m q x d (Seen.popped {p = p} {i = i₀} {room = room₀} {S = S′} e) =
+  room-step k rec named S i room h c o l m x (Seen.popped {p = p} {i = i₀} {room = room₀} {S = S′} e) q =
       let u = potential-pop P h p S′ in
-      rec S′ i₀ room₀ (suc h) (open-step g ordered w n reads G silent o (popped e)) (omega arith) (omega arith) (cc)
-  room-step k rec S i room h o l m q x d (Seen.matched {p = p} {i = i₀} {room = room₀} {S = S′} e f t) =
+      rec S′ i₀ room₀ (suc h) c (open-step g ordered w n reads G silent o (popped e)) (omega arith) (omega arith) q
+  room-step k rec named S i room h c o l m x (Seen.matched {p = p} {i = i₀} {room = room₀} {S = S′} e f t) q =
       let u = potential-on P h p S′ in
-      rec (suc p ∷ S′) (suc i₀) room₀ h (open-step g ordered w n reads G silent o (matched e f t)) (omega arith) (omega arith) (cc)
-  room-step k rec S i room zero o l m q x d (Seen.picked {p = p} {a = a} {b = b} {f = f} {i = i₀} {room = room₀} {S = S′} e c y) =
+      rec (suc p ∷ S′) (suc i₀) room₀ h c (open-step g ordered w n reads G silent o (matched e f t)) (omega arith) (omega arith) q
+  room-step k rec named S i room zero c o l m x (Seen.picked {p = p} {b = b} {f = f} {i = i₀} {S = S′} e d y) q =
       let u = deep f i₀ (suc p ∷ S′) (open-step g ordered w n reads G silent o (picked b e y)) in
       omega arith
-  room-step k rec S i room (suc h) o l m q x d (Seen.picked {p = p} {a = a} {b = b} {f = f} {i = i₀} {room = room₀} {S = S′} e c y) =
+  room-step k rec named S i room (suc h) c o l m x (Seen.picked {p = p} {a = a} {b = b} {f = f} {i = i₀} {room = room₀} {S = S′} e d y) q =
       let u = potential-pick P h p f S′ (within p a e) in
-      rec (f ∷ suc p ∷ S′) i₀ room₀ h (open-step g ordered w n reads G silent o (picked b e y)) (omega arith) (omega arith)
-      (prefix-full b (run g w choose k (f ∷ suc p ∷ S′) i₀ room₀) (cc))
+      rec (f ∷ suc p ∷ S′) i₀ room₀ h c (open-step g ordered w n reads G silent o (picked b e y)) (omega arith) (omega arith)
+      (prefix-full b ((run g w choose k (f ∷ suc p ∷ S′) i₀ room₀ c) .outcome) q)
 
   pub run-roomy : (k : ℕ) → Roomy k
   unfolding run
-  run-roomy zero S i room h o l m q = clash (cc)
-  run-roomy (suc k) S i room h o l m q = room-step k (run-roomy k) S i room h o l m q (step g w choose S i room) refl (see g w choose S i room)
+  run-roomy zero S i room h c o l m q = clash (cc)
+  run-roomy (suc k) S i room h c o l m q =
+      let s = step g w choose c S i room in
+      room-step k (run-roomy k) (λ S a i. (choose c S a i) .alternative) S i room h (s .state) o l m (s .step) (see g w choose c S i room) q
 
 -- ---- so a sentence has a chosen derivation
 module _ (g : Grammar) (ordered : Ordered g) (w : List ℕ) (n : ℕ) (reads : Reads g (marked w) n) (P : ℕ)
     (within : (p d : ℕ) → facing g p ≡ Nonterminal d → p < P) (sound : (a : ℕ) → ¬ LeftRecursive g a) where
   -- over the end place the machine is not full
   roomy : (D h k a b f : ℕ) → D ≡ (suc P / 2) * suc n + 1 → first g a b ≡ some f → h + 1 ≡ D
-      → ¬ (run g (marked w) (lowest g (marked w)) k (f ∷ endPlace ∷ []) 0 (potential P h (f ∷ endPlace ∷ [])) ≡ full)
+      → ¬ ((plainRun g (marked w) k (f ∷ endPlace ∷ []) 0 (potential P h (f ∷ endPlace ∷ [])) tt) .outcome ≡ full)
   roomy D h k a b f q e l =
-      run-roomy g ordered (marked w) n reads (endPlace ∷ []) (end-quiet g ordered) (lowest g (marked w)) P within D
-      (λ p i S o. let u = frames sound ordered P within o in omega arith) k (f ∷ endPlace ∷ []) 0 (potential P h (f ∷ endPlace ∷ [])) h
+      run-roomy g ordered (marked w) n reads (endPlace ∷ []) (end-quiet g ordered) (plainly g (marked w)) P within D
+      (λ p i S o. let u = frames sound ordered P within o in omega arith) k (f ∷ endPlace ∷ []) 0 (potential P h (f ∷ endPlace ∷ [])) h tt
       (open-start g ordered (marked w) n reads (endPlace ∷ []) (end-quiet g ordered) a b f e) (omega arith) (omega arith)
 
   abbrev Some : Type 0
   Some = (s : List ℕ) × Chosen g (Nonterminal 0 ∷ []) s w
 
   ending : (b f k room : ℕ) → first g 0 b ≡ some f → ((c : ℕ) → Serves g (marked w) (endPlace ∷ []) 0 0 c → b ≤ c)
-      → ¬ (run g (marked w) (lowest g (marked w)) k (f ∷ endPlace ∷ []) 0 room ≡ stuck)
-      → ¬ (run g (marked w) (lowest g (marked w)) k (f ∷ endPlace ∷ []) 0 room ≡ full) → Some
-  ending b f k room e least live roomy = go (run g (marked w) (lowest g (marked w)) k (f ∷ endPlace ∷ []) 0 room) refl
+      → ¬ ((plainRun g (marked w) k (f ∷ endPlace ∷ []) 0 room tt) .outcome ≡ stuck)
+      → ¬ ((plainRun g (marked w) k (f ∷ endPlace ∷ []) 0 room tt) .outcome ≡ full) → Some
+  ending b f k room e least live roomy = go ((plainRun g (marked w) k (f ∷ endPlace ∷ []) 0 room tt) .outcome) refl
     where
-      go : (o : Outcome) → run g (marked w) (lowest g (marked w)) k (f ∷ endPlace ∷ []) 0 room ≡ o → Some
-      go (accepted s) q = (b ∷ s, start-chosen g ordered w b f k room e least s q)
+      go : (o : Outcome) → (plainRun g (marked w) k (f ∷ endPlace ∷ []) 0 room tt) .outcome ≡ o → Some
+      go (accepted s) q = (b ∷ s, start-chosen g ordered w b f k room tt e least s q)
       go stuck q = absurd (live q)
       go full q = absurd (roomy q)
 
   -- the room and the steps that are enough, as variables
-  enough : (b f h room k : ℕ) (r : List ℕ) → h ≡ (suc P / 2) * suc n → room ≡ potential P h (f ∷ endPlace ∷ []) → 2 * room + length (marked w) + 2 < k
+  enough : (b f h room k : ℕ) (r : List ℕ) → h ≡ (suc P / 2) * suc n → room ≡ potential P h (f ∷ endPlace ∷ [])
+      → 2 * room + length (marked w) + 2 < k
       → first g 0 b ≡ some f → Run g (marked w) (f ∷ endPlace ∷ []) 0 (length (marked w)) r
       → ((c : ℕ) → Serves g (marked w) (endPlace ∷ []) 0 0 c → b ≤ c) → Some
   enough b f h room k r q z l e x least =
       ending b f k room e least
-      (run-live g (marked w) (lowest g (marked w)) (lowest-right g (marked w)) k (f ∷ endPlace ∷ []) 0 room (omega arith) (r, x))
+      (run-live AnyState g (marked w) Anywhere Anyone (anywhere g) (plainly g (marked w)) (lowest-right g (marked w) Anyone) k (f ∷ endPlace ∷ []) 0 room tt
+      (omega arith)
+      tt tt (r, x))
       (rw z (roomy (h + 1) h k 0 b f (omega arith) e refl))
 
   pub sentence-chosen : Derives g (Nonterminal 0 ∷ []) w → Some
@@ -146,7 +156,8 @@ module _ (g : Grammar) (ordered : Ordered g) (w : List ℕ) (n : ℕ) (reads : R
           (suc (2 * potential P ((suc P / 2) * suc n) (f ∷ endPlace ∷ []) + length (marked w) + 2)) r refl refl (omega arith) e x least
       go o (nothing n) (b, r, (f, e, x)) = absurd (n b (f, e, (r, x)))
 
-pub chosen-exists : (r : Rules) → Limited r → ((a : ℕ) → ¬ LeftRecursive (compile r) a) → (w : List ℕ) → Derives (compile r) (Nonterminal 0 ∷ []) w
+pub chosen-exists : (r : Rules) → Limited r → ((a : ℕ) → ¬ LeftRecursive (compile r) a) → (w : List ℕ)
+    → Derives (compile r) (Nonterminal 0 ∷ []) w
     → (s : List ℕ) × Chosen (compile r) (Nonterminal 0 ∷ []) s w
 chosen-exists r limits none w =
     sentence-chosen (compile r) (compile-ordered r limits) w (length w) (compile-reads r limits w) (sizeAll (r .productions)) (compile-within r limits) none

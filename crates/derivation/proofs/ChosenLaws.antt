@@ -107,7 +107,8 @@ module _ {g : Grammar} where
       go : {r : List ℕ} → (w : List ℕ) × (t : ℕ) × ([] ≡ w ++ (t ∷ [])) × Leftmost g α r w → ⊥
       go (w, t, e, z) = no-snoc w t e
 
-  pub chosen-unmark : (k : ℕ) {γ : List Symbol} {r v : List ℕ} → Chosen g γ r v → (α : List Symbol) (w : List ℕ) → γ ≡ α ++ (Token k ∷ []) → v ≡ w ++ (k ∷ [])
+  pub chosen-unmark : (k : ℕ) {γ : List Symbol} {r v : List ℕ} → Chosen g γ r v → (α : List Symbol) (w : List ℕ) → γ
+      ≡ α ++ (Token k ∷ []) → v ≡ w ++ (k ∷ [])
       → Chosen g α r w
   chosen-unmark k Chosen.done [] w e d = clash (cc)
   chosen-unmark k Chosen.done (y ∷ α) w e d = clash (cc)

@@ -49,7 +49,8 @@ module _ (r : Rules) (limits : Limited r) where
 
     -- and over a note with the end mark behind it: the mark is no position more
     pub marked-depth : (w : List ℕ) (a b f : ℕ) → first (compile r) a b ≡ some f → (p i : ℕ) (S : List ℕ)
-        → Steps (compile r) (w ++ (endMark ∷ [])) (f ∷ endPlace ∷ []) 0 (p ∷ S) i → length S ≤ (suc (sizeAll (r .productions)) / 2) * suc (length w) + 1
+        → Steps (compile r) (w ++ (endMark ∷ [])) (f ∷ endPlace ∷ []) 0 (p ∷ S) i
+        → length S ≤ (suc (sizeAll (r .productions)) / 2) * suc (length w) + 1
     marked-depth w a b f d p i S x =
         let ordered = compile-ordered r limits in
         depth (compile r) ordered (w ++ (endMark ∷ [])) (length w) (compile-reads w) (endPlace ∷ []) (end-quiet (compile r) ordered) none

@@ -1,110 +1,34 @@
 -- DEMAND 2: by a sound grammar, for at most 128 known tokens and in enough working space, the plain reading answers what the textbook says.
 use mathlib.Core.Path.{_≡_, refl}
-use mathlib.Core.Bool.{Bool, true, false, cond, not}
-use mathlib.Core.Option.{Option, none}
-use mathlib.Core.List.{List, [], _∷_}
-use Prim.Native.Nat.{ℕ, suc, _+_, _*_, _≤_, _<_}
-use native.Mathlib.Omega.{arith}
-use lib.Dec.{T, leb, leb→le}
-use lib.ListN.{length, getD}
-use borrow.Author.Tests.{le-leb, le-ltb}
-use Rattle.base.specs.Search.{LowestIs, this, nothing}
-use Rattle.base.proofs.Booleans.{clash, and-T, true→T, false→¬T}
-use Rattle.base.proofs.Lowest.{lowest-is}
-use Rattle.grammar.specs.Limits.{endPlace}
+use mathlib.Core.Bool.{Bool, true, false, cond}
+use mathlib.Core.List.{List}
+use Prim.Native.Nat.{ℕ, _≤_}
+use lib.ListN.{length}
+use Rattle.base.proofs.Booleans.{true→T, false→¬T}
 use Rattle.grammar.specs.Decode.{Rules, Mark, got, decode}
 use Rattle.grammar.specs.Grammar.{Grammar, compile, Limited}
 use Rattle.grammar.specs.Ordered.{Ordered}
 use Rattle.grammar.proofs.OrderedLaws.{compile-ordered}
 use Rattle.reader.proofs.ReadLaws.{decode-limited}
 use Rattle.soundness.specs.declared.judgement.Verdict.the-variants.{Sound}
-use Rattle.soundness.specs.Check.{judgeOf, checkOf}
+use Rattle.soundness.specs.Check.{checkOf}
 use Rattle.derivation.specs.Runs.{marked}
-use Rattle.derivation.specs.Machine.{lowest, Outcome, accepted, stuck, full, Step, onCall, run, reading}
+use Rattle.derivation.specs.Machine.{plainly, Outcome, accepted, stuck, full, Ended, reading}
+use Rattle.derivation.specs.Choosers.{Anywhere, Anyone, AnyState, anywhere}
 use Rattle.derivation.specs.Viable.{Sentence, WrongAt}
 use Rattle.derivation.specs.ReachRounds.{wrongPlace}
 use Rattle.derivation.specs.Space.{maxTokens, spaceWords}
-use Rattle.derivation.specs.Plain.{clear, known?, firstUnknown, sentence?, onOutcome, readNote, from11, from9, from8, plainReading}
-use Rattle.derivation.specs.Demand2.{Known, ChosenFor, Right, short, wrong}
-use Rattle.derivation.proofs.MachineLaws.{Called, no-room, unnamed, absent, taken, call-seen, prefix-accepted}
+use Rattle.derivation.specs.Plain.{clear, sentence?, onOutcome, readNote, plainReading}
+use Rattle.derivation.specs.Demand2.{Known, Right, short, wrong}
+use Rattle.derivation.proofs.GateLaws.{gate-sound, note-passes}
 use Rattle.derivation.proofs.LowestLaws.{lowest-right}
 use Rattle.derivation.proofs.ReadingLaws.{reading-sound, reading-live}
-use Rattle.derivation.proofs.ChosenLaws.{chosen-call}
-use Rattle.derivation.proofs.LowestReading.{named, prefix-full}
-use Rattle.derivation.proofs.WholeChosen.{start-chosen, start-crams}
+use Rattle.derivation.proofs.WholeChosen.{reading-chosen, reading-crams}
 use Rattle.derivation.proofs.CompiledDepth.{checked-sound}
 use Rattle.derivation.proofs.ChosenExists.{chosen-exists}
 use Rattle.derivation.proofs.WrongPlace.{wrong-place}
 use Rattle.derivation.proofs.SoundGrammar.{sound-rich, sound-first}
 use Rattle.derivation.proofs.SentenceTest.{sentence-iff}
-
--- ---- the machine's outcomes
-module _ (g : Grammar) (ordered : Ordered g) (w : List ℕ) where
-  -- what the plain chooser is first asked for
-  abbrev begun : ℕ → Step
-  begun n = onCall g (lowest g (marked w)) (endPlace ∷ []) 0 0 n
-
-  abbrev Begun : ℕ → Step → Type 0
-  Begun n x = Called g (lowest g (marked w)) (endPlace ∷ []) 0 0 n x
-
-  begun-chosen : (k n : ℕ) (d : List ℕ) → reading g (marked w) (lowest g (marked w)) k n ≡ accepted d → (x : Step) → begun n ≡ x → Begun n x → ChosenFor g w d
-  unfolding reading
-  begun-chosen k n d q x y no-room = clash (cc)
-  begun-chosen k n d q x y (unnamed e) = clash (cc)
-  begun-chosen k n d q x y (absent e c) = clash (cc)
-  begun-chosen k n d q x y (taken {b = b} {f = f} {room = room} e c) =
-      let (s, u, z) = prefix-accepted b (run g (marked w) (lowest g (marked w)) k (f ∷ endPlace ∷ []) 0 room) {r = d} (cc) in
-      rw (← z) (start-chosen g ordered w b f k room c (named g (marked w) (endPlace ∷ []) 0 0 e .least) s u)
-
-  -- what is accepted is the chosen derivation
-  reading-chosen : (k n : ℕ) (d : List ℕ) → reading g (marked w) (lowest g (marked w)) k n ≡ accepted d → ChosenFor g w d
-  reading-chosen k n d q = begun-chosen k n d q (begun n) refl (call-seen g (lowest g (marked w)) (endPlace ∷ []) 0 0 n)
-
-  begun-crams : (k n : ℕ) (d : List ℕ) → reading g (marked w) (lowest g (marked w)) k n ≡ full → ChosenFor g w d → (x : Step) → begun n ≡ x → Begun n x → n < length d
-  unfolding reading
-  begun-crams k n d q h x y no-room = let c = chosen-call {α = []} {a = 0} h refl in rw (c .row) (omega arith)
-  begun-crams k n d q h x y (unnamed e) = clash (cc)
-  begun-crams k n d q h x y (absent e c) = clash (cc)
-  begun-crams k n d q h x y (taken {b = b} {f = f} {room = room} e c) =
-      let m = named g (marked w) (endPlace ∷ []) 0 0 e in
-      start-crams g ordered w b f k room c (m .least) (m .serves) (prefix-full b (run g (marked w) (lowest g (marked w)) k (f ∷ endPlace ∷ []) 0 room) (cc)) d h
-
-  -- where the row is full, the chosen derivation is longer
-  reading-crams : (k n : ℕ) (d : List ℕ) → reading g (marked w) (lowest g (marked w)) k n ≡ full → ChosenFor g w d → n < length d
-  reading-crams k n d q h = begun-crams k n d q h (begun n) refl (call-seen g (lowest g (marked w)) (endPlace ∷ []) 0 0 n)
-
-module _ (kinds : ℕ) (w : List ℕ) where
-  -- token i is none of them
-  abbrev unknown? : ℕ → Bool
-  unknown? i = not (known? kinds (getD w i 0))
-
-  abbrev Unknown : ℕ → Type 0
-  Unknown i = (i < length w) × T (unknown? i)
-
-  first-unknown : LowestIs Unknown (firstUnknown kinds w)
-  unfolding firstUnknown
-  first-unknown = lowest-is Unknown unknown? (length w) (λ i l t. (l, t)) (λ i x. (x .1, x .0))
-
-  known-none : Known kinds w → firstUnknown kinds w ≡ none
-  known-none h = go (firstUnknown kinds w) first-unknown
-    where
-      go : (o : Option ℕ) → LowestIs Unknown o → o ≡ none
-      go o (this i (l, t) k) = let b = h i l in absurd (rw (le-leb 1 (getD w i 0) (b .0), le-leb (getD w i 0) kinds (b .1)) at t)
-      go o (nothing k) = refl
-
-  -- and where none is unknown, all are known
-  pub none-known : firstUnknown kinds w ≡ none → Known kinds w
-  none-known e i l = go (firstUnknown kinds w) e first-unknown
-    where
-      known : (x : Bool) → known? kinds (getD w i 0) ≡ x → ¬ T (not x) → (1 ≤ getD w i 0) × (getD w i 0 ≤ kinds)
-      known true q n =
-          let (a, b) = and-T (leb 1 (getD w i 0)) (leb (getD w i 0) kinds) (true→T (known? kinds (getD w i 0)) q) in
-          (leb→le 1 (getD w i 0) a, leb→le (getD w i 0) kinds b)
-      known false q n = absurd (n tt)
-
-      go : (o : Option ℕ) → o ≡ none → LowestIs Unknown o → (1 ≤ getD w i 0) × (getD w i 0 ≤ kinds)
-      go o q (this j x k) = clash (cc)
-      go o q (nothing k) = known (known? kinds (getD w i 0)) refl (λ t. k i (l, t))
 
 module _ (s : List ℕ) (r : Rules) (m : Mark) (e : decode s ≡ got r m) (v : checkOf s ≡ Sound) where
   limits : Limited r
@@ -119,39 +43,34 @@ module _ (s : List ℕ) (r : Rules) (m : Mark) (e : decode s ≡ got r m) (v : c
   -- the reading itself
   read-right : (w row : List ℕ) → Right (compile r) w row (readNote (compile r) w row)
   unfolding readNote onOutcome
-  read-right w row = go (reading g (marked w) (lowest g (marked w)) k (length row)) refl
+  read-right w row = go (read .outcome) refl
     where
       g : Grammar
       g = compile r
 
-      k : ℕ
-      k = suc (2 * length row + length (marked w))
+      read : Ended (Unit {0})
+      read = reading g (marked w) (plainly g (marked w)) (length row) tt
 
-      by-test : reading g (marked w) (lowest g (marked w)) k (length row) ≡ full → (b : Bool) → sentence? g w ≡ b
-          → Right g w row (cond b (clear 14 0 row) (clear 10 (wrongPlace g w) row))
+      by-test : read .outcome ≡ full → (b : Bool) → sentence? g w ≡ b → Right g w row (cond b (clear 14 0 row) (clear 10 (wrongPlace g w) row))
       by-test q true t =
           let x = sentence-iff g (ordered .end-mark) (ordered .end-past) w .0 (true→T (sentence? g w) t) in
           let (d, c) = chosen-exists r limits (checked-sound s r m e v) w x in
-          short d c (reading-crams g ordered w k (length row) d q c)
+          short d c (reading-crams g ordered w (length row) tt d q c)
       by-test q false t =
           wrong (wrongPlace g w) (goes-wrong w (λ x. false→¬T (sentence? g w) t (sentence-iff g (ordered .end-mark) (ordered .end-past) w .1 x)))
 
-      go : (o : Outcome) → reading g (marked w) (lowest g (marked w)) k (length row) ≡ o → Right g w row (onOutcome g w row o)
+      go : (o : Outcome) → read .outcome ≡ o → Right g w row (onOutcome g w row o)
       go (accepted d) q =
-          Right.accepted d (reading-chosen g ordered w k (length row) d q) (reading-sound g (ordered .end-mark) (ordered .end-past) w (lowest g (marked w)) k (length row) d q .1)
+          Right.accepted d (reading-chosen g ordered w (length row) tt d q)
+          (reading-sound g (ordered .end-mark) (ordered .end-past) w (plainly g (marked w)) (length row) tt d q .1)
       go stuck q =
           wrong (wrongPlace g w)
-          (goes-wrong w (λ x. reading-live g (ordered .end-mark) (ordered .end-past) w (lowest g (marked w)) (lowest-right g (marked w)) k (length row) (omega arith) x q))
+          (goes-wrong w (λ x. reading-live g (ordered .end-mark) (ordered .end-past) w (plainly g (marked w)) AnyState Anywhere Anyone (anywhere g)
+          (lowest-right g (marked w) Anyone) tt (length row) tt tt x q))
       go full q = by-test q (sentence? g w) refl
-
-  pub judged-sound : judgeOf (compile r) ≡ Sound
-  unfolding checkOf
-  judged-sound = rw e at v
 
   -- DEMAND 2
   pub demand2 : (w row : List ℕ) (space : ℕ) → length w ≤ maxTokens → Known (compile r .kinds) w → spaceWords (compile r .size) (length w) ≤ space
       → Right (compile r) w row (plainReading s w row space)
-  unfolding plainReading from8 from9 from11
-  demand2 w row space few tokens room =
-      rw (e, judged-sound, le-ltb maxTokens (length w) few, known-none (compile r .kinds) w tokens, le-ltb space (spaceWords (compile r .size) (length w)) room)
-      (read-right w row)
+  unfolding plainReading
+  demand2 w row space few tokens room = rw (gate-sound s w space r m e v, note-passes (compile r) w space few tokens room) (read-right w row)

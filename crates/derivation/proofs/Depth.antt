@@ -71,7 +71,8 @@ abbrev byPlace : ℕ → Entry → ℕ
 byPlace n x = (x .call / 2) * suc n + x .since
 
 -- two places with the same half that face nonterminals have one owner: they are the same, or one stands behind the other
-same-half : (g : Grammar) → Ordered g → (p q d d′ : ℕ) → p / 2 ≡ q / 2 → facing g p ≡ Nonterminal d → facing g q ≡ Nonterminal d′ → owner g p ≡ owner g q
+same-half : (g : Grammar) → Ordered g → (p q d d′ : ℕ) → p / 2 ≡ q / 2 → facing g p ≡ Nonterminal d → facing g q ≡ Nonterminal d′
+    → owner g p ≡ owner g q
 same-half g ordered p q d d′ h e e′ = go (decLe p q) (decLe q p)
   where
     go : Dec (p ≤ q) → Dec (q ≤ p) → owner g p ≡ owner g q
@@ -106,12 +107,14 @@ module _ {g : Grammar} (sound : (a : ℕ) → ¬ LeftRecursive g a) where
       fits y j = let u = placed y (List·Memᴰ·cases-cons j) in pair-below (length (g .starts)) n (y .who) (y .since) (u .1) (u .0)
 
   -- so at most as many wait
-  pub few-by-name : {G : List ℕ} {c i : ℕ} {S : List ℕ} {E : List Entry} (n : ℕ) → Below g G S E c i → i ≤ n → length E ≤ length (g .starts) * suc n
+  pub few-by-name : {G : List ℕ} {c i : ℕ} {S : List ℕ} {E : List Entry} (n : ℕ) → Below g G S E c i → i ≤ n
+      → length E ≤ length (g .starts) * suc n
   few-by-name n ground l = omega arith
   few-by-name n (wait x f b) l = all-by-name n x b l .1
 
   -- ---- the topmost not counted: at most ⌈P / 2⌉ · (n + 1) entries wait, if nonterminals are faced at places below P only
-  pub few-by-place : {G : List ℕ} {c i : ℕ} {S : List ℕ} {E : List Entry} (n P : ℕ) → Ordered g → ((p d : ℕ) → facing g p ≡ Nonterminal d → p < P)
+  pub few-by-place : {G : List ℕ} {c i : ℕ} {S : List ℕ} {E : List Entry} (n P : ℕ) → Ordered g
+      → ((p d : ℕ) → facing g p ≡ Nonterminal d → p < P)
       → Below g G S E c i → i ≤ n → length E ≤ (suc P / 2) * suc n
   few-by-place {E = E} n P ordered within b l = few (byPlace n) ((suc P / 2) * suc n) (apart sound b) tells fits
     where

@@ -102,7 +102,8 @@ module _ (g : Grammar) (ordered : Ordered g) (w : List ℕ) (n : ℕ) (reads : R
   entered {a} {f} i b d = record { alternative = b; start = f; begins = d; own = ordered .owns a b f d; forward = omega arith; blank = λ _. here }
 
   -- a nonterminal c that was entered at i is behind: the one below goes on
-  returned : {a e p c i m : ℕ} → Inside g a e p i → facing g p ≡ Nonterminal c → i ≤ m → (i ≡ m → Derives g (Nonterminal c ∷ []) []) → Inside g a e (suc p) m
+  returned : {a e p c i m : ℕ} → Inside g a e p i → facing g p ≡ Nonterminal c → i ≤ m → (i ≡ m → Derives g (Nonterminal c ∷ []) [])
+      → Inside g a e (suc p) m
   returned {a} {e} {p} {c} {i} {m} x f k n =
       let l = x .forward in
       record {
@@ -198,11 +199,13 @@ module _ {g : Grammar} where
 -- no two entries have the same nonterminal and the same position
 pub data Apart : List Entry → Type 0 where
   nil : Apart []
-  also : {x : Entry} {E : List Entry} → ((y : Entry) → List·Memᴰ y E → x .who ≡ y .who → x .since ≡ y .since → ⊥) → Apart E → Apart (x ∷ E)
+  also : {x : Entry} {E : List Entry} → ((y : Entry) → List·Memᴰ y E → x .who ≡ y .who → x .since ≡ y .since → ⊥) → Apart E
+      → Apart (x ∷ E)
 
 module _ {g : Grammar} {G : List ℕ} (sound : (a : ℕ) → ¬ LeftRecursive g a) where
   -- nor does one that waits agree with the nonterminal c over it
-  pub apart-below : {c i : ℕ} {S : List ℕ} {E : List Entry} → Below g G S E c i → (y : Entry) → List·Memᴰ y E → c ≡ y .who → i ≡ y .since → ⊥
+  pub apart-below : {c i : ℕ} {S : List ℕ} {E : List Entry} → Below g G S E c i → (y : Entry) → List·Memᴰ y E → c ≡ y .who → i ≡ y .since
+      → ⊥
   apart-below {c} b y m q r = let k = known b y m in sound c (let z = k .leads (sym r) in rw (← q) at z)
 
   pub apart : {c i : ℕ} {S : List ℕ} {E : List Entry} → Below g G S E c i → Apart E

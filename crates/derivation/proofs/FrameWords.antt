@@ -60,11 +60,13 @@ module _ (g : Grammar) (ordered : Ordered g) (w : List ℕ) (n : ℕ) (reads : R
   unfolding returnsOf
   held-pop ws d e h = open-step g ordered w n reads G silent h (Step.popped e)
 
-  pub held-match : (ws : List ℕ) (d : ℕ) {p k t i : ℕ} → facing g p ≡ Token k → getElem? w i ≡ some t → T (admits g k t) → Held g G n ws base d p i
+  pub held-match : (ws : List ℕ) (d : ℕ) {p k t i : ℕ} → facing g p ≡ Token k → getElem? w i ≡ some t → T (admits g k t)
+      → Held g G n ws base d p i
       → Held g G n ws base d (suc p) (suc i)
   held-match ws d e f a h = open-step g ordered w n reads G silent h (Step.matched e f a)
 
-  pub held-pick : (ws vs : List ℕ) (d : ℕ) {p a f i : ℕ} (b : ℕ) → facing g p ≡ Nonterminal a → first g a b ≡ some f → Pushed ws vs base d (suc p)
+  pub held-pick : (ws vs : List ℕ) (d : ℕ) {p a f i : ℕ} (b : ℕ) → facing g p ≡ Nonterminal a → first g a b ≡ some f
+      → Pushed ws vs base d (suc p)
       → Held g G n ws base d p i → Held g G n vs base (suc d) f i
   held-pick ws vs d {p} {a} {f} {i} b e q x h =
       rw (pushed-returns ws vs base d (suc p) x) (open-step g ordered w n reads G silent h (Step.picked b e q))
@@ -80,7 +82,8 @@ module _ (g : Grammar) (ordered : Ordered g) (w : List ℕ) (n : ℕ) (reads : R
 
 -- ---- so, for rules within the limits that are not left recursive, the frames always fit beside the cells, and the spare words are left
 pub marked-room : (r : Rules) → Limited r → ((a : ℕ) → ¬ LeftRecursive (compile r) a) → (w : List ℕ) → length w ≤ maxTokens
-    → (a b f : ℕ) → first (compile r) a b ≡ some f → (p i : ℕ) (S : List ℕ) → Steps (compile r) (w ++ (endMark ∷ [])) (f ∷ endPlace ∷ []) 0 (p ∷ S) i
+    → (a b f : ℕ) → first (compile r) a b ≡ some f → (p i : ℕ) (S : List ℕ)
+    → Steps (compile r) (w ++ (endMark ∷ [])) (f ∷ endPlace ∷ []) 0 (p ∷ S) i
     → cellWords * (sizeAll (r .productions) * suc (length w)) + frameWords * length S + spareWords ≤ spaceWords (sizeAll (r .productions)) (length w)
 marked-room r limits none w small a b f d p i S x =
     fits (sizeAll (r .productions)) (length w) (length S) small (marked-depth r limits none w a b f d p i S x)

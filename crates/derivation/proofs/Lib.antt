@@ -6,6 +6,10 @@ pub mod CellGrid
 pub mod CellLaws
 pub mod RunCases
 pub mod MachineLaws
+pub mod MachineLive
+pub mod MachineStates
+pub mod MachineSteps
+pub mod LockStep
 pub mod LowestLaws
 pub mod ReadingLaws
 pub mod ChosenLaws
@@ -25,6 +29,7 @@ pub mod SoundGrammar
 pub mod SentenceTest
 pub mod WholeChosen
 pub mod ChosenExists
+pub mod GateLaws
 pub mod Demand2Laws
 pub mod StarredReadings
 pub mod Demand2Iff
@@ -33,3 +38,4 @@ pub mod ReadyLaws
 pub mod FirstLaws
 pub mod MarkedCells
 pub mod TokenLaws
+pub mod CountLaws

@@ -9,7 +9,8 @@ use Rattle.base.specs.Search.{LowestIs, this, nothing}
 use Rattle.base.proofs.Booleans.{clash}
 use Rattle.base.proofs.Lowest.{lowest-is}
 use Rattle.grammar.specs.Grammar.{Grammar, alternatives, first}
-use Rattle.derivation.specs.Machine.{Serves, Right, serves?, lowest}
+use Rattle.derivation.specs.Machine.{Serves, serves?, lowest, plainly}
+use Rattle.derivation.specs.Choosers.{AnyState, Right}
 use Rattle.derivation.proofs.Notes.{get-lt}
 use Rattle.derivation.proofs.CellLaws.{runs-iff}
 
@@ -36,9 +37,11 @@ module _ (g : Grammar) (w : List ℕ) where
       lowest-is (Serves g w S a i) (λ b. serves? g w S i (first g a b)) (suc (length (alternatives g a))) (λ b _ t. serves-sound S a i b t)
       (serves-complete S a i)
 
-  pub lowest-right : Right g w (lowest g w)
-  lowest-right S a i b x = go (lowest g w S a i) refl (lowest-serves S a i)
+  -- so the plain chooser is right, wherever it is asked
+  pub lowest-right : (Waits : List ℕ → ℕ → ℕ → Type 0) → Right AnyState (plainly g w) g w Waits
+  lowest-right Waits = record { keeps = λ _ _ _ _ _. tt; serves = λ c S a i b _ _ x. go S a i b x (lowest g w S a i) refl (lowest-serves S a i) }
     where
-      go : (o : Option ℕ) → lowest g w S a i ≡ o → LowestIs (Serves g w S a i) o → (c : ℕ) × (lowest g w S a i ≡ some c) × Serves g w S a i c
-      go o e (this c y l) = (c, e, y)
-      go o e (nothing n) = absurd (n b x)
+      go : (S : List ℕ) (a i b : ℕ) → Serves g w S a i b → (o : Option ℕ) → lowest g w S a i ≡ o → LowestIs (Serves g w S a i) o
+          → (d : ℕ) × (lowest g w S a i ≡ some d) × Serves g w S a i d
+      go S a i b x o e (this d y l) = (d, e, y)
+      go S a i b x o e (nothing n) = absurd (n b x)

@@ -13,29 +13,26 @@ use Rattle.grammar.specs.Grammar.{Grammar, suffix, production}
 use Rattle.grammar.specs.Derivation.{Derives}
 use Rattle.grammar.proofs.GrammarLaws.{suffix-is, production-is, production-from}
 use Rattle.derivation.specs.Runs.{spells}
-use Rattle.derivation.specs.Machine.{Serves, lowest, Outcome, accepted, stuck, full, prefix, Step, step, run}
+use Rattle.derivation.specs.Machine.{Serves, lowest, plainly, accepted, full, Step, Ended, step, followStep, run}
 use Rattle.derivation.specs.Chosen.{Chosen}
 use Rattle.derivation.proofs.Notes.{drop-of-get, get-lt}
 use Rattle.derivation.proofs.RunLaws.{run→leftmost, leftmost→run}
-use Rattle.derivation.proofs.MachineLaws.{Seen, ended, halted, crammed, popped, matched, picked, see, prefix-accepted}
+use Rattle.derivation.proofs.MachineLaws.{Seen, ended, halted, crammed, popped, matched, picked, see, prefix-accepted, prefix-full}
 use Rattle.derivation.proofs.LowestLaws.{lowest-serves}
 use Rattle.derivation.proofs.ChosenLaws.{NoneLower, chosen→leftmost, chosen-token, chosen-call, same-lowest}
 
-pub prefix-full : (b : ℕ) (o : Outcome) → prefix b o ≡ full → o ≡ full
-prefix-full b (accepted s) e = cc
-prefix-full b stuck e = cc
-prefix-full b full e = refl
-
 module _ (g : Grammar) (w : List ℕ) where
   -- an alternative that serves, as the textbook has it: with what the stack spells it derives the rest
-  pub serves→derives : (S : List ℕ) (a i b : ℕ) {γ : List Symbol} → production g a b ≡ some γ → Serves g w S a i b → Derives g (γ ++ spells g S) (drop i w)
+  pub serves→derives : (S : List ℕ) (a i b : ℕ) {γ : List Symbol} → production g a b ≡ some γ → Serves g w S a i b
+      → Derives g (γ ++ spells g S) (drop i w)
   unfolding spells
   serves→derives S a i b {γ} e (f, d, (r, x)) =
       let h : some (suffix g f) ≡ some γ = sym (production-is g a b d) ∙ e in
       let z : suffix g f ≡ γ = cc in
       (r, rw z at (run→leftmost x refl))
 
-  pub derives→serves : (S : List ℕ) (a i b : ℕ) {γ : List Symbol} → i ≤ length w → production g a b ≡ some γ → Derives g (γ ++ spells g S) (drop i w) → Serves g w S a i b
+  pub derives→serves : (S : List ℕ) (a i b : ℕ) {γ : List Symbol} → i ≤ length w → production g a b ≡ some γ
+      → Derives g (γ ++ spells g S) (drop i w) → Serves g w S a i b
   unfolding spells
   derives→serves S a i b l e (r, x) =
       let (f, d, q) = production-from g a b e in
@@ -56,56 +53,71 @@ module _ (g : Grammar) (w : List ℕ) where
   none-lower : (S : List ℕ) (a i b : ℕ) → i ≤ length w → Named S a i b → NoneLower g a b (spells g S) (drop i w)
   none-lower S a i b l n c γ h e x = let k = n .least c (derives→serves S a i c l e x) in omega arith
 
+  -- the plain machine, from here on
+  abbrev pub plainRun : ℕ → List ℕ → ℕ → ℕ → Unit {0} → Ended (Unit {0})
+  plainRun k S i room c = run g w (plainly g w) k S i room c
+
+  abbrev Next : List ℕ → ℕ → ℕ → Step → Type 0
+  Next S i room x = Seen g w (lowest g w) S i room x
+
   -- ---- what is accepted is chosen
   abbrev Follows : ℕ → Type 0
-  Follows k = (S : List ℕ) (i room : ℕ) (r : List ℕ) → i ≤ length w → run g w (lowest g w) k S i room ≡ accepted r → Chosen g (spells g S) r (drop i w)
+  Follows k = (S : List ℕ) (i room : ℕ) (c : Unit {0}) (r : List ℕ) → i ≤ length w → (plainRun k S i room c) .outcome ≡ accepted r
+      → Chosen g (spells g S) r (drop i w)
 
-  follow-step : (k : ℕ) → Follows k → (S : List ℕ) (i room : ℕ) (r : List ℕ) → i ≤ length w → run g w (lowest g w) (suc k) S i room ≡ accepted r
-      → (x : Step) → step g w (lowest g w) S i room ≡ x → Seen g w (lowest g w) S i room x → Chosen g (spells g S) r (drop i w)
-  unfolding run spells
-  follow-step k rec S i room r l q x d (ended e) = let z : [] ≡ r = cc in rw (← z, e, drop-length) Chosen.done
-  follow-step k rec S i room r l q x d (halted n) = clash (cc)
-  follow-step k rec S i room r l q x d (crammed e) = clash (cc)
-  follow-step k rec S i room r l q x d (popped {p = p} {i = i₀} {room = room₀} {S = S′} e) = rw (suffix-is g p, e) (rec S′ i₀ room₀ r l (cc))
-  follow-step k rec S i room r l q x d (matched {p = p} {i = i₀} {room = room₀} {S = S′} e f t) =
-      rw (suffix-is g p, e, drop-of-get w i₀ f) (Chosen.match t (rec (suc p ∷ S′) (suc i₀) room₀ r (get-lt w i₀ f) (cc)))
-  follow-step k rec S i room r l q x d (picked {p = p} {a = a} {b = b} {f = f} {i = i₀} {room = room₀} {S = S′} e c y) =
-      let (s, u, z) = prefix-accepted b (run g w (lowest g w) k (f ∷ suc p ∷ S′) i₀ room₀) {r = r} (cc) in
-      let n = named (suc p ∷ S′) a i₀ c in
+  follow-step : (k : ℕ) → Follows k → (S : List ℕ) (i room : ℕ) (c : Unit {0}) (r : List ℕ) → i ≤ length w → (x : Step) → Next S i room x
+      → (followStep (plainRun k) i room x c) .outcome ≡ accepted r → Chosen g (spells g S) r (drop i w)
+  unfolding spells
+  follow-step k rec S i room c r l x (ended e) q = let z : [] ≡ r = cc in rw (← z, e, drop-length) Chosen.done
+  follow-step k rec S i room c r l x (halted n) q = clash (cc)
+  follow-step k rec S i room c r l x (crammed e) q = clash (cc)
+  follow-step k rec S i room c r l x (popped {p = p} {i = i₀} {room = room₀} {S = S′} e) q = rw (suffix-is g p, e) (rec S′ i₀ room₀ c r l q)
+  follow-step k rec S i room c r l x (matched {p = p} {i = i₀} {room = room₀} {S = S′} e f t) q =
+      rw (suffix-is g p, e, drop-of-get w i₀ f) (Chosen.match t (rec (suc p ∷ S′) (suc i₀) room₀ c r (get-lt w i₀ f) q))
+  follow-step k rec S i room c r l x (picked {p = p} {a = a} {b = b} {f = f} {i = i₀} {room = room₀} {S = S′} e d y) q =
+      let (s, u, z) = prefix-accepted b ((plainRun k (f ∷ suc p ∷ S′) i₀ room₀ c) .outcome) {r = r} q in
+      let n = named (suc p ∷ S′) a i₀ d in
       rw (suffix-is g p, e, ← z)
-      (Chosen.expand (production-is g a b y) (none-lower (suc p ∷ S′) a i₀ b l n) (rec (f ∷ suc p ∷ S′) i₀ room₀ s l u))
+      (Chosen.expand (production-is g a b y) (none-lower (suc p ∷ S′) a i₀ b l n) (rec (f ∷ suc p ∷ S′) i₀ room₀ c s l u))
 
   pub run-follows : (k : ℕ) → Follows k
   unfolding run
-  run-follows zero S i room r l q = clash (cc)
-  run-follows (suc k) S i room r l q = follow-step k (run-follows k) S i room r l q (step g w (lowest g w) S i room) refl (see g w (lowest g w) S i room)
+  run-follows zero S i room c r l q = clash (cc)
+  run-follows (suc k) S i room c r l q =
+      let m = step g w (plainly g w) c S i room in
+      follow-step k (run-follows k) S i room (m .state) r l (m .step) (see g w (plainly g w) c S i room) q
 
   -- ---- where it is full, the chosen derivation is longer than there was room for
   abbrev Crams : ℕ → Type 0
-  Crams k = (S : List ℕ) (i room : ℕ) (r : List ℕ) → i ≤ length w → run g w (lowest g w) k S i room ≡ full → Chosen g (spells g S) r (drop i w) → room < length r
+  Crams k = (S : List ℕ) (i room : ℕ) (c : Unit {0}) (r : List ℕ) → i ≤ length w → (plainRun k S i room c) .outcome ≡ full
+      → Chosen g (spells g S) r (drop i w) → room < length r
 
-  cram-step : (k : ℕ) → Crams k → (S : List ℕ) (i room : ℕ) (r : List ℕ) → i ≤ length w → run g w (lowest g w) (suc k) S i room ≡ full → Chosen g (spells g S) r (drop i w)
-      → (x : Step) → step g w (lowest g w) S i room ≡ x → Seen g w (lowest g w) S i room x → room < length r
-  unfolding run spells
-  cram-step k rec S i room r l q y x d (ended e) = clash (cc)
-  cram-step k rec S i room r l q y x d (halted n) = clash (cc)
-  cram-step k rec S i room r l q y x d (crammed {p = p} {a = a} {S = S′} e) =
+  cram-step : (k : ℕ) → Crams k → (S : List ℕ) (i room : ℕ) (c : Unit {0}) (r : List ℕ) → i ≤ length w → Chosen g (spells g S) r (drop i w)
+      → (x : Step) → Next S i room x → (followStep (plainRun k) i room x c) .outcome ≡ full → room < length r
+  unfolding spells
+  cram-step k rec S i room c r l y x (ended e) q = clash (cc)
+  cram-step k rec S i room c r l y x (halted n) q = clash (cc)
+  cram-step k rec S i room c r l y x (crammed {p = p} {a = a} {S = S′} e) q =
       let h = chosen-call {α = suffix g (suc p) ++ spells g S′} {a = a} y (rw (suffix-is g p, e)) in
       rw (h .row) (omega arith)
-  cram-step k rec S i room r l q y x d (popped {p = p} {i = i₀} {room = room₀} {S = S′} e) = rec S′ i₀ room₀ r l (cc) (rw (suffix-is g p, e) at y)
-  cram-step k rec S i room r l q y x d (matched {p = p} {k = k′} {t = t′} {i = i₀} {room = room₀} {S = S′} e f t) =
-      rec (suc p ∷ S′) (suc i₀) room₀ r (get-lt w i₀ f) (cc) (chosen-token {α = suffix g (suc p) ++ spells g S′} {k = k′} {t = t′} y (rw (suffix-is g p, e)) (drop-of-get w i₀ f))
-  cram-step k rec S i room r l q y x d (picked {p = p} {a = a} {b = b} {f = f} {i = i₀} {room = room₀} {S = S′} e c u) =
+  cram-step k rec S i room c r l y x (popped {p = p} {i = i₀} {room = room₀} {S = S′} e) q = rec S′ i₀ room₀ c r l q (rw (suffix-is g p, e) at y)
+  cram-step k rec S i room c r l y x (matched {p = p} {k = k′} {t = t′} {i = i₀} {room = room₀} {S = S′} e f t) q =
+      rec (suc p ∷ S′) (suc i₀) room₀ c r (get-lt w i₀ f) q
+      (chosen-token {α = suffix g (suc p) ++ spells g S′} {k = k′} {t = t′} y (rw (suffix-is g p, e)) (drop-of-get w i₀ f))
+  cram-step k rec S i room c r l y x (picked {p = p} {a = a} {b = b} {f = f} {i = i₀} {room = room₀} {S = S′} e d u) q =
       let h = chosen-call {α = suffix g (suc p) ++ spells g S′} {a = a} y (rw (suffix-is g p, e)) in
-      let n = named (suc p ∷ S′) a i₀ c in
+      let n = named (suc p ∷ S′) a i₀ d in
       let m : b ≡ h .alternative = same-lowest a b (h .alternative) (production-is g a b u) (none-lower (suc p ∷ S′) a i₀ b l n)
       (serves→derives (suc p ∷ S′) a i₀ b (production-is g a b u) (n .serves)) (h .stands) (h .lowest) (h .rest, chosen→leftmost (h .onward)) in
       let v : some (suffix g f) ≡ some (h .symbols) = sym (production-is g a b u) ∙ (rw m (h .stands)) in
       let z : suffix g f ≡ h .symbols = cc in
-      let j = rec (f ∷ suc p ∷ S′) i₀ room₀ (h .rest) l (prefix-full b (run g w (lowest g w) k (f ∷ suc p ∷ S′) i₀ room₀) (cc)) (rw z (h .onward)) in
+      let j = rec (f ∷ suc p ∷ S′) i₀ room₀ c (h .rest) l (prefix-full b ((plainRun k (f ∷ suc p ∷ S′) i₀ room₀ c) .outcome) q)
+      (rw z (h .onward)) in
       rw (h .row) (suc-le-suc j)
 
   pub run-crams : (k : ℕ) → Crams k
   unfolding run
-  run-crams zero S i room r l q y = clash (cc)
-  run-crams (suc k) S i room r l q y = cram-step k (run-crams k) S i room r l q y (step g w (lowest g w) S i room) refl (see g w (lowest g w) S i room)
+  run-crams zero S i room c r l q y = clash (cc)
+  run-crams (suc k) S i room c r l q y =
+      let m = step g w (plainly g w) c S i room in
+      cram-step k (run-crams k) S i room (m .state) r l y (m .step) (see g w (plainly g w) c S i room) q

@@ -33,7 +33,8 @@ pub get-note : (w : List ℕ) (i : ℕ) → i < length w → getElem? (marked w)
 get-note w i l = get-append w (endMark ∷ []) i l
 
 module _ (t : List ℕ) (h : Ready t) (w : List ℕ) where
-  token-inside : (p k i : ℕ) {u : ℕ} → p < grammarIn t .size → facing (grammarIn t) p ≡ Token k → getElem? (marked w) i ≡ some u → T (admits (grammarIn t) k u)
+  token-inside : (p k i : ℕ) {u : ℕ} → p < grammarIn t .size → facing (grammarIn t) p ≡ Token k → getElem? (marked w) i ≡ some u
+      → T (admits (grammarIn t) k u)
       → i < length w
   unfolding admits
   token-inside p k i {u} l e d a = go (marked-get w i u d)

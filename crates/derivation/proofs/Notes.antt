@@ -30,7 +30,9 @@ snoc-same [] (y ∷ []) t u e = clash (cc)
 snoc-same [] (y ∷ z ∷ v) t u e = clash (cc)
 snoc-same (x ∷ []) [] t u e = clash (cc)
 snoc-same (x ∷ z ∷ w) [] t u e = clash (cc)
-snoc-same (x ∷ w) (y ∷ v) t u e = let d : w ++ (t ∷ []) ≡ v ++ (u ∷ []) = cc in let h = snoc-same w v t u d in let q : x ≡ y = cc in (rw (q, h .0), h .1)
+snoc-same (x ∷ w) (y ∷ v) t u e =
+    let d : w ++ (t ∷ []) ≡ v ++ (u ∷ []) = cc in
+    let h = snoc-same w v t u d in let q : x ≡ y = cc in (rw (q, h .0), h .1)
 
 pub no-snoc : (w : List ℕ) (t : ℕ) → [] ≡ w ++ (t ∷ []) → ⊥
 no-snoc [] t e = clash (cc)

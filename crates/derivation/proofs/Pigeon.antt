@@ -25,7 +25,8 @@ unfolding without
 without-mem k [] y m = absurd (List·Memᴰ·not-nil m)
 without-mem k (x ∷ l) y m = go (eqb x k) refl m (without-mem k l y)
   where
-    kept : eqb x k ≡ false → (y ≡ x) ⊎ List·Memᴰ y (without k l) → (List·Memᴰ y (without k l) → List·Memᴰ y l × ¬ (y ≡ k)) → List·Memᴰ y (x ∷ l) × ¬ (y ≡ k)
+    kept : eqb x k ≡ false → (y ≡ x) ⊎ List·Memᴰ y (without k l) → (List·Memᴰ y (without k l) → List·Memᴰ y l × ¬ (y ≡ k))
+        → List·Memᴰ y (x ∷ l) × ¬ (y ≡ k)
     kept e (inl q) rec = (List·Memᴰ·head q, λ z. eqb-false x k e (sym q ∙ z))
     kept e (inr m) rec = let h = rec m in (List·Memᴰ·tail (h .0), h .1)
 
@@ -49,7 +50,8 @@ unfolding without
 without-same k [] n = omega arith
 without-same k (x ∷ l) n = go (eqb x k) refl (without-same k l (λ m. n (List·Memᴰ·tail m)))
   where
-    go : (b : Bool) → eqb x k ≡ b → length l ≤ length (without k l) → suc (length l) ≤ length {A = ℕ} (elim b [ true ↦ without k l | false ↦ x ∷ without k l ])
+    go : (b : Bool) → eqb x k ≡ b → length l ≤ length (without k l)
+        → suc (length l) ≤ length {A = ℕ} (elim b [ true ↦ without k l | false ↦ x ∷ without k l ])
     go true e rec = absurd (n (List·Memᴰ·head (sym (eqb-true x k e))))
     go false e rec = omega arith
 

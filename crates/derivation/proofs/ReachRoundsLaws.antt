@@ -69,7 +69,8 @@ module _ (g : Grammar) (w : List ℕ) where
   unfolding reachRound
   round-in X c l h t =
       T-and (ltb (c .place) (length (g .places)) && leb (c .at) (length w)) (stepped g w X c)
-      (T-and (ltb (c .place) (length (g .places))) (leb (c .at) (length w)) (le→leb (suc (c .place)) (length (g .places)) l) (le→leb (c .at) (length w) h)) t
+      (T-and (ltb (c .place) (length (g .places))) (leb (c .at) (length w)) (le→leb (suc (c .place)) (length (g .places)) l)
+      (le→leb (c .at) (length w) h)) t
 
   round-out : (X : Point → Bool) (c : Point) → T (reachRound g w X c) → (c .place < length (g .places)) × (c .at ≤ length w) × T (stepped g w X c)
   unfolding reachRound
@@ -81,7 +82,8 @@ module _ (g : Grammar) (w : List ℕ) where
   round-mono : (X Y : Point → Bool) → Within X Y → Within (reachRound g w X) (reachRound g w Y)
   round-mono X Y h c t = let (l, k, s) = round-out X c t in round-in Y c l k (stepped-mono g w X Y h c s)
 
-  settled : (c : Point) → List·Memᴰ c (points (suc (length w)) (length (g .places))) ⊎ ((X Y : Point → Bool) → T (reachRound g w X c) → T (reachRound g w Y c))
+  settled : (c : Point) → List·Memᴰ c (points (suc (length w)) (length (g .places)))
+      ⊎ ((X Y : Point → Bool) → T (reachRound g w X c) → T (reachRound g w Y c))
   settled c = go (decLt (c .place) (length (g .places))) (decLe (c .at) (length w))
     where
       go : Dec (c .place < length (g .places)) → Dec (c .at ≤ length w)
@@ -130,7 +132,8 @@ module _ (g : Grammar) (w : List ℕ) where
   reach-iff p i = (steps-add held (rounds-sound (suc (pointCount g w))) (point p i), closed-reach held held-closed)
 
   -- ---- for the code: a set of points that is sound, and to which a round adds nothing, is right on every place
-  pub reach-exact : (X : Point → Bool) → SoundPoints X → Within (reachRound g w X) X → (p i : ℕ) → p < length (g .places) → X (point p i) ≡ reach? g w p i
+  pub reach-exact : (X : Point → Bool) → SoundPoints X → Within (reachRound g w X) X → (p i : ℕ) → p < length (g .places) → X (point p i)
+      ≡ reach? g w p i
   reach-exact X sound closed p i l =
       same (X (point p i)) (reach? g w p i) (λ t. reach-iff p i .1 (sound (point p i) t))
       (λ t. let x = reach-iff p i .0 t in closed (point p i) (round-in X (point p i) l (reach-in x) (closed-reach X closed x)))

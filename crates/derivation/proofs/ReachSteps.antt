@@ -24,9 +24,11 @@ use Rattle.derivation.proofs.CellLaws.{derives-sound}
 -- the ways to place q at position j: none before it, or one step from a point of X
 pub data Step (g : Grammar) (w : List ℕ) (X : Point → Bool) (q j : ℕ) : Type 0 where
   start : (b : ℕ) → first g 0 b ≡ some q → j ≡ 0 → Step g w X q j
-  match : {p k t i : ℕ} → q ≡ suc p → j ≡ suc i → facing g p ≡ Token k → getElem? w i ≡ some t → T (admits g k t) → T (X (point p i)) → Step g w X q j
+  match : {p k t i : ℕ} → q ≡ suc p → j ≡ suc i → facing g p ≡ Token k → getElem? w i ≡ some t → T (admits g k t) → T (X (point p i))
+      → Step g w X q j
   call : {a : ℕ} (p b : ℕ) → facing g p ≡ Nonterminal a → first g a b ≡ some q → T (X (point p j)) → Step g w X q j
-  return : {p a f : ℕ} (i b : ℕ) → q ≡ suc p → facing g p ≡ Nonterminal a → first g a b ≡ some f → T (derives? g w f i j) → T (X (point p i))
+  return : {p a f : ℕ} (i b : ℕ) → q ≡ suc p → facing g p ≡ Nonterminal a → first g a b ≡ some f → T (derives? g w f i j)
+      → T (X (point p i))
       → Step g w X q j
 
 -- ---- first places of productions
@@ -45,7 +47,8 @@ module _ (g : Grammar) (w : List ℕ) (X : Point → Bool) where
   unfolding byStart
   start-in b q j e z = rw z (opens-in g 0 b q e)
 
-  match-in : (p i : ℕ) {k t : ℕ} → facing g p ≡ Token k → getElem? w i ≡ some t → T (admits g k t) → T (X (point p i)) → T (byPlace g w X (suc p) (suc i))
+  match-in : (p i : ℕ) {k t : ℕ} → facing g p ≡ Token k → getElem? w i ≡ some t → T (admits g k t) → T (X (point p i))
+      → T (byPlace g w X (suc p) (suc i))
   unfolding byPlace
   match-in p i {k} {t} e d a x = rw (e, d) (T-and (admits g k t) (X (point p i)) a x)
 

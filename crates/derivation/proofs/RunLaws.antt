@@ -127,7 +127,8 @@ settle g (p ∷ S) = go (facing g p) refl (settle g S)
 
 -- ---- and back: a textbook derivation of what a stack spells is a run of the stack
 module _ {g : Grammar} {w : List ℕ} where
-  pub leftmost→run : {α : List Symbol} {r v : List ℕ} → Leftmost g α r v → (S : List ℕ) (i : ℕ) → spells g S ≡ α → drop i w ≡ v → i ≤ length w
+  pub leftmost→run : {α : List Symbol} {r v : List ℕ} → Leftmost g α r v → (S : List ℕ) (i : ℕ) → spells g S ≡ α → drop i w ≡ v
+      → i ≤ length w
       → Run g w S i (length w) r
   unfolding spells
   leftmost→run Leftmost.done S i e d l = go (settle g S)
@@ -138,13 +139,15 @@ module _ {g : Grammar} {w : List ℕ} where
       go (call p a S′ f q h) = clash (cc)
   leftmost→run (Leftmost.match {k = k} {t = t} {α = α} {r = r} {w = v} c x) S i e d l = go (settle g S) (leftmost→run x)
     where
-      go : Settled g S → ((S : List ℕ) (i : ℕ) → spells g S ≡ α → drop i w ≡ v → i ≤ length w → Run g w S i (length w) r) → Run g w S i (length w) r
+      go : Settled g S → ((S : List ℕ) (i : ℕ) → spells g S ≡ α → drop i w ≡ v → i ≤ length w → Run g w S i (length w) r)
+          → Run g w S i (length w) r
       go (empty q h) rec = clash (cc)
       go (token p k′ S′ f q h) rec =
           let n = get-of-drop w i d in
           h w i (length w) r (Run.match (cc) (n .0) c (rec (suc p ∷ S′) (suc i) (cc) (n .1) (get-lt w i (n .0))))
       go (call p a S′ f q h) rec = clash (cc)
-  leftmost→run (Leftmost.expand {a = a} {b = b} {β = β} {α = α} {r = r} {w = v} c x) S i e d l = go (settle g S) (leftmost→run x) (production-from g a b c)
+  leftmost→run (Leftmost.expand {a = a} {b = b} {β = β} {α = α} {r = r} {w = v} c x) S i e d l =
+      go (settle g S) (leftmost→run x) (production-from g a b c)
     where
       go : Settled g S → ((S : List ℕ) (i : ℕ) → spells g S ≡ β ++ α → drop i w ≡ v → i ≤ length w → Run g w S i (length w) r)
           → (f : ℕ) × (first g a b ≡ some f) × (suffix g f ≡ β) → Run g w S i (length w) (b ∷ r)

@@ -16,7 +16,8 @@ use Rattle.derivation.specs.Plain.{sentence?}
 use Rattle.derivation.proofs.CellLaws.{runs-iff}
 use Rattle.derivation.proofs.WholeNotes.{whole-sentence}
 
-pub sentence-iff : (g : Grammar) → facing g endPlace ≡ Token endMark → facing g (suc endPlace) ≡ End → (w : List ℕ) → T (sentence? g w) ↔ Sentence g w
+pub sentence-iff : (g : Grammar) → facing g endPlace ≡ Token endMark → facing g (suc endPlace) ≡ End → (w : List ℕ)
+    → T (sentence? g w) ↔ Sentence g w
 unfolding sentence?
 sentence-iff g ends last w = (to, from)
   where

@@ -35,7 +35,8 @@ productive-all g h a l = go (productive? g a) refl
     go false e = absurd (h a (l, λ x. false→¬T (productive? g a) e (productive-iff g a .1 x)))
 
 -- a derivation from a nonterminal begins with one of its productions
-some-first : (g : Grammar) (a : ℕ) {γ : List Symbol} {r w : List ℕ} → Leftmost g γ r w → γ ≡ Nonterminal a ∷ [] → (b : ℕ) × (f : ℕ) × (first g a b ≡ some f)
+some-first : (g : Grammar) (a : ℕ) {γ : List Symbol} {r w : List ℕ} → Leftmost g γ r w → γ ≡ Nonterminal a ∷ [] → (b : ℕ) × (f : ℕ)
+    × (first g a b ≡ some f)
 some-first g a Leftmost.done e = clash (cc)
 some-first g a (Leftmost.match c x) e = clash (cc)
 some-first g a (Leftmost.expand {a = a′} {b = b} c x) e = let z : a′ ≡ a = cc in let (f, d, q) = production-from g a b (rw z at c) in (b, f, d)

@@ -36,7 +36,8 @@ rejoin : (a b c v v′ : List ℕ) → a ++ b ≡ c → a ++ ((b ++ v) ++ v′) 
 rejoin a b c v v′ e = rw (← e) (simp append-assoc)
 
 -- the same sentence, its tokens put together in another way
-regroup : {g : Grammar} (f h : List ℕ → List ℕ) → ((v : List ℕ) → f v ≡ h v) → (v : List ℕ) × Sentence g (f v) → (v : List ℕ) × Sentence g (h v)
+regroup : {g : Grammar} (f h : List ℕ → List ℕ) → ((v : List ℕ) → f v ≡ h v) → (v : List ℕ) × Sentence g (f v) → (v : List ℕ)
+    × Sentence g (h v)
 regroup f h e (v, (r, x)) = (v, (r, rw (e v) at x))
 
 module _ (g : Grammar) (w : List ℕ) (rich : Rich g) where
@@ -122,7 +123,8 @@ module _ {g : Grammar} where
 
   pub viable-shorter : (w : List ℕ) (k m : ℕ) → k ≤ m → Viable g (take m w) → Viable g (take k w)
   viable-shorter w k m l h =
-      let e : take k w ++ drop k (take m w) ≡ take m w = ap (λ (u : List ℕ). u ++ drop k (take m w)) (sym (take-take k m w l)) ∙ take-append-drop k (take m w) in
+      let e : take k w ++ drop k (take m w) ≡ take m w = ap (λ (u : List ℕ). u ++ drop k (take m w)) (sym (take-take k m w l))
+      ∙ take-append-drop k (take m w) in
       viable-front (take k w) (drop k (take m w)) (rw e h)
 
   -- the beginnings of a sentence begin a sentence
@@ -142,7 +144,8 @@ module _ {g : Grammar} where
       go (no l) (no h) = omega arith
 
   -- another note that begins alike up to n goes wrong at the same position, if that is before n
-  pub wrong-alike : {w w′ : List ℕ} {k n : ℕ} → k < n → n ≤ length w → n ≤ length w′ → take n w ≡ take n w′ → WrongAt g w k → WrongAt g w′ k
+  pub wrong-alike : {w w′ : List ℕ} {k n : ℕ} → k < n → n ≤ length w → n ≤ length w′ → take n w ≡ take n w′ → WrongAt g w k
+      → WrongAt g w′ k
   wrong-alike {w} {w′} {k} {n} l b b′ e x = record {
     no-sentence = λ s. never (sentence-viable w′ (suc k) s);
     inside = omega arith;

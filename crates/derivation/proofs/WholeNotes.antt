@@ -28,7 +28,8 @@ module _ {g : Grammar} where
   nil-only t (Leftmost.match c x) e = clash (cc)
   nil-only t (Leftmost.expand c x) e = clash (cc)
 
-  pub leftmost-before : {γ : List Symbol} {r v : List ℕ} → Leftmost g γ r v → (α : List Symbol) (k : ℕ) → γ ≡ α ++ (Token k ∷ []) → Before g α r v
+  pub leftmost-before : {γ : List Symbol} {r v : List ℕ} → Leftmost g γ r v → (α : List Symbol) (k : ℕ) → γ ≡ α ++ (Token k ∷ [])
+      → Before g α r v
   leftmost-before Leftmost.done [] k e = clash (cc)
   leftmost-before Leftmost.done (y ∷ α) k e = clash (cc)
   leftmost-before (Leftmost.match {t = t} c x) [] k e = nil-only t x (cc)
@@ -65,7 +66,8 @@ module _ (g : Grammar) (ends : facing g endPlace ≡ Token endMark) (last : faci
     λ x. leftmost→run (leftmost-mark (suffix g f) endMark r w .1 x) (f ∷ endPlace ∷ []) 0 (spells-whole f) refl (omega arith),
   )
 
-  call-whole : (a b : ℕ) (r w : List ℕ) {γ : List Symbol} {s : List ℕ} → Leftmost g γ s w → γ ≡ Nonterminal a ∷ [] → s ≡ b ∷ r → Whole g a b r w
+  call-whole : (a b : ℕ) (r w : List ℕ) {γ : List Symbol} {s : List ℕ} → Leftmost g γ s w → γ ≡ Nonterminal a ∷ [] → s ≡ b ∷ r
+      → Whole g a b r w
   call-whole a b r w Leftmost.done q d = clash (cc)
   call-whole a b r w (Leftmost.match c x) q d = clash (cc)
   call-whole a b r w (Leftmost.expand {a = a′} {b = b′} {β = β} {α = α} {r = r′} c x) q d =

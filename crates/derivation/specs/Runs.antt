@@ -23,7 +23,8 @@ pub data Run (g : Grammar) (w : List ℕ) : List ℕ → ℕ → ℕ → List �
 -- big steps: the rest of a production, from place p on, derives the tokens of w from i up to j
 pub data Der (g : Grammar) (w : List ℕ) : ℕ → ℕ → ℕ → List ℕ → Type 0 where
   finish : {p i : ℕ} → facing g p ≡ End → i ≤ length w → Der g w p i i []
-  match : {p k t i j : ℕ} {r : List ℕ} → facing g p ≡ Token k → getElem? w i ≡ some t → T (admits g k t) → Der g w (suc p) (suc i) j r → Der g w p i j r
+  match : {p k t i j : ℕ} {r : List ℕ} → facing g p ≡ Token k → getElem? w i ≡ some t → T (admits g k t) → Der g w (suc p) (suc i) j r
+      → Der g w p i j r
   expand : {p a b f i m j : ℕ} {r s : List ℕ} → facing g p ≡ Nonterminal a → first g a b ≡ some f → Der g w f i m r → Der g w (suc p) m j s
       → Der g w p i j (b ∷ (r ++ s))
 

@@ -14,7 +14,8 @@ pub data Step (g : Grammar) (w : List ℕ) : List ℕ → ℕ → List ℕ → �
   -- a production is at its end: the place below it goes on
   popped : {p i : ℕ} {S : List ℕ} → facing g p ≡ End → Step g w (p ∷ S) i S i
   -- a token is called for, and the token at the position may stand there
-  matched : {p k t i : ℕ} {S : List ℕ} → facing g p ≡ Token k → getElem? w i ≡ some t → T (admits g k t) → Step g w (p ∷ S) i (suc p ∷ S) (suc i)
+  matched : {p k t i : ℕ} {S : List ℕ} → facing g p ≡ Token k → getElem? w i ≡ some t → T (admits g k t)
+      → Step g w (p ∷ S) i (suc p ∷ S) (suc i)
   -- a nonterminal is called: some alternative of it is entered, and the place behind the call waits
   picked : {p a f i : ℕ} {S : List ℕ} (b : ℕ) → facing g p ≡ Nonterminal a → first g a b ≡ some f → Step g w (p ∷ S) i (f ∷ suc p ∷ S) i
 
@@ -31,4 +32,5 @@ pub data Quiet (g : Grammar) : List ℕ → Type 0 where
 
 -- every token that a production reads stands before position n; an end mark at n, which no production reads, is no position more
 abbrev pub Reads : Grammar → List ℕ → ℕ → Type 0
-Reads g w n = (a b f p k i t : ℕ) → first g a b ≡ some f → owner g p ≡ a → facing g p ≡ Token k → getElem? w i ≡ some t → T (admits g k t) → i < n
+Reads g w n = (a b f p k i t : ℕ) → first g a b ≡ some f → owner g p ≡ a → facing g p ≡ Token k → getElem? w i ≡ some t → T (admits g k t)
+    → i < n

@@ -28,7 +28,8 @@ pub data Reach (g : Grammar) (w : List ℕ) : ℕ → ℕ → Type 0 where
   start : {f : ℕ} (b : ℕ) → first g 0 b ≡ some f → Reach g w f 0
   match : {p k t i : ℕ} → Reach g w p i → facing g p ≡ Token k → getElem? w i ≡ some t → T (admits g k t) → Reach g w (suc p) (suc i)
   call : {p a f i : ℕ} (b : ℕ) → Reach g w p i → facing g p ≡ Nonterminal a → first g a b ≡ some f → Reach g w f i
-  return : {p a f i m : ℕ} {r : List ℕ} (b : ℕ) → Reach g w p i → facing g p ≡ Nonterminal a → first g a b ≡ some f → Der g w f i m r → Reach g w (suc p) m
+  return : {p a f i m : ℕ} {r : List ℕ} (b : ℕ) → Reach g w p i → facing g p ≡ Nonterminal a → first g a b ≡ some f → Der g w f i m r
+      → Reach g w (suc p) m
 
 -- some place can be reached after k tokens of w
 abbrev pub Arrives : Grammar → List ℕ → ℕ → Type 0

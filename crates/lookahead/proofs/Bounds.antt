@@ -1,5 +1,5 @@
 -- What closing relies on in a grammar: every place that it names is one of a production, the end place or the one past it.
-use mathlib.Core.Path.{_≡_, refl, ap}
+use mathlib.Core.Path.{_≡_}
 use mathlib.Core.Logic.{_⊎_, inl, inr}
 use mathlib.Core.Option.{some}
 use mathlib.Core.List.{List, [], _∷_}
@@ -12,10 +12,11 @@ use Rattle.grammar.specs.declared.Symbol.{Symbol}
 use Rattle.grammar.specs.declared.Symbol.the-variants.{Token, Nonterminal, End}
 use Rattle.grammar.specs.Limits.{maxProductions, maxPlaces, endPlace, endMark, nobody}
 use Rattle.grammar.specs.Decode.{Rules, AllOf, Alternatives, Legal}
-use Rattle.grammar.specs.Grammar.{Grammar, facing, owner, admits, alternatives, first, sizeEach, sizeAll, startsEach, startsAll, compile, Limited}
+use Rattle.grammar.specs.Grammar.{Grammar, facing, owner, admits, alternatives, first, sizeEach, sizeAll, startsAll, compile, Limited}
 use Rattle.grammar.proofs.OrderedLaws.{compile-ordered}
 use Rattle.grammar.proofs.PlaceLaws.{Faces, compile-faces, compile-within, compile-end-only}
 use Rattle.grammar.proofs.OwnerLaws.{compile-unowned, compile-first, compile-next}
+use Rattle.derivation.proofs.CountLaws.{length-startsEach}
 
 pub record Bounded (g : Grammar) : Type 0 where
   pub small : g .size ≤ maxPlaces
@@ -30,15 +31,10 @@ pub record Bounded (g : Grammar) : Type 0 where
   pub few : (a : ℕ) → length (alternatives g a) ≤ maxProductions
 
 -- ---- compiled rules
-pub starts-length : (o : ℕ) (l : List (List Symbol)) → length (startsEach o l) ≡ length l
-unfolding startsEach
-starts-length o [] = refl
-starts-length o (β ∷ l) = ap suc (starts-length (o + suc (length β)) l)
-
 starts-few : (t n o : ℕ) (l : List (List (List Symbol))) → AllOf (Alternatives t n) l → (a : ℕ) → length (getD (startsAll o l) a []) ≤ maxProductions
 unfolding startsAll
 starts-few t n o [] h a = omega arith
-starts-few t n o (x ∷ l) h zero = let z = h .0 .1 in omega (arith, starts-length o x)
+starts-few t n o (x ∷ l) h zero = let z = h .0 .1 in omega (arith, length-startsEach o x)
 starts-few t n o (x ∷ l) h (suc a) = starts-few t n (o + sizeEach x) l (h .1) a
 
 module _ (r : Rules) (limits : Limited r) where

@@ -1,4 +1,4 @@
--- A call: the alternatives of a nonterminal in the tables, the token at a position, and what the code's choice leaves.
+-- A call: the alternatives of a nonterminal in the tables, and what the code's choice leaves.
 use mathlib.Core.Path.{_≡_, refl, sym, ap, _∙_}
 use mathlib.Core.Bool.{Bool}
 use mathlib.Core.Option.{Option, none, some}
@@ -7,7 +7,7 @@ use Prim.Native.Nat.{ℕ, zero, suc, _+_, _-_, _*_, _≤_, _<_}
 use native.Mathlib.Numerals.{add-one}
 use native.Mathlib.Omega.{arith}
 use lib.Dec.{T}
-use lib.ListN.{length, getD, getElem?}
+use lib.ListN.{length, getD}
 use lib.Seq.{length-slice}
 use Rattle.base.specs.Search.{lowestFrom, LowestIs, this, nothing}
 use Rattle.base.proofs.Booleans.{clash}
@@ -24,10 +24,10 @@ use Rattle.derivation.specs.Space.{frameWords, spareWords, returnsOf}
 use Rattle.derivation.specs.Ready.{Ready}
 use Rattle.derivation.proofs.Notes.{get-lt}
 use Rattle.derivation.proofs.LowestLaws.{lowest-serves}
-use Rattle.derivation.proofs.MarkedCells.{get-mark, get-note, derives-inside}
+use Rattle.derivation.proofs.MarkedCells.{derives-inside}
 use Rattle.derivation.proofs.ReadyLaws.{ready-first, ready-call, ready-next}
 use Rattle.chart.specs.Chart.{Lent, LentAt, EndsOf}
-use Rattle.derivation.proofs.FirstLaws.{get-some, rule-within, rules-are, first-at}
+use Rattle.derivation.proofs.FirstLaws.{rule-within, rules-are, first-at}
 use Rattle.plain.specs.Frames.{Serving, pushOf}
 use Rattle.plain.specs.Choice.{Leading, endsIn, orZero, lowestIn}
 use Rattle.plain.specs.Machine.{Named, Roomy, pushIf, ground, waiting, Called}
@@ -73,13 +73,6 @@ module _ (t : List ℕ) (h : Ready t) (a b : ℕ) (named : Named t a b) where
   -- an alternative fits a row entry
   pub named-small : b < 65536
   named-small = omega (arith, named-within, named-in)
-
--- ---- the token at a position
-pub token-mark : (w : List ℕ) (i : ℕ) → i ≡ length w → getElem? (marked w) i ≡ some 0
-token-mark w i e = rw e (get-mark w)
-
-pub token-note : (w : List ℕ) (i : ℕ) {r : ℕ} → i < length w → r ≡ getD w i 0 → getElem? (marked w) i ≡ some r
-token-note w i l e = get-note w i l ∙ (get-some w i l ∙ ap some (sym e))
 
 -- ---- what is found is an alternative
 pub lowest-named : (t ws : List ℕ) (a i : ℕ) (s : List ℕ) {r : ℕ} → r ≡ lowestIn t ws a i s → (r ≡ 0 → ⊥) → Named t a r

@@ -5,11 +5,10 @@ ghost use mathlib.Core.Path.{_≡_};
 ghost use mathlib.Core.Option.{some};
 ghost use mathlib.Core.List.{_∷_, []};
 ghost use Prim.Native.Nat.{suc, _+_, _≤_, _<_};
-ghost use lib.ListN.{length, getElem?};
+ghost use lib.ListN.{length};
 ghost use Rattle.grammar.specs.Limits.{endPlace};
 ghost use Rattle.grammar.specs.Grammar.{first};
 ghost use Rattle.grammar.specs.Tables.{grammarIn, nonterminalsIn};
-ghost use Rattle.derivation.specs.Runs.{marked};
 ghost use Rattle.derivation.specs.Ready.{Ready};
 ghost use Rattle.chart.specs.Chart.{Lent, LentAt, Charted};
 ghost use Rattle.plain.specs.Choice.{lowestIn};
@@ -31,17 +30,6 @@ pub fn first(tables: &[u16], a: usize, b: usize) -> usize
 {
     let start = grammar::rule_at(tables, a);
     grammar::first_place(tables, start + b - 1)
-}
-
-// The token at position i; behind the note's last token stands the end mark.
-pub fn token_at(note: &[u16], i: usize) -> usize
-    requires { ⌜ i ≤ length (now note) ⌝ }
-    ensures { λ r. ⌜ getElem? (marked (now (note .entry))) i ≡ some r ⌝ }
-{
-    if i == note.len() {
-        return 0;
-    }
-    base::index(note[i])
 }
 
 // The lowest alternative of a by which a position in s is come to from i, 0 if there is none. If there is one, q with s is pushed as frame d.
@@ -124,7 +112,7 @@ fn go(
                 if n < i {
                     return Outcome::Stuck;
                 }
-                let t = token_at(note, i);
+                let t = derivation::token_at(note, i);
                 if t != k {
                     return Outcome::Stuck;
                 }

@@ -32,7 +32,7 @@ use Rattle.plain.proofs.PushLaws.{push-pushed, push-has, push-charted}
 use Rattle.quick.specs.Machine.{Picked, picked, settle, quickChoice}
 use Rattle.quick.specs.Going.{Began}
 use Rattle.quick.proofs.ChoiceLaws.{choice-decided, choice-single}
-use Rattle.quick.proofs.CountLaws.{count-is, one-at-least}
+use Rattle.derivation.proofs.CountLaws.{count-is, one-at-least}
 use Rattle.quick.proofs.PickLaws.{settle-named, settle-full}
 
 module _ (t : List ℕ) (h : Ready t) (w ws : List ℕ) (lent : Lent (grammarIn t .size) (length w) ws) where

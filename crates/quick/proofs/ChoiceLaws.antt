@@ -23,7 +23,8 @@ use Rattle.lookahead.proofs.Agreeing.{Marked}
 use Rattle.words.specs.Layout.{fullWord}
 use Rattle.cache.specs.Recording.{Learned, learned}
 use Rattle.cache.specs.Predict.{predict}
-use Rattle.cache.specs.Coherent.{Decides, Coherent, Extends}
+use Rattle.cache.specs.Predictor.{Decides}
+use Rattle.cache.specs.Coherent.{Coherent, Extends}
 use Rattle.cache.proofs.SuitLaws.{Suits}
 use Rattle.cache.proofs.ExtendLaws.{extends-refl}
 use Rattle.cache.proofs.PredictLaws.{Tokens, Grown, predict-grows, predict-agrees, predict-again}

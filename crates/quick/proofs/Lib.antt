@@ -12,7 +12,6 @@ pub mod FloorLaws
 pub mod RestLaws
 pub mod TableLaws
 pub mod PickLaws
-pub mod CountLaws
 pub mod NamedLaws
 pub mod ChoseLaws
 pub mod OpeningLaws

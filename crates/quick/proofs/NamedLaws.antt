@@ -22,7 +22,7 @@ use Rattle.cache.proofs.FollowLaws.{follow-unsure, follow-sure, follow-over, fo
 use Rattle.plain.specs.Machine.{Named}
 use Rattle.quick.specs.Machine.{Picked, picked, named?, settle, quickChoice}
 use Rattle.quick.proofs.ChoiceLaws.{settle-words, choice-decided, choice-single}
-use Rattle.quick.proofs.CountLaws.{one-at-least, first-within}
+use Rattle.derivation.proofs.CountLaws.{one-at-least, first-within}
 
 -- ---- an alternative
 module _ (t : List ℕ) (h : Ready t) (w c S : List ℕ) (a i : ℕ) (l : a < nonterminalsIn t) where

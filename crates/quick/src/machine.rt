@@ -102,7 +102,7 @@ fn go(
                 if n < i {
                     return Stop::Stuck(known);
                 }
-                let t = plain::machine::token_at(note, i);
+                let t = derivation::token_at(note, i);
                 if t != k {
                     return Stop::Stuck(known);
                 }

@@ -1,65 +1,78 @@
 -- A prediction as the code makes it: turn by turn, and its ways out.
 use mathlib.Core.Path.{_≡_, refl, sym, ap, _∙_}
+use mathlib.Core.Bool.{Bool, true, false}
 use mathlib.Core.Option.{some}
 use mathlib.Core.List.{List}
 use Prim.Native.Nat.{ℕ, suc, _+_, _-_, _≤_, _<_}
 use native.Mathlib.Numerals.{add-one}
 use native.Mathlib.Omega.{arith}
-use mathlib.Core.Bool.{Bool, true, false}
 use lib.Dec.{ltb}
 use lib.ListN.{length, getD, getElem?, drop, drop-of-length-le}
 use borrow.Author.Tests.{ltb-true, ltb-false}
 use Rattle.grammar.specs.Limits.{maxKinds}
-use Rattle.grammar.specs.Grammar.{Grammar, compile}
+use Rattle.grammar.specs.Grammar.{Grammar, alternatives, compile}
 use Rattle.grammar.specs.Tables.{grammarIn}
 use Rattle.derivation.specs.Runs.{marked}
 use Rattle.derivation.specs.Ready.{Ready}
+use Rattle.derivation.specs.Demand2.{Known}
 use Rattle.derivation.proofs.Notes.{drop-of-get, get-lt}
 use Rattle.derivation.proofs.MarkedCells.{length-marked}
-use Rattle.words.specs.Layout.{slots, fullWord}
+use Rattle.derivation.proofs.TokenLaws.{token-mark, token-note}
+use Rattle.words.specs.Layout.{slots, fullWord, stateWord}
+use Rattle.cache.specs.declared.prediction.Forecast.the-variants.{Alternative, Full}
+use Rattle.cache.specs.Predictor.{Predicted, predicted}
 use Rattle.cache.specs.Recording.{Learned, learned, askStart, askStep}
-use Rattle.cache.specs.Predict.{follow, predict}
+use Rattle.cache.specs.Predict.{chosen, undecided, at, meaning, meaningOf, follow, predict}
 use Rattle.cache.proofs.LengthLaws.{length-askStart, length-askStep}
-use Rattle.cache.proofs.FollowLaws.{meaning-none, meaning-full, meaning-beyond, meaning-chosen, meaning-state, follow-unsure, follow-sure, follow-over, follow-on}
-use Rattle.plain.proofs.CallLaws.{token-mark, token-note}
-use Rattle.derivation.specs.Demand2.{Known}
+use Rattle.cache.proofs.FollowLaws.{meaning-none, meaning-beyond, meaning-chosen, meaning-state, meaning-is}
+use Rattle.cache.proofs.FollowLaws.{follow-unsure, follow-sure, follow-over, follow-on}
 
 module _ (g : Grammar) (a : ℕ) (w : List ℕ) where
   -- where a prediction stands: this was said of what lies before position j, and the rest is left
-  pub record Asking (end : Learned) (j said : ℕ) (c : List ℕ) : Type 0 where
+  pub record Asking (end : Predicted (List ℕ)) (j said : ℕ) (c : List ℕ) : Type 0 where
     pub is : follow g a (drop j (marked w)) (learned said c) ≡ end
 
-  module _ {end : Learned} {j said : ℕ} {c : List ℕ} (x : Asking end j said c) where
+  module _ {end : Predicted (List ℕ)} {j said : ℕ} {c : List ℕ} (x : Asking end j said c) where
+    abbrev count : ℕ
+    count = length (alternatives g a)
+
+    -- what says nothing ends it
+    unsure : meaning count (slots (length c)) said ≡ undecided → predicted Full c ≡ end
+    unsure e = sym (follow-unsure g (drop j (marked w)) a (learned said c) (meaning-is g a (learned said c) ∙ e)) ∙ x .is
+
     -- a step, r being what was said as a number
     module _ {r : ℕ} (e : r ≡ said) (l : fullWord < said) {n : ℕ} (k : n ≡ slots (length c)) where
-      pub asking-on : {t : ℕ} {said′ : ℕ} {c′ : List ℕ} → r - 18 < n → getElem? (marked w) j ≡ some t → learned said′ c′ ≡ askStep g c a (r - 18) t → Asking end (j + 1) said′ c′
+      standing : r - stateWord 0 < n → meaningOf g a (learned said c) ≡ at (r - stateWord 0)
+      standing h = meaning-is g a (learned said c) ∙ meaning-state count (slots (length c)) said (r - stateWord 0) (omega arith) (omega arith)
+
+      pub asking-on : {t : ℕ} {said′ : ℕ} {c′ : List ℕ} → r - stateWord 0 < n → getElem? (marked w) j ≡ some t
+          → learned said′ c′ ≡ askStep g c a (r - stateWord 0) t → Asking end (j + 1) said′ c′
       asking-on {t} h q z =
           rw (add-one j)
           (record {
             is = ap (follow g a (drop (suc j) (marked w))) z
-                ∙ sym (follow-on g t (drop (suc j) (marked w)) a (r - 18) (learned said c) (meaning-state (slots (length c)) said (r - 18) (omega arith) (omega arith)))
+                ∙ sym (follow-on g t (drop (suc j) (marked w)) a (r - stateWord 0) (learned said c) (standing h))
                 ∙ ap (λ (ts : List ℕ). follow g a ts (learned said c)) (sym (drop-of-get (marked w) j q)) ∙ x .is;
           })
 
-      pub asking-beyond : n ≤ r - 18 → learned fullWord c ≡ end
-      asking-beyond h = sym (follow-unsure g (drop j (marked w)) a (learned said c) (meaning-beyond (slots (length c)) said l (omega arith))) ∙ x .is
+      pub asking-beyond : n ≤ r - stateWord 0 → predicted Full c ≡ end
+      asking-beyond h = unsure (meaning-beyond count (slots (length c)) said l (omega arith))
 
-      pub asking-over : r - 18 < n → length w < j → learned fullWord c ≡ end
+      pub asking-over : r - stateWord 0 < n → length w < j → predicted Full c ≡ end
       asking-over h m =
-          sym (follow-over g a (r - 18) (learned said c) (meaning-state (slots (length c)) said (r - 18) (omega arith) (omega arith)))
+          sym (follow-over g a (r - stateWord 0) (learned said c) (standing h))
           ∙ ap (λ (ts : List ℕ). follow g a ts (learned said c)) (sym (drop-of-length-le (marked w) {i = j} (omega (arith, length-marked w)))) ∙ x .is
 
-    pub asking-none : said ≡ 0 → learned fullWord c ≡ end
-    asking-none e = sym (follow-unsure g (drop j (marked w)) a (learned said c) (rw e (meaning-none (slots (length c))))) ∙ x .is
+    -- no state was said, and r is that as a number
+    module _ {r : ℕ} (e : r ≡ said) (l : said ≤ fullWord) where
+      pub asking-none : (0 < r → length (alternatives g a) < r) → predicted Full c ≡ end
+      asking-none h = unsure (meaning-none count (slots (length c)) said l (λ m. let n = h (omega arith) in omega arith))
 
-    pub asking-some : (said ≡ 0 → ⊥) → said ≤ fullWord → learned said c ≡ end
-    asking-some n l = go (ltb said fullWord) refl
-      where
-        go : (b : Bool) → ltb said fullWord ≡ b → learned said c ≡ end
-        go true e = let h = ltb-true said fullWord e in sym (follow-sure g (drop j (marked w)) a said (learned said c) (meaning-chosen (slots (length c)) said (omega arith) (omega arith))) ∙ x .is
-        go false e =
-            let z : said ≡ fullWord = omega (arith, ltb-false said fullWord e) in
-            ap (λ (v : ℕ). learned v c) z ∙ sym (follow-unsure g (drop j (marked w)) a (learned said c) (rw z (meaning-full (slots (length c))))) ∙ x .is
+      pub asking-some : 0 < r → r ≤ length (alternatives g a) → predicted (Alternative r) c ≡ end
+      asking-some m n =
+          ap (λ (v : ℕ). predicted (Alternative v) c) e
+          ∙ sym (follow-sure g (drop j (marked w)) a said (learned said c)
+          (meaning-is g a (learned said c) ∙ meaning-chosen count (slots (length c)) said (omega arith) (omega arith) l)) ∙ x .is
 
 -- a prediction begins as its decision's start says
 pub predict-starts : (g : Grammar) (c : List ℕ) (a : ℕ) (ts : List ℕ) {l : Learned} → l ≡ askStart g c a → follow g a ts l ≡ predict g c a ts

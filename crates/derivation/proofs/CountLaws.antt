@@ -1,5 +1,5 @@
 -- How many productions a nonterminal has: as many as its first places in the tables, and one at least.
-use mathlib.Core.Path.{_≡_, ap, _∙_}
+use mathlib.Core.Path.{_≡_, refl, ap, _∙_}
 use mathlib.Core.Option.{some}
 use mathlib.Core.List.{List, [], _∷_}
 use Prim.Native.Nat.{ℕ, zero, suc, _+_, _-_, _≤_, _<_}
@@ -8,19 +8,23 @@ use lib.ListN.{length, getD}
 use lib.Seq.{length-slice}
 use Rattle.grammar.specs.declared.Symbol.{Symbol}
 use Rattle.grammar.specs.Decode.{AllOf, Alternatives}
-use Rattle.grammar.specs.Grammar.{alternatives, first, sizeEach, startsAll, compile}
+use Rattle.grammar.specs.Grammar.{alternatives, first, sizeEach, startsEach, startsAll, compile}
 use Rattle.grammar.specs.Tables.{grammarIn, nonterminalsIn, ruleAt}
 use Rattle.grammar.proofs.WordLaws.{length-starts-in}
 use Rattle.grammar.proofs.PlaceLaws.{length-startsAll}
 use Rattle.derivation.specs.Ready.{Ready}
 use Rattle.derivation.proofs.Stretches.{get-in}
-use Rattle.lookahead.proofs.Bounds.{starts-length}
 use Rattle.derivation.proofs.FirstLaws.{rules-are, rule-within}
+
+pub length-startsEach : (o : ℕ) (l : List (List Symbol)) → length (startsEach o l) ≡ length l
+unfolding startsEach
+length-startsEach o [] = refl
+length-startsEach o (β ∷ l) = ap suc (length-startsEach (o + suc (length β)) l)
 
 starts-some : (k n o : ℕ) (l : List (List (List Symbol))) → AllOf (Alternatives k n) l → (a : ℕ) → a < length l → 1 ≤ length (getD (startsAll o l) a [])
 unfolding startsAll
 starts-some k n o [] h a m = absurd (omega arith)
-starts-some k n o (x ∷ l) h zero m = let z = h .0 .0 in omega (arith, starts-length o x)
+starts-some k n o (x ∷ l) h zero m = let z = h .0 .0 in omega (arith, length-startsEach o x)
 starts-some k n o (x ∷ l) h (suc a) m = starts-some k n (o + sizeEach x) l (h .1) a (omega arith)
 
 module _ (t : List ℕ) (h : Ready t) (a : ℕ) (l : a < nonterminalsIn t) where
@@ -33,6 +37,10 @@ module _ (t : List ℕ) (h : Ready t) (a : ℕ) (l : a < nonterminalsIn t) where
       let r = h .rules in
       let n : length (grammarIn t .starts) ≡ length (r .productions) = ap (λ g. length (g .starts)) (h .says) ∙ length-startsAll 0 (r .productions) in
       rw (h .says) (starts-some (r .kinds) (length (r .productions)) 0 (r .productions) (h .limited .each) a (omega (arith, n, length-starts-in t)))
+
+  -- the first places of its productions stand in order
+  pub count-order : {s e : ℕ} → s ≡ ruleAt t a → e ≡ ruleAt t (a + 1) → s < e
+  count-order p q = omega (arith, count-is p q, one-at-least)
 
   pub first-within : (b : ℕ) → 1 ≤ b → b ≤ length (alternatives (grammarIn t) a) → (f : ℕ) × (first (grammarIn t) a b ≡ some f)
   first-within zero m k = absurd (omega arith)

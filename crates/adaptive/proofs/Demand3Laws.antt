@@ -1,0 +1,164 @@
+-- DEMAND 3: every list of quick readings by one sound grammar over coherent words.
+use mathlib.Core.Path.{_≡_, refl, sym, subst, ap, _∙_}
+use mathlib.Core.Logic.{_⊎_, inl, inr}
+use mathlib.Core.List.{List, [], _∷_, List·Memᴰ·cases-cons, List·Memᴰ·not-nil}
+use Prim.Native.Nat.{ℕ, _≤_}
+use lib.ListN.{length}
+use Rattle.base.proofs.Booleans.{clash}
+use Rattle.grammar.specs.Decode.{Rules, Mark, got, decode}
+use Rattle.grammar.specs.Grammar.{Grammar, compile}
+use Rattle.grammar.specs.Ordered.{Ordered}
+use Rattle.grammar.proofs.OrderedLaws.{compile-ordered}
+use Rattle.reader.proofs.ReadLaws.{decode-limited}
+use Rattle.soundness.specs.declared.judgement.Verdict.the-variants.{Sound}
+use Rattle.soundness.specs.Check.{checkOf}
+use Rattle.derivation.specs.Space.{maxTokens, spaceWords}
+use Rattle.derivation.specs.Gate.{Gate, passed, atGate, noteGate}
+use Rattle.derivation.specs.Plain.{Answer, refuse, readNote, plainReading}
+use Rattle.derivation.specs.Demand2.{Known}
+use Rattle.derivation.proofs.GateLaws.{Noted, eight, nine, eleven, admitted, note-gate, note-passes, gate-sound}
+use Rattle.lookahead.specs.Configs.{In}
+use Rattle.words.specs.Layout.{minWords}
+use Rattle.words.specs.Begin.{beginWords}
+use Rattle.cache.specs.Coherent.{Coherent, Extends}
+use Rattle.cache.proofs.SuitLaws.{Suits, decode-suits}
+use Rattle.cache.proofs.ExtendLaws.{extends-refl, extends-trans}
+use Rattle.cache.proofs.BeginLaws.{begun-coherent}
+use Rattle.adaptive.specs.Quick.{Reply, reply, quickNote, overCache, quickReading}
+use Rattle.adaptive.specs.Demand3.{Call, taught, quick, plain, Agrees, AllAgree, wordsAfter, taughtAll, Demand3}
+use Rattle.adaptive.proofs.QuickLaws.{over-begun, quick-answer, quick-grows, quick-again}
+
+-- ---- one reading
+module _ (s : List ℕ) (r : Rules) (m : Mark) (e : decode s ≡ got r m) (v : checkOf s ≡ Sound) where
+  abbrev g : Grammar
+  g = compile r
+
+  ordered : Ordered (compile r)
+  ordered = compile-ordered r (decode-limited s r m e)
+
+  suits : Suits (compile r) s
+  suits = decode-suits s r m e
+
+  -- what the gate of a call's note says
+  abbrev gateOf : Call → Gate
+  gateOf k = noteGate g (k .note) (k .space)
+
+  -- both readings behind it
+  abbrev quickAt : List ℕ → Call → Gate → Reply
+  quickAt c k x = atGate (λ n p. reply (refuse n p (k .row)) c) (λ g. overCache s g (k .note) (k .row) c) x
+
+  abbrev plainAt : Call → Gate → Answer
+  plainAt k x = atGate (λ n p. refuse n p (k .row)) (λ g. readNote g (k .note) (k .row)) x
+
+  quick-sound : (c : List ℕ) (k : Call) → quick s c k ≡ quickAt c k (gateOf k)
+  unfolding quickReading
+  quick-sound c k = rw (gate-sound s (k .note) (k .space) r m e v)
+
+  plain-sound : (k : Call) → plain s k ≡ plainAt k (gateOf k)
+  unfolding plainReading
+  plain-sound k = rw (gate-sound s (k .note) (k .space) r m e v)
+
+  -- what is read over coherent words: the note, or nothing
+  abbrev taughtAt : List ℕ → Call → Gate → List ℕ
+  taughtAt c k x = atGate (λ n p. c) (λ g. (quickNote g (k .note) (length (k .row)) c) .state) x
+
+  pub record Read (c : List ℕ) (k : Call) (x : Gate) : Type 0 where
+    pub answer : (quickAt c k x) .answer ≡ plainAt k x
+    pub learned : (quickAt c k x) .words ≡ taughtAt c k x
+
+  read : (c : List ℕ) (k : Call) → Coherent g s c → {x : Gate} → Noted g (k .note) (k .space) x → Read c k x
+  read c k h (eight l) = record { answer = refl; learned = refl }
+  read c k h (nine i l u) = record { answer = refl; learned = refl }
+  read c k h (eleven l t w) = record { answer = refl; learned = refl }
+  read c k h (admitted l t w) =
+      let b = over-begun s g (k .note) (k .row) c (h .long) (h .begun-for) in
+      record { answer = ap (λ (x : Reply). x .answer) b ∙ quick-answer g s suits ordered (k .note) t (k .row) c h; learned = ap (λ (x : Reply). x .words) b }
+
+  read-call : (c : List ℕ) (k : Call) → Coherent g s c → Read c k (gateOf k)
+  read-call c k h = read c k h (note-gate g (k .note) (k .space))
+
+  -- ---- the words after a reading
+  -- the call's note passes the gate
+  abbrev pub Passes : Call → Type 0
+  Passes k = noteGate (compile r) (k .note) (k .space) ≡ passed (compile r)
+
+  -- a call that passed left its marks in c: it was read over some coherent words, and c has only grown since
+  pub record Remembers (c : List ℕ) (j : Call) : Type 0 where
+    pub words : List ℕ
+    pub coherent : Coherent (compile r) s words
+    pub extends : Extends (compile r) ((quickNote (compile r) (j .note) (length (j .row)) words) .state) c
+
+  pub record After (c : List ℕ) (k : Call) (d : List ℕ) : Type 0 where
+    pub coherent : Coherent (compile r) s d
+    pub extends : Extends (compile r) c d
+    pub remembers : Passes k → Remembers d k
+
+  -- nothing was added
+  unread : (c : List ℕ) (k : Call) → Coherent g s c → ¬ Passes k → After c k c
+  unread c k h n = record { coherent = h; extends = extends-refl g c; remembers = λ q. absurd (n q) }
+
+  after : (c : List ℕ) (k : Call) → Coherent g s c → (x : Gate) → gateOf k ≡ x → Noted g (k .note) (k .space) x → After c k (taughtAt c k x)
+  after c k h x a (eight l) = unread c k h (λ q. clash (cc))
+  after c k h x a (nine i l u) = unread c k h (λ q. clash (cc))
+  after c k h x a (eleven l t w) = unread c k h (λ q. clash (cc))
+  after c k h x a (admitted l t w) =
+      let y = quick-grows g s suits ordered (k .note) t (length (k .row)) c h in
+      record { coherent = y .holds; extends = y .grown; remembers = λ _. record { words = c; coherent = h; extends = extends-refl g _ } }
+
+  -- the same note, enough working space and a row of the same length: nothing new
+  repeated : (c : List ℕ) (j k : Call) → Coherent g s c → (Passes j → Remembers c j) → j .note ≡ k .note
+      → spaceWords (g .size) (length (j .note)) ≤ j .space → length (j .row) ≡ length (k .row) → {x : Gate} → Noted g (k .note) (k .space) x
+      → taughtAt c k x ≡ c
+  repeated c j k h z n p q (eight l) = refl
+  repeated c j k h z n p q (nine i l u) = refl
+  repeated c j k h z n p q (eleven l t w) = refl
+  repeated c j k h z n p q (admitted l t w) =
+      let few : length (j .note) ≤ maxTokens = rw n l in
+      let tokens : Known (g .kinds) (j .note) = rw n t in
+      let y = z (note-passes g (j .note) (j .space) few tokens p) in
+      let same-note = subst (λ (i : List ℕ). Extends g ((quickNote g i (length (j .row)) (y .words)) .state) c) n (y .extends) in
+      let same-row = subst (λ (i : ℕ). Extends g ((quickNote g (k .note) i (y .words)) .state) c) q same-note in
+      quick-again g s suits ordered (k .note) t (length (k .row)) (y .words) c (y .coherent) h same-row
+
+  left : (c : List ℕ) (k : Call) → Coherent g s c → (quick s c k) .words ≡ taught g c k
+  unfolding taught
+  left c k h = ap (λ (x : Reply). x .words) (quick-sound c k) ∙ read-call c k h .learned
+
+  -- A QUICK READING KEEPS coherent words coherent, and only adds to them
+  pub quick-keeps : (c : List ℕ) (k : Call) → Coherent (compile r) s c → After c k ((quick s c k) .words)
+  unfolding taught
+  quick-keeps c k h = rw (left c k h) (after c k h (gateOf k) refl (note-gate g (k .note) (k .space)))
+
+  agrees : (c : List ℕ) (earlier : List Call) (k : Call) → Coherent g s c → ((j : Call) → In j earlier → Passes j → Remembers c j) → Agrees s g c earlier k
+  unfolding taught
+  agrees c earlier k h z = record {
+    answer = ap (λ (x : Reply). x .answer) (quick-sound c k) ∙ read-call c k h .answer ∙ sym (plain-sound k);
+    learned = left c k h;
+    nothing-new = λ j i n p q. left c k h ∙ repeated c j k h (z j i) n p q (note-gate g (k .note) (k .space));
+  }
+
+  -- ---- the list
+  all-agree : (ks earlier : List Call) (c : List ℕ) → Coherent g s c → ((j : Call) → In j earlier → Passes j → Remembers c j) → AllAgree s g c earlier ks
+  all-agree [] earlier c h z = tt
+  all-agree (k ∷ ks) earlier c h z =
+      (agrees c earlier k h z, all-agree ks (k ∷ earlier) ((quick s c k) .words) (now .coherent) (λ j i t. held j (List·Memᴰ·cases-cons i) t))
+    where
+      now : After c k ((quick s c k) .words)
+      now = quick-keeps c k h
+
+      held : (j : Call) → (j ≡ k) ⊎ In j earlier → Passes j → Remembers ((quick s c k) .words) j
+      held j (inl q) t = rw q (now .remembers (rw q at t))
+      held j (inr i) t = let x = z j i t in record { words = x .words; coherent = x .coherent; extends = extends-trans g _ _ _ (x .extends) (now .extends) }
+
+  all-taught : (ks : List Call) (c : List ℕ) → Coherent g s c → wordsAfter s c ks ≡ taughtAll g c ks
+  unfolding wordsAfter taughtAll
+  all-taught [] c h = refl
+  all-taught (k ∷ ks) c h = all-taught ks ((quick s c k) .words) (quick-keeps c k h .coherent) ∙ ap (λ (d : List ℕ). taughtAll g d ks) (left c k h)
+
+  -- DEMAND 3, from any coherent words
+  pub demand3 : (c : List ℕ) (ks : List Call) → Coherent (compile r) s c → Demand3 s (compile r) c ks
+  demand3 c ks h = record { each = all-agree ks [] c h (λ j i. absurd (List·Memᴰ·not-nil i)); words = all-taught ks c h }
+
+  -- and so from a cache that has just begun
+  pub demand3-begun : (l : ℕ) (ks : List Call) → minWords ≤ l → Demand3 s (compile r) (beginWords s l) ks
+  demand3-begun l ks h = demand3 (beginWords s l) ks (begun-coherent g s suits l h)

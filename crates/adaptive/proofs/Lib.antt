@@ -1,0 +1,7 @@
+-- Laws of the adaptive reading, one subject a file.
+pub mod Standing
+pub mod ChoiceLaws
+pub mod NoteLaws
+pub mod QuickLaws
+pub mod Demand3Laws
+pub mod EffectLaws
