@@ -40,12 +40,12 @@ use Rattle.derivation.proofs.ReadyLaws.{verdict-is, sound-judged}
 use Rattle.cells.specs.Chart.{Lent, Charted}
 use Rattle.plain.specs.Choice.{orZero, lowestIn}
 use Rattle.plain.specs.Machine.{outcomeIn, Ran}
-use Rattle.plain.specs.Reading.{answered, tokensOf}
+use Rattle.gate.specs.Reading.{answered, tokensOf}
 use Rattle.plain.specs.declared.machine.Outcome.{Outcome}
 use Rattle.plain.specs.declared.machine.Outcome.the-variants.{Accepted}
 use Rattle.plain.specs.declared.reading.Reading.the-variants
-use Rattle.plain.specs.declared.tokens.Tokens.{Tokens}
-use Rattle.plain.specs.declared.tokens.Tokens.the-variants.{Known, Unknown}
+use Rattle.gate.specs.declared.tokens.Tokens.{Tokens}
+use Rattle.gate.specs.declared.tokens.Tokens.the-variants.{Known, Unknown}
 use Rattle.plain.proofs.ServingLaws.{lowest-is, serving-end}
 
 -- ---- the sentence test: some alternative of the start symbol serves over the end place

@@ -11,8 +11,8 @@ use borrow.Author.Tests.{le-leb, lt-leb}
 use Rattle.base.specs.Search.{lowestFrom}
 use Rattle.base.proofs.Lowest.{lowest-none, lowest-hit, lowest-miss}
 use Rattle.derivation.specs.Plain.{known?, firstUnknown}
-use Rattle.plain.specs.Reading.{tokensOf}
-use Rattle.plain.specs.declared.tokens.Tokens.the-variants.{Known, Unknown}
+use Rattle.gate.specs.Reading.{tokensOf}
+use Rattle.gate.specs.declared.tokens.Tokens.the-variants.{Known, Unknown}
 
 -- ---- the search: position i is the next
 module _ (kinds : ℕ) (w : List ℕ) where

@@ -14,7 +14,7 @@ ghost use Rattle.derivation.specs.Plain.{sentence?, clear, onOutcome, readNote,
 ghost use Rattle.derivation.specs.ReachRounds.{wrongPlace};
 ghost use Rattle.cells.specs.Chart.{Lent, Charted};
 ghost use Rattle.plain.specs.Machine.{outcomeIn, Counted};
-ghost use Rattle.plain.specs.Reading.{readingNumber, readingPlace, readingCount, answered};
+ghost use Rattle.gate.specs.Reading.{readingNumber, readingPlace, readingCount, answered};
 
 // What a reading answers.
 pub enum Reading {

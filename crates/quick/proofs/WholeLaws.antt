@@ -20,7 +20,7 @@ use Rattle.words.specs.Layout.{minWords}
 use Rattle.words.specs.Begin.{Begun, begun, beginWords, begin12, beginSound, beginRules, beginning}
 use Rattle.words.specs.declared.beginning.Beginning.{Beginning}
 use Rattle.words.specs.Beginning.{beginningNumber, begunBy}
-use Rattle.plain.specs.Reading.{answered}
+use Rattle.gate.specs.Reading.{answered}
 use Rattle.quick.specs.Quick.{Reply}
 use Rattle.quick.specs.Demand3.{Call, quick, AllAgree, wordsAfter}
 use Rattle.quick.specs.Whole.{Both, Did, Session, lastWords, calls, AllSame, Whole}

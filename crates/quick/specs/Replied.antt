@@ -6,7 +6,7 @@ use lib.ListN.{length}
 use Rattle.grammar.specs.Grammar.{Grammar}
 use Rattle.cells.specs.Chart.{Charted}
 use Rattle.plain.specs.declared.reading.Reading.{Reading}
-use Rattle.plain.specs.Reading as plain
+use Rattle.gate.specs.Reading as plain
 use Rattle.quick.specs.Quick.{Reply, reply, quickNote, answered}
 
 -- a reading, the row and the cache that it left

@@ -8,7 +8,7 @@ use Rattle.derivation.specs.Space.{spaceWords}
 use Rattle.derivation.specs.Plain.{plainReading}
 use Rattle.lookahead.specs.Configs.{In}
 use Rattle.plain.specs.declared.reading.Reading.{Reading}
-use Rattle.plain.specs.Reading.{readingNumber, readingPlace, readingCount, answered}
+use Rattle.gate.specs.Reading.{readingNumber, readingPlace, readingCount, answered}
 use Rattle.quick.specs.Quick.{quickReading}
 use Rattle.quick.specs.Demand3.{Call, taught, taughtAll}
 use Rattle.quick.specs.Replied.{replied}

@@ -1,7 +1,7 @@
 // Refusal 9: tokens that the grammar does not know.
 ghost use mathlib.Core.Path.{_≡_};
-ghost use Rattle.derivation.specs.Plain.{firstUnknown};
-ghost use Rattle.plain.specs.Reading.{tokensOf};
+ghost use Rattle.derivation.specs.Gate.{firstUnknown};
+ghost use Rattle.gate.specs.Reading.{tokensOf};
 
 pub enum Tokens {
     Known,

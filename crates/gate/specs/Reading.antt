@@ -4,10 +4,11 @@ use mathlib.Core.List.{List}
 use Prim.Native.Nat.{ℕ}
 use Rattle.number.specs.Refusals.{refusalNumber, refusalPlace}
 use Rattle.derivation.specs.Plain.{Answer, answer}
-use Rattle.plain.specs.declared.reading.Reading.{Reading}
-use Rattle.plain.specs.declared.reading.Reading.the-variants.{Accepted, Grammar, LongNote, UnknownToken, NoSentence, ShortWorkspace, ShortCache, ForeignCache, ShortRow}
-use Rattle.plain.specs.declared.tokens.Tokens.{Tokens}
-use Rattle.plain.specs.declared.tokens.Tokens.the-variants.{Known, Unknown}
+use Rattle.gate.specs.declared.reading.Reading.{Reading}
+use Rattle.gate.specs.declared.reading.Reading.the-variants.{Accepted, Grammar, LongNote, UnknownToken, NoSentence, ShortWorkspace, ShortCache}
+use Rattle.gate.specs.declared.reading.Reading.the-variants.{ForeignCache, ShortRow}
+use Rattle.gate.specs.declared.tokens.Tokens.{Tokens}
+use Rattle.gate.specs.declared.tokens.Tokens.the-variants.{Known, Unknown}
 
 -- 0 where the note was read, else the refusal's number
 abbrev pub readingNumber : Reading → ℕ

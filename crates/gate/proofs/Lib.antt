@@ -1,0 +1,3 @@
+-- Laws on the gate.
+pub mod SearchLaws
+pub mod PassingLaws

@@ -1,0 +1,8 @@
+// The gate before every reading: document 01's refusals 1 to 9 and 11, in their order, once.
+pub mod passing;
+pub mod reading;
+pub mod tokens;
+
+pub use passing::Gate;
+pub use passing::pass;
+pub use reading::Reading;

@@ -1,0 +1,137 @@
+-- The two loops of a choice: over the members of a set, and over the alternatives of a nonterminal.
+use mathlib.Core.Path.{_≡_, refl, sym, ap, _∙_}
+use mathlib.Core.Bool.{Bool, true, false, _&&_, _||_}
+use mathlib.Core.Logic.{inl, inr}
+use mathlib.Core.Option.{none}
+use mathlib.Core.List.{List}
+use Prim.Native.Nat.{ℕ, suc, _+_, _-_, _≤_, _<_}
+use native.Mathlib.Omega.{arith}
+use native.Mathlib.Decide.{decLt}
+use lib.Dec.{eqb}
+use lib.ListN.{length, getD}
+use lib.Seq.{length-slice}
+use borrow.Author.Tests.{eq-eqb, ne-eqb}
+use Rattle.base.specs.Search.{lowestFrom}
+use Rattle.base.proofs.Bits.{same?}
+use Rattle.base.proofs.Booleans.{or-none, or-true}
+use Rattle.base.proofs.Lowest.{lowest-none, lowest-hit, lowest-miss}
+use Rattle.grammar.specs.Grammar.{alternatives, first}
+use Rattle.grammar.specs.Tables.{grammarIn, nonterminalsIn, ruleAt}
+use Rattle.positions.specs.Positions.{positionCount, emptySet, member, withOf, meetsOf, NextOf}
+use Rattle.positions.specs.Words.{setAt}
+use Rattle.positions.proofs.SetLaws.{member-empty, member-with, length-with}
+use Rattle.derivation.specs.Ready.{Ready}
+use Rattle.cells.specs.Chart.{spot}
+use Rattle.derivation.proofs.FirstLaws.{rule-within, rules-are, first-at}
+use Rattle.machine.specs.Choice.{Leading, endsIn, orZero, lowestIn}
+
+-- ---- over the members of `ends`: m is the next one, r what was kept before it
+module _ (P : ℕ) (ws : List ℕ) (n : ℕ) (ends : List ℕ) (q : ℕ) (rest : List ℕ) where
+  pub record Keeping (m : ℕ) (r : List ℕ) : Type 0 where
+    pub below : (k : ℕ) → k ≤ n → k < m → member r k ≡ (member ends k && meetsOf (setAt ws (spot P q k)) rest)
+    pub none : (k : ℕ) → m ≤ k → k ≤ n → member r k ≡ false
+    pub long : length r ≡ 5
+    pub most : m ≤ positionCount
+    pub found : m < positionCount → member ends m ≡ true
+
+  skipped : (k : ℕ) → member ends k ≡ false → false ≡ (member ends k && meetsOf (setAt ws (spot P q k)) rest)
+  skipped k e = rw e
+
+  pub keeping-begins : (m : ℕ) {r : List ℕ} → r ≡ emptySet → NextOf ends 0 m → Keeping m r
+  keeping-begins m e h =
+      record {
+        below = λ k l j. (ap (λ (s : List ℕ). member s k) e ∙ member-empty k) ∙ skipped k (h .none k (omega arith) j);
+        none = λ k l j. ap (λ (s : List ℕ). member s k) e ∙ member-empty k;
+        long = ap length e;
+        most = h .most;
+        found = h .found;
+      }
+
+  pub keeping-ends : (m : ℕ) {r : List ℕ} → Keeping m r → n < m → Leading P ws n ends q rest r
+  unfolding Leading
+  keeping-ends m x l k j = x .below k j (omega arith)
+
+  module _ (short : n < positionCount) (m m′ : ℕ) {r : List ℕ} (x : Keeping m r) (l : m ≤ n) (h : NextOf ends (m + 1) m′) {s : List ℕ} {b : Bool}
+      (c : s ≡ setAt ws (spot P q m)) (e : b ≡ meetsOf s rest) where
+    here : b ≡ (member ends m && meetsOf (setAt ws (spot P q m)) rest)
+    here = rw (x .found (omega arith), ← c) e
+
+    -- the members before the next, of words that agree with r but perhaps at m
+    next : (r′ : List ℕ) → length r′ ≡ 5 → ((k : ℕ) → k ≤ n → (k ≡ m → ⊥) → member r′ k ≡ member r k) → member r′ m ≡ b
+        → Keeping m′ r′
+    next r′ long same at =
+        record {
+          below = λ k i j. elim (same? k m) [
+            | inl z ↦ rw z (at ∙ here)
+            | inr z ↦ elim (decLt k m) [
+              | yes y ↦ same k i z ∙ x .below k i y
+              | no y ↦ same k i z ∙ (x .none k (omega arith) i ∙ skipped k (h .none k (omega arith) j))
+            ]
+          ];
+          none = λ k i j. let y = above k i j in same k j (λ z. omega arith) ∙ x .none k (omega arith) j;
+          long = long;
+          most = h .most;
+          found = h .found;
+        }
+      where
+        above : (k : ℕ) → m′ ≤ k → k ≤ n → m < k
+        above k i j = let a = h .above (omega arith) in omega arith
+
+    pub keeping-with : {r′ : List ℕ} → b ≡ true → r′ ≡ withOf r m → Keeping m′ r′
+    keeping-with {r′} t q =
+        next r′ (ap length q ∙ (length-with r m ∙ x .long))
+        (λ k i z. (with k ∙ ap (λ (y : Bool). member r k || y) (ne-eqb k m z)) ∙ or-none (member r k))
+        ((with m ∙ ap (λ (y : Bool). member r m || y) (eq-eqb m m refl)) ∙ (or-true (member r m) ∙ sym t))
+      where
+        with : (k : ℕ) → member r′ k ≡ (member r k || eqb k m)
+        with k = ap (λ (s : List ℕ). member s k) q ∙ member-with r m k (omega (arith, x .long))
+
+    pub keeping-same : b ≡ false → Keeping m′ r
+    keeping-same t = next r (x .long) (λ k i z. refl) (x .none m (omega arith) l ∙ sym t)
+
+-- ---- over the alternatives: k is the next one, of those between `from` and `to` in the tables, and the search goes on there
+module _ (t ws : List ℕ) (a i : ℕ) (s : List ℕ) where
+  abbrev test : ℕ → Bool
+  test b = endsIn (grammarIn t .size) ws i s (first (grammarIn t) a b)
+
+  pub Seeking : ℕ → ℕ → ℕ → Type 0
+  Seeking from to k = lowestFrom test (suc (k - from)) (to - k) ≡ lowestFrom test 0 (suc (length (alternatives (grammarIn t) a)))
+
+  pub seeking-at : (from to k k′ : ℕ) → k ≡ k′ → Seeking from to k → Seeking from to k′
+  seeking-at from to k k′ e x = rw e at x
+
+  module _ (h : Ready t) (named : a < nonterminalsIn t) {from to : ℕ} (p : from ≡ ruleAt t a) (q : to ≡ ruleAt t (a + 1)) where
+    pub seeking-begins : Seeking from to from
+    unfolding Seeking endsIn lowestFrom
+    seeking-begins =
+        let n : length (alternatives (grammarIn t) a) ≡ to - from
+        = ap length (rules-are t h a named p q) ∙ length-slice from to t (rule-within t h a named p q) in
+        let z : from - from ≡ 0 = omega arith in
+        rw (n, z)
+
+    module _ (k : ℕ) {f : ℕ} {u : List ℕ} {b : Bool} (x : Seeking from to k) (l : from ≤ k) (m : k < to) (d : f ≡ getD t k 0)
+        (c : u ≡ setAt ws (spot (grammarIn t .size) f i)) (e : b ≡ meetsOf u s) where
+      tested : b ≡ test (suc (k - from))
+      unfolding endsIn
+      tested = rw (first-at t h a named p q k l m d, ← c) e
+
+      pub seeking-found : b ≡ true → k + 1 - from ≡ lowestIn t ws a i s
+      unfolding Seeking lowestIn
+      seeking-found y =
+          let z : k + 1 - from ≡ suc (k - from) = omega arith in
+          z ∙ ap orZero (lowest-hit test (suc (k - from)) (to - k) x (omega arith) (sym tested ∙ y))
+
+      pub seeking-on : b ≡ false → Seeking from to (k + 1)
+      unfolding Seeking
+      seeking-on y =
+          let z : suc (k - from) + 1 ≡ suc (k + 1 - from) = omega arith in
+          let n : to - k - 1 ≡ to - (k + 1) = omega arith in
+          rw (z, n) at (lowest-miss test (suc (k - from)) (to - k) x (omega arith) (sym tested ∙ y))
+
+  pub seeking-ends : (from to k : ℕ) → Seeking from to k → to ≤ k → 0 ≡ lowestIn t ws a i s
+  unfolding Seeking lowestIn
+  seeking-ends from to k x l = ap orZero (lowest-none test (suc (k - from)) (to - k) x (omega arith))
+
+-- a cell by another name of the number of places
+pub sized : {P Q : ℕ} → P ≡ Q → {s : List ℕ} (ws : List ℕ) (p i : ℕ) → s ≡ setAt ws (spot P p i) → s ≡ setAt ws (spot Q p i)
+sized e ws p i h = rw (sym e) h

@@ -1,0 +1,11 @@
+-- Laws on the machine's steps.
+pub mod GoodLaws
+pub mod PushLaws
+pub mod ServingLaws
+pub mod ChoiceLoops
+pub mod AlternativeLaws
+pub mod MoveLaws
+pub mod AdvanceLaws
+pub mod WaitLaws
+pub mod CallLaws
+pub mod SpaceLaws

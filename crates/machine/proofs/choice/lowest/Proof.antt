@@ -1,0 +1,167 @@
+-- `machine::choice::lowest` meets its contract: the alternatives are tried from the first on, and the search goes on as long as none can end in s.
+use Prim.Native.Nat.{_+_, _-_, _≤_}
+use native.Mathlib.Omega.{arith}
+use borrow.Author.Needs.{needs}
+use Rattle.cells.proofs.Spots.{spot-in}
+use Rattle.derivation.proofs.FirstLaws.{rule-within, first-in}
+use Rattle.machine.proofs.CallLaws.{lent-of}
+use Rattle.machine.proofs.ChoiceLoops.{Seeking, seeking-at, seeking-begins, seeking-found, seeking-on, seeking-ends, sized}
+use Rattle.machine.proofs.choice.lowest.Statement.{statement}
+use Rattle.machine.proofs.choice.lowest.Tie as tie
+
+abbrev Inv-loop : tie.InvT-loop
+Inv-loop tables ws a i s places start end left₀ left = (left ≤ end) × Seeking tables ws a i (s .words) start end (start + (end - left))
+
+abbrev μ-loop : tie.MeasureT-loop
+μ-loop tables ws a i s places start end left₀ left = left
+
+size-requires : tie.Need-size-requires Inv-loop μ-loop
+size-requires c κs = search needs
+
+rule-at-requires : tie.Need-rule-at-requires Inv-loop μ-loop
+rule-at-requires c κs = search needs
+
+add-rule-at : tie.Need-add-rule-at Inv-loop μ-loop
+add-rule-at c = search needs
+
+rule-at-requires-2 : tie.Need-rule-at-requires-2 Inv-loop μ-loop
+rule-at-requires-2 c κs = search needs
+
+loop-holds : tie.Need-loop-holds Inv-loop μ-loop
+loop-holds c =
+    let at-before = c .before .before .before .before in
+    let at-entry = at-before .before in
+    let at-rule-at = c .before in (
+      omega arith,
+      seeking-at _ _ _ _ _ _ _ _ _ (omega arith)
+          (seeking-begins _ _ _ _ _ (at-entry .pre .0) (at-entry .pre .2) (at-rule-at .rule-at .ensures) (c .rule-at2 .ensures)),
+    )
+
+sub-k : tie.Need-sub-k Inv-loop μ-loop
+sub-k c = search needs
+
+add-k : tie.Need-add-k Inv-loop μ-loop
+add-k c = search needs
+
+first-place-requires : tie.Need-first-place-requires Inv-loop μ-loop
+first-place-requires c κs =
+    let at-before = c .before .before in
+    let at-before′ = at-before .before .before .before .before in
+    let at-entry = at-before′ .before in
+    let at-loop = c .before in
+    let at-rule-at = at-before .before in
+    let at-rule-at2 = c .before .before in (
+      omega (
+        arith,
+        at-entry .pre .0 .fits .long,
+        at-loop .loop .inv .0,
+        rule-within _ (at-entry .pre .0) _ (at-entry .pre .2) (at-rule-at .rule-at .ensures) (at-rule-at2 .rule-at2 .ensures),
+      ),
+      at-entry .pre .0 .fits .long,
+    )
+
+cell-requires : tie.Need-cell-requires Inv-loop μ-loop
+cell-requires c κs =
+    let at-before = c .before .before in
+    let at-before′ = at-before .before in
+    let at-before′′ = at-before′ .before in
+    let at-before′′′ = at-before′′ .before .before .before in
+    let at-size = at-before′′ .before in
+    let at-entry = at-before′′′ .before in
+    let at-rule-at = at-before′ .before in
+    let at-rule-at2 = at-before .before in
+    let at-loop = c .before .before in
+    spot-in _ _ _ _ _ (lent-of (at-size .size .ensures) (at-entry .pre .1 .lent))
+    (omega (
+      arith,
+      at-size .size .ensures,
+      first-in _ (at-entry .pre .0) _ (at-entry .pre .2) (at-rule-at .rule-at .ensures) (at-rule-at2 .rule-at2 .ensures) _ (omega arith)
+          (omega (arith, at-loop .loop .inv .0)) (c .first-place .ensures),
+    )) (at-entry .pre .1 .here)
+
+sub-left : tie.Need-sub-left Inv-loop μ-loop
+sub-left c = search needs
+
+meets-requires : tie.Need-meets-requires Inv-loop μ-loop
+meets-requires c κs = search needs
+
+add-result : tie.Need-add-result Inv-loop μ-loop
+add-result c = search needs
+
+sub-result : tie.Need-sub-result Inv-loop μ-loop
+sub-result c = search needs
+
+returns : tie.Need-returns Inv-loop μ-loop
+returns c =
+    let at-before = c .before .before in
+    let at-before′ = at-before .before .before in
+    let at-before′′ = at-before′ .before in
+    let at-before′′′ = at-before′′ .before in
+    let at-before′′′′ = at-before′′′ .before in
+    let at-before′′′′′ = at-before′′′′ .before .before .before in
+    let at-entry = at-before′′′′′ .before in
+    let at-rule-at = at-before′′′ .before in
+    let at-rule-at2 = at-before′′ .before in
+    let at-loop = at-before′ .before in
+    let at-first-place = at-before .before in
+    let at-size = at-before′′′′ .before in
+    let at-cell = c .before .before in
+    let at-meets = c .before in
+    seeking-found _ _ _ _ _ (at-entry .pre .0) (at-entry .pre .2) (at-rule-at .rule-at .ensures) (at-rule-at2 .rule-at2 .ensures) _ (at-loop .loop .inv .1)
+    (omega arith) (omega (arith, at-loop .loop .inv .0)) (at-first-place .first-place .ensures)
+    (sized (at-size .size .ensures) _ _ _ (at-cell .cell .ensures)) (at-meets .meets .ensures) (c .if1 .taken)
+
+loop-less : tie.Need-loop-less Inv-loop μ-loop
+loop-less c = search needs
+
+loop-again : tie.Need-loop-again Inv-loop μ-loop
+loop-again c =
+    let at-before = c .before .before in
+    let at-before′ = at-before .before .before in
+    let at-before′′ = at-before′ .before in
+    let at-before′′′ = at-before′′ .before in
+    let at-before′′′′ = at-before′′′ .before in
+    let at-before′′′′′ = at-before′′′′ .before .before .before in
+    let at-loop = at-before′ .before in
+    let at-entry = at-before′′′′′ .before in
+    let at-rule-at = at-before′′′ .before in
+    let at-rule-at2 = at-before′′ .before in
+    let at-first-place = at-before .before in
+    let at-size = at-before′′′′ .before in
+    let at-cell = c .before .before in
+    let at-meets = c .before in (
+      omega (arith, at-loop .loop .inv .0),
+      seeking-at _ _ _ _ _ _ _ _ _ (omega (arith, at-loop .loop .inv .0))
+          (seeking-on _ _ _ _ _ (at-entry .pre .0) (at-entry .pre .2) (at-rule-at .rule-at .ensures) (at-rule-at2 .rule-at2 .ensures) _
+          (at-loop .loop .inv .1) (omega arith) (omega (arith, at-loop .loop .inv .0)) (at-first-place .first-place .ensures)
+          (sized (at-size .size .ensures) _ _ _ (at-cell .cell .ensures)) (at-meets .meets .ensures) (c .if1 .left)),
+    )
+
+returns-2 : tie.Need-returns-2 Inv-loop μ-loop
+returns-2 c =
+    let at-loop = c .before in
+    seeking-ends _ _ _ _ _ _ _ _ (at-loop .loop .inv .1) (omega arith)
+
+pub lowest-spec : {M : Type 1} → statement M
+lowest-spec =
+    tie.close
+    (tie.spec
+    Inv-loop
+    μ-loop
+    size-requires
+    rule-at-requires
+    add-rule-at
+    rule-at-requires-2
+    loop-holds
+    sub-k
+    add-k
+    first-place-requires
+    cell-requires
+    sub-left
+    meets-requires
+    add-result
+    sub-result
+    returns
+    loop-less
+    loop-again
+    returns-2)

@@ -1,0 +1,45 @@
+-- `machine::steps::call` meets its contract: of the positions where the nonterminal can end, the set holds those from which what stays open derives the
+-- rest, so the lowest alternative that ends in it is the plain chooser's.
+use native.Mathlib.Omega.{arith}
+use borrow.Author.Needs.{needs}
+use Rattle.machine.proofs.CallLaws.{calling-at, call-leaves}
+use Rattle.machine.proofs.WaitLaws.{waits-named, waits-roomy, waits-small}
+use Rattle.machine.proofs.steps.call.Statement.{statement}
+use Rattle.machine.proofs.steps.call.Tie as tie
+
+ahead-requires : tie.Need-ahead-requires
+ahead-requires c κs =
+    let at-before = c .before .before .before in
+    let at-entry = at-before .before in
+    at-entry .pre
+
+choose-requires : tie.Need-choose-requires
+choose-requires c κs =
+    let at-before = c .before .before in
+    let at-before′ = at-before .before .before .before in
+    let at-entry = at-before′ .before in
+    let at-words = at-before .before in (
+      at-entry .pre .ready,
+      calling-at _ _ _ (λ k. at-words .slice-known .given k .fits) _ _ _ (at-entry .pre),
+      waits-named _ (at-entry .pre .ready) _ (at-entry .pre .waits),
+      rw (at-entry .pre .spaced .base) (waits-roomy _ (at-entry .pre .ready) _ (at-entry .pre .lent) (at-entry .pre .waits)),
+      omega (arith, waits-small _ (at-entry .pre .ready) _ (at-entry .pre .waits)),
+    )
+
+same-length : tie.Need-same-length
+same-length c = search needs
+
+returns : tie.Need-returns
+returns c =
+    let at-before = c .before .before .before in
+    let at-before′ = at-before .before .before in
+    let at-before′′ = at-before′ .before .before .before in
+    let at-words = at-before′ .before in
+    let at-entry = at-before′′ .before in
+    let at-ahead = at-before .before in
+    let at-choose = c .before .before in
+    call-leaves _ _ _ (λ k. at-words .slice-known .given k .fits) _ _ _ (at-entry .pre) _ (at-ahead .ahead .ensures) (at-choose .choose .ensures .0)
+    (at-choose .choose .ensures .1)
+
+pub call-spec : {M : Type 1} → statement M
+call-spec = tie.close (tie.spec ahead-requires choose-requires same-length returns)

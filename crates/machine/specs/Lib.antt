@@ -1,0 +1,6 @@
+-- The machine's steps in the working space: frames, which alternatives serve, moves that need no choice, and calls.
+pub mod Frames
+pub mod Choice
+pub mod Space
+pub mod Moves
+pub mod Waits
