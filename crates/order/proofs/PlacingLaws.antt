@@ -14,7 +14,7 @@ use Rattle.base.proofs.Booleans.{and-T, or-T, T-or-l, T-or-r, true→T, false�
 use Rattle.grammar.specs.Limits.{maxNonterminals}
 use Rattle.grammar.specs.Grammar.{Grammar}
 use Rattle.grammar.specs.Tables.{grammarIn, nonterminalsIn}
-use Rattle.closures.specs.Closures.{move?, Corners}
+use Rattle.corners.specs.Corners.{move?, Corners}
 use Rattle.derivation.specs.Ready.{Ready}
 use Rattle.derivation.proofs.Pigeon.{Distinct, nil, also, pigeon}
 use Rattle.order.specs.Order.{Among, Lined, InOrder}

@@ -14,7 +14,7 @@ use Rattle.base.proofs.Booleans.{true→T, T→true, false→¬T}
 use Rattle.grammar.specs.Grammar.{Grammar}
 use Rattle.grammar.specs.Tables.{grammarIn, nonterminalsIn}
 use Rattle.closures.specs.Textbook.{Move, Reaches, one, LeftRecursive}
-use Rattle.closures.specs.Closures.{move?, Corners}
+use Rattle.corners.specs.Corners.{move?, Corners}
 use Rattle.corners.proofs.LeftRecursion.{move-iff, move-to, reaches-trans}
 use Rattle.derivation.proofs.Pigeon.{Distinct, nil, also, pigeon}
 use Rattle.order.specs.Placing.{ripeOf, Cornered}

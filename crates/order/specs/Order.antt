@@ -6,7 +6,7 @@ use lib.Dec.{T}
 use lib.ListN.{length, getD}
 use Rattle.grammar.specs.Grammar.{Grammar}
 use Rattle.grammar.specs.Tables.{grammarIn, nonterminalsIn}
-use Rattle.closures.specs.Closures.{move?}
+use Rattle.corners.specs.Corners.{move?}
 
 -- a is one of the first k of the row
 abbrev pub Among : List ℕ → ℕ → ℕ → Type 0

@@ -9,7 +9,7 @@ use Rattle.base.specs.Bits.{testBit, isSubset}
 use Rattle.grammar.specs.Limits.{maxNonterminals}
 use Rattle.grammar.specs.Tables.{grammarIn, nonterminalsIn}
 use Rattle.derivation.specs.Ready.{Ready}
-use Rattle.closures.specs.Closures.{Corners}
+use Rattle.corners.specs.Corners.{Corners}
 use Rattle.order.specs.Order.{Among, Lined}
 
 -- a has no place, and every nonterminal of its row has one
