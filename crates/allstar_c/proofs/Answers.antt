@@ -8,7 +8,7 @@ use Rattle.words.specs.declared.beginning.Beginning.{Beginning}
 use Rattle.words.specs.Beginning.{beginningNumber, beginningPlace, begunBy}
 use Rattle.plain.specs.declared.reading.Reading.{Reading}
 use Rattle.gate.specs.Reading.{readingNumber, readingPlace, readingCount, answered}
-use Rattle.quick.specs.Quick.{Reply, reply}
+use Rattle.adaptive.specs.Quick.{Reply, reply}
 use Rattle.quick.specs.Replied.{replied}
 
 pub told : (r : Reading) (row : List ℕ) {n p c : ℕ} {x : Answer} → n ≡ readingNumber r → p ≡ readingPlace r → c ≡ readingCount r

@@ -3,7 +3,7 @@ ghost use mathlib.Core.Path.{_≡_};
 ghost use lib.ListN.{length};
 ghost use Rattle.derivation.specs.Plain.{answer, plainReading};
 ghost use Rattle.words.specs.Begin.{begun, beginning};
-ghost use Rattle.quick.specs.Quick.{reply, quickReading};
+ghost use Rattle.adaptive.specs.Quick.{reply, quickReading};
 ghost use Rattle.soundness.specs.Check.{checkOf, verdictNumber, verdictPlace};
 
 // Checks a grammar. Answers document 01's number, 0 if it is sound, and stores the place.

@@ -27,7 +27,7 @@ use Rattle.plain.specs.declared.machine.Outcome.the-variants.{Stuck, Full}
 use Rattle.plain.proofs.GoingLaws.{reads, quiet}
 use Rattle.plain.proofs.CallLaws.{some-of}
 use Rattle.quick.specs.Machine.{stopped, prefixed, quickChoice, quickCall, quickRead}
-use Rattle.quick.specs.Quick.{quickNote}
+use Rattle.adaptive.specs.Quick.{quickNote}
 use Rattle.quick.specs.Going.{beyond, onward, Going, Began, ahead, Ran}
 use Rattle.quick.proofs.RunSteps.{beyond-entry}
 use Rattle.quick.proofs.RanLaws.{none-of}

@@ -29,7 +29,7 @@ use Rattle.plain.specs.Machine.{outcomeIn}
 use Rattle.gate.specs.Reading.{tokensOf}
 use Rattle.plain.proofs.FinishLaws.{outcome-length, unknown-of, known-of}
 use Rattle.derivation.specs.Demand2.{Known}
-use Rattle.quick.specs.Quick.{Reply, reply, quickNote, answered, quick13, quick12, quick11, quick9, quick8, replyUnknown, replyRules, quickReading}
+use Rattle.adaptive.specs.Quick.{Reply, reply, quickNote, answered, quick13, quick12, quick11, quick9, quick8, replyUnknown, replyRules, quickReading}
 use Rattle.quick.specs.declared.machine.Stop.{Stop}
 use Rattle.quick.specs.Stop.{stopOutcome, stopKnown}
 use Rattle.quick.specs.Going.{Ran}

@@ -7,7 +7,7 @@ use Rattle.grammar.specs.Grammar.{Grammar}
 use Rattle.cells.specs.Chart.{Charted}
 use Rattle.plain.specs.declared.reading.Reading.{Reading}
 use Rattle.gate.specs.Reading as plain
-use Rattle.quick.specs.Quick.{Reply, reply, quickNote, answered}
+use Rattle.adaptive.specs.Quick.{Reply, reply, quickNote, answered}
 
 -- a reading, the row and the cache that it left
 abbrev pub replied : Reading → List ℕ → List ℕ → Reply

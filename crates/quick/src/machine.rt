@@ -12,7 +12,7 @@ ghost use Rattle.words.specs.Layout.{minWords};
 ghost use Rattle.cells.specs.Chart.{Lent};
 ghost use Rattle.plain.specs.Machine.{ground};
 ghost use Rattle.derivation.specs.Demand2.{Known};
-ghost use Rattle.quick.specs.Quick.{quickNote};
+ghost use Rattle.adaptive.specs.Quick.{quickNote};
 ghost use Rattle.quick.specs.Going.{Going, Began, ahead, Ran};
 ghost use Rattle.quick.specs.Stop.{stopOutcome, stopKnown};
 

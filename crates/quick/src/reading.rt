@@ -15,7 +15,7 @@ ghost use Rattle.cells.specs.Chart.{Lent, Charted, Filled};
 ghost use Rattle.plain.specs.Machine.{outcomeIn, Counted};
 ghost use Rattle.gate.specs.Reading.{answered};
 ghost use Rattle.derivation.specs.Demand2.{Known};
-ghost use Rattle.quick.specs.Quick.{quickNote, quick12, quick11, quick8, quickReading};
+ghost use Rattle.adaptive.specs.Quick.{quickNote, quick12, quick11, quick8, quickReading};
 ghost use Rattle.quick.specs.Stop.{stopOutcome, stopKnown};
 ghost use Rattle.quick.specs.Replied.{replied, readingOf, Tabled};
 
