@@ -106,7 +106,8 @@ module _ (P : ℕ) (ws : List ℕ) (n : ℕ) (s : List ℕ) (q : ℕ) where
     unfolding Going
     going-begins begun from m x j l = ap (λ (b : Bool). member begun j || b) (sym (skip from m j x))
 
-    pub going-on : (begun : List ℕ) (from m m′ : ℕ) (r u : List ℕ) {r′ : List ℕ} → Going begun from m r → m ≤ n → member s m ≡ true → u ≡ setAt ws (spot P q m) → r′ ≡ unionOf r u
+    pub going-on : (begun : List ℕ) (from m m′ : ℕ) (r u : List ℕ) {r′ : List ℕ} → Going begun from m r → m ≤ n → member s m ≡ true
+        → u ≡ setAt ws (spot P q m) → r′ ≡ unionOf r u
         → NextOf s (m + 1) m′ → Going begun from m′ r′
     unfolding Going
     going-on begun from m m′ r u {r′} inv h f e d x j l =
@@ -121,7 +122,8 @@ module _ (P : ℕ) (ws : List ℕ) (n : ℕ) (s : List ℕ) (q : ℕ) where
     no-member from first x h e j l =
         (ap (λ (r : List ℕ). member r j) e ∙ member-empty j) ∙ (sym (through-none (member s) (cellHas P ws) q j first n h) ∙ sym (skip from first j x))
 
-    module _ (from first second : ℕ) {r : List ℕ} (x : NextOf s from first) (h : first ≤ n) (e : r ≡ setAt ws (spot P q first)) (y : NextOf s (first + 1) second) where
+    module _ (from first second : ℕ) {r : List ℕ} (x : NextOf s from first) (h : first ≤ n) (e : r ≡ setAt ws (spot P q first))
+        (y : NextOf s (first + 1) second) where
       -- what the first member leads to, and the others
       first-then : (j : ℕ) → j < positionCount → on j from ≡ (member r j || on j second)
       first-then j l =
@@ -132,7 +134,8 @@ module _ (P : ℕ) (ws : List ℕ) (n : ℕ) (s : List ℕ) (q : ℕ) where
 
       pub one-member : n < second → Through P ws n s from q r
       unfolding Through
-      one-member k j l = sym (first-then j l ∙ (ap (λ (b : Bool). member r j || b) (through-none (member s) (cellHas P ws) q j second n k) ∙ or-none (member r j)))
+      one-member k j l = sym (first-then j l
+          ∙ (ap (λ (b : Bool). member r j || b) (through-none (member s) (cellHas P ws) q j second n k) ∙ or-none (member r j)))
 
       pub everywhere : {b : Bool} → Ahead P ws n from q → Full b r first n → b ≡ true → Through P ws n s from q r
       unfolding Through Ahead

@@ -4,14 +4,12 @@ use mathlib.Core.Bool.{Bool, true, false, not, _&&_, _||_}
 use mathlib.Core.List.{List}
 use Prim.Native.Nat.{ℕ, suc, _+_, _*_, _≤_, _<_}
 use native.Mathlib.Numerals.{add-one}
-use native.Mathlib.Omega.{arith}
-use lib.Dec.{eqb}
 use lib.ListN.{length}
 use borrow.Author.Tests.{not-true, not-false}
 use Rattle.grammar.specs.declared.Symbol.the-variants.{Token, Nonterminal, End}
 use Rattle.grammar.specs.Grammar.{facing}
 use Rattle.grammar.specs.Tables.{grammarIn}
-use Rattle.positions.specs.Positions.{positionCount, setWords, emptySet, member, withOf}
+use Rattle.positions.specs.Positions.{positionCount, setWords, emptySet, withOf}
 use Rattle.positions.specs.Words.{setAt}
 use Rattle.positions.proofs.SetLaws.{member-empty, member-with}
 use Rattle.cells.specs.Chart.{spot}
@@ -31,24 +29,29 @@ or-comm false true = refl
 or-comm false false = refl
 
 module _ (t w ws : List ℕ) (i : ℕ) (ends : List ℕ) (p : ℕ) where
-  pub derived-end : {s r : List ℕ} → facing (grammarIn t) p ≡ End → i < positionCount → s ≡ emptySet → r ≡ withOf s i → Derived t w ws i ends p r
+  pub derived-end : {s r : List ℕ} → facing (grammarIn t) p ≡ End → i < positionCount → s ≡ emptySet → r ≡ withOf s i
+      → Derived t w ws i ends p r
   unfolding Derived
-  derived-end e k q d j l = rw (d, q, member-with emptySet i j k, member-empty j, eqb-comm j i) (sym (by-end (grammarIn t) w (endHas ends) (cellsIn t ws) i j p _ e))
+  derived-end e k q d j l = rw (d, q, member-with emptySet i j k, member-empty j, eqb-comm j i)
+      (sym (by-end (grammarIn t) w (endHas ends) (cellsIn t ws) i j p _ e))
 
-  pub derived-other : {k : ℕ} {m : Bool} {r : List ℕ} → facing (grammarIn t) p ≡ Token k → m ≡ matchesAt (grammarIn t) w i k → not m ≡ true → r ≡ emptySet
+  pub derived-other : {k : ℕ} {m : Bool} {r : List ℕ} → facing (grammarIn t) p ≡ Token k → m ≡ matchesAt (grammarIn t) w i k → not m ≡ true
+      → r ≡ emptySet
       → Derived t w ws i ends p r
   unfolding Derived
   derived-other {k} {m} e q n d j l =
       rw (d, member-empty j) (sym (by-other (grammarIn t) w (endHas ends) (cellsIn t ws) i j p _ e (sym q ∙ not-true m n)))
 
-  pub derived-token : {k P : ℕ} {m : Bool} {r : List ℕ} → P ≡ grammarIn t .size → facing (grammarIn t) p ≡ Token k → m ≡ matchesAt (grammarIn t) w i k
+  pub derived-token : {k P : ℕ} {m : Bool} {r : List ℕ} → P ≡ grammarIn t .size → facing (grammarIn t) p ≡ Token k → m
+      ≡ matchesAt (grammarIn t) w i k
       → not m ≡ false → r ≡ setAt ws (spot P (p + 1) (i + 1)) → Derived t w ws i ends p r
   unfolding Derived
   derived-token {k} {P} {m} s e q n d j l =
       rw (cell-member (grammarIn t .size) ws (p + 1) (i + 1) j (rw s at d) l, add-one p, add-one i)
       (sym (by-token (grammarIn t) w (endHas ends) (cellsIn t ws) i j p _ e (sym q ∙ not-false m n)))
 
-  pub derived-call : {b P : ℕ} (s r : List ℕ) → P ≡ grammarIn t .size → facing (grammarIn t) p ≡ Nonterminal b → i ≤ length w → length w < positionCount
+  pub derived-call : {b P : ℕ} (s r : List ℕ) → P ≡ grammarIn t .size → facing (grammarIn t) p ≡ Nonterminal b → i ≤ length w
+      → length w < positionCount
       → s ≡ setAt ends (setWords * b) → Through P ws (length w) s i (p + 1) r → Derived t w ws i ends p r
   unfolding Derived
   derived-call {b} {P} s r sized e here short c x j l =

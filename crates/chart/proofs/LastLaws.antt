@@ -34,7 +34,8 @@ end-only (Der.finish e l) f = refl
 end-only (Der.match e d a x) f = clash (cc)
 end-only (Der.expand e d x y) f = clash (cc)
 
-module _ {t w : List ℕ} {i : ℕ} {ws : List ℕ} (row : Row t w i ws) (ends : List ℕ) (right : RightEnds t w i ends) (p b : ℕ) (h : p < grammarIn t .size)
+module _ {t w : List ℕ} {i : ℕ} {ws : List ℕ} (row : Row t w i ws) (ends : List ℕ) (right : RightEnds t w i ends) (p b : ℕ)
+    (h : p < grammarIn t .size)
     (e : facing (grammarIn t) p ≡ Nonterminal b) (f : facing (grammarIn t) (suc p) ≡ End) (behind : Behind t w ws i p) where
   next : suc p < grammarIn t .size
   next = omega (arith, row-call row p h e)
@@ -76,15 +77,18 @@ module _ {t w : List ℕ} {i : ℕ} {ws : List ℕ} (row : Row t w i ws) (ends :
           let r = end-range j l u in
           let own = cell-own j (r .0) (r .1) in
           elim (decLt i j) [
-            | yes k ↦ T-or-l (throughOf (endHas ends b) (cellsIn t ws) (suc p) j (suc i) (length w)) (endHas ends b i && cellsIn t ws (suc p) i j) (through-in (endHas ends b) (cellsIn t ws) (suc p) j (suc i) (length w) j k (r .1) u own)
+            | yes k ↦ T-or-l (throughOf (endHas ends b) (cellsIn t ws) (suc p) j (suc i) (length w)) (endHas ends b i && cellsIn t ws (suc p) i j)
+                (through-in (endHas ends b) (cellsIn t ws) (suc p) j (suc i) (length w) j k (r .1) u own)
             | no k ↦ (
                 let z : j ≡ i = omega arith in
                 T-or-r (throughOf (endHas ends b) (cellsIn t ws) (suc p) j (suc i) (length w)) (endHas ends b i && cellsIn t ws (suc p) i j)
-                (T-and (endHas ends b i) (cellsIn t ws (suc p) i j) (subst (λ (m : ℕ). T (endHas ends b m)) z u) (subst (λ (m : ℕ). T (cellsIn t ws (suc p) m j)) z own)))
+                (T-and (endHas ends b i) (cellsIn t ws (suc p) i j) (subst (λ (m : ℕ). T (endHas ends b m)) z u)
+                (subst (λ (m : ℕ). T (cellsIn t ws (suc p) m j)) z own)))
           ]
 
       back : T onward → T (endHas ends b j)
-      back u = ⊎-elim later here (or-T (throughOf (endHas ends b) (cellsIn t ws) (suc p) j (suc i) (length w)) (endHas ends b i && cellsIn t ws (suc p) i j) u)
+      back u = ⊎-elim later here (or-T (throughOf (endHas ends b) (cellsIn t ws) (suc p) j (suc i) (length w)) (endHas ends b i && cellsIn t ws (suc p) i j)
+          u)
         where
           later : T (throughOf (endHas ends b) (cellsIn t ws) (suc p) j (suc i) (length w)) → T (endHas ends b j)
           later v =
@@ -97,6 +101,8 @@ module _ {t w : List ℕ} {i : ℕ} {ws : List ℕ} (row : Row t w i ws) (ends :
               rw (← cell-only i j (omega arith) (row .here) l (z .1)) (z .0)
 
 -- as the code has it
-pub derived-behind : {t w : List ℕ} {i : ℕ} {ws ends : List ℕ} → Ended t w i ws ends → (p b : ℕ) → p < grammarIn t .size → facing (grammarIn t) p ≡ Nonterminal b
-    → Behind t w ws i p → {r : Bool} → EndIs t (p + 1) r → r ≡ true → {s : List ℕ} → s ≡ setAt ends (setWords * b) → Derived t w ws i ends p s
+pub derived-behind : {t w : List ℕ} {i : ℕ} {ws ends : List ℕ} → Ended t w i ws ends → (p b : ℕ) → p < grammarIn t .size
+    → facing (grammarIn t) p ≡ Nonterminal b
+    → Behind t w ws i p → {r : Bool} → EndIs t (p + 1) r → r ≡ true → {s : List ℕ} → s ≡ setAt ends (setWords * b)
+    → Derived t w ws i ends p s
 derived-behind {ends = ends} x p b h e behind y z = derived-last (x .row) ends (x .right) p b h e (rw add-one at (y z)) behind

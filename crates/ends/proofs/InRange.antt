@@ -17,7 +17,7 @@ use Rattle.derivation.proofs.ReadyLaws.{ready-next, ready-named, ready-size}
 use Rattle.cells.specs.Chart.{cellHas, Lent, ChartedFrom}
 use Rattle.cells.specs.Through.{Ahead}
 use Rattle.cells.proofs.Spots.{sized, lent-sized}
-use Rattle.ends.specs.Row.{Row, cellsIn}
+use Rattle.ends.specs.Row.{Row}
 
 module _ {t w : List ℕ} {i : ℕ} {ws : List ℕ} (row : Row t w i ws) where
   pub row-short : length w < positionCount

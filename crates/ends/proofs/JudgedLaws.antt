@@ -1,6 +1,6 @@
 -- Nonterminals judged each behind its left corners: what is judged stays closed, and when all are judged the sets are right.
 use mathlib.Core.Path.{_≡_, sym, ap, _∙_, subst}
-use mathlib.Core.Logic.{_⊎_, inl, inr, ⊎-elim}
+use mathlib.Core.Logic.{_⊎_, ⊎-elim}
 use mathlib.Core.Bool.{Bool, _&&_}
 use mathlib.Core.Option.{some}
 use mathlib.Core.List.{List, [], _∷_, _++_, append-nil}
@@ -10,7 +10,6 @@ use native.Mathlib.Omega.{arith}
 use lib.Dec.{T, eqb, eqb-refl}
 use lib.ListN.{length, getD, getElem?}
 use lib.Seq.{slice-empty}
-use Rattle.base.specs.Rounds.{anyOf}
 use Rattle.base.proofs.Bits.{same?}
 use Rattle.base.proofs.Booleans.{clash, T-and, T-or-l, T-or-r}
 use Rattle.base.proofs.Lists.{anyOf-T, T-anyOf}
@@ -50,13 +49,15 @@ module _ (g : Grammar) (X : ℕ → Bool) (p b : ℕ) (e : facing g p ≡ Nonter
   leads-on : (c : ℕ) → T (X b) → T (leads X c (suffix g (suc p))) → T (leads X c (suffix g p))
   leads-on c x y = rw (leads-place X c g p, e) (T-or-r (eqb b c) (X b && leads X c (suffix g (suc p))) (T-and (X b) (leads X c (suffix g (suc p))) x y))
 
-module _ (g : Grammar) (N : ℕ) (w : List ℕ) (C : ℕ → ℕ → ℕ → Bool) (i : ℕ) (known : Known g N w C i) (inside : i ≤ length w) (E E′ : ℕ → ℕ → Bool)
+module _ (g : Grammar) (N : ℕ) (w : List ℕ) (C : ℕ → ℕ → ℕ → Bool) (i : ℕ) (known : Known g N w C i) (inside : i ≤ length w)
+    (E E′ : ℕ → ℕ → Bool)
     (empty : (b : ℕ) → b < N → T (E b i) → T (nullable? g b)) (j : ℕ) where
   -- what E holds of the nonterminals that the production from p on leads to, E′ holds
   abbrev Under : ℕ → Type 0
   Under p = (c m : ℕ) → T (leads (nullable? g) c (suffix g p)) → m ≤ length w → T (E c m) → T (E′ c m)
 
-  led-under : (p : ℕ) (rest rest′ : Bool) → Under p → ((b : ℕ) → facing g p ≡ Nonterminal b → Under (suc p) → T rest → T rest′) → Led g w E C i j p rest → Led g w E′ C i j p rest′
+  led-under : (p : ℕ) (rest rest′ : Bool) → Under p → ((b : ℕ) → facing g p ≡ Nonterminal b → Under (suc p) → T rest → T rest′)
+      → Led g w E C i j p rest → Led g w E′ C i j p rest′
   led-under p rest rest′ h rec (end e q) = end e q
   led-under p rest rest′ h rec (token e d a x) = token e d a x
   led-under p rest rest′ h rec (later {b = b} m e l k x y) = later m e l k (h b m (leads-here g (nullable? g) p b e) k x) y
@@ -99,10 +100,12 @@ module _ (t w : List ℕ) (i : ℕ) (ws : List ℕ) (row : Row t w i ws) where
       sound-now = looked-sound t w i ws row (getD order k 0) ends after look (inv .sound)
 
       -- a nonterminal whose left corners are judged leads to no more than before
-      offers-same : (a : ℕ) → ((c : ℕ) → T (move? (grammarIn t) a c) → Among order k c) → (j : ℕ) → T (offers t w ws i after a j) → T (offers t w ws i ends a j)
+      offers-same : (a : ℕ) → ((c : ℕ) → T (move? (grammarIn t) a c) → Among order k c) → (j : ℕ) → T (offers t w ws i after a j)
+          → T (offers t w ws i ends a j)
       offers-same a under j x = go (anyOf-T _ (alternatives (grammarIn t) a) x)
         where
-          go : (n : ℕ) × (f : ℕ) × (getElem? (alternatives (grammarIn t) a) n ≡ some f) × T (leadsTo t w ws i after j f) → T (offers t w ws i ends a j)
+          go : (n : ℕ) × (f : ℕ) × (getElem? (alternatives (grammarIn t) a) n ≡ some f) × T (leadsTo t w ws i after j f)
+              → T (offers t w ws i ends a j)
           go (n, f, e, y) =
               let known = row-known t w i ws row in
               let l = known .kept .starts a (suc n) f e in

@@ -60,7 +60,8 @@ module _ (g : Grammar) (w : List ℕ) (E : ℕ → ℕ → Bool) (C : ℕ → �
         go : (t : ℕ) × (getElem? w i ≡ some t) × T (admits g k t) → Led g w E C i j p rest
         go (t, d, a) = token e d a x
 
-    led-call : (b : ℕ) → facing g p ≡ Nonterminal b → T (throughOf (E b) C (suc p) j (suc i) (length w)) ⊎ T (E b i && rest) → Led g w E C i j p rest
+    led-call : (b : ℕ) → facing g p ≡ Nonterminal b → T (throughOf (E b) C (suc p) j (suc i) (length w)) ⊎ T (E b i && rest)
+        → Led g w E C i j p rest
     led-call b e (inl t) = go (through-out (E b) C (suc p) j (suc i) (length w) t)
       where
         go : (m : ℕ) × (suc i ≤ m) × (m ≤ length w) × T (E b m) × T (C (suc p) m j) → Led g w E C i j p rest
@@ -86,7 +87,8 @@ module _ (g : Grammar) (w : List ℕ) (i : ℕ) where
   unfolding endsAt
   ends-out a j t = go (anyOf-T (λ f. derives? g w f i j) (alternatives g a) t)
     where
-      go : (n : ℕ) × (f : ℕ) × (getElem? (alternatives g a) n ≡ some f) × T (derives? g w f i j) → (b : ℕ) × (f : ℕ) × (first g a b ≡ some f) × DerivesBy g w f i j
+      go : (n : ℕ) × (f : ℕ) × (getElem? (alternatives g a) n ≡ some f) × T (derives? g w f i j) → (b : ℕ) × (f : ℕ)
+          × (first g a b ≡ some f) × DerivesBy g w f i j
       go (n, f, e, t) = (suc n, f, e, derives-sound g w t)
 
 -- what is known of a grammar of N nonterminals and of the cells: places of productions are kept, and at later positions the cells are right
@@ -120,7 +122,8 @@ module _ (g : Grammar) (N : ℕ) (w : List ℕ) (C : ℕ → ℕ → ℕ → Boo
         let (c, f, d, (r, z)) = ends-out g w i b m (sound b m (known .named p b e) (omega arith) x) in
         (c ∷ (r ++ s), Der.expand e d z y)
 
-    by-sound : (rest : Bool) → i ≤ length w → ((b : ℕ) → facing g p ≡ Nonterminal b → T rest → DerivesBy g w (suc p) i j) → Led g w E C i j p rest
+    by-sound : (rest : Bool) → i ≤ length w → ((b : ℕ) → facing g p ≡ Nonterminal b → T rest → DerivesBy g w (suc p) i j)
+        → Led g w E C i j p rest
         → DerivesBy g w p i j
     by-sound rest k rec (end e q) = ([], rw (← q) (Der.finish {i = i} e k))
     by-sound rest k rec (token e d a x) =
@@ -136,11 +139,13 @@ module _ (g : Grammar) (N : ℕ) (w : List ℕ) (C : ℕ → ℕ → ℕ → Boo
       → DerivesBy g w p i j
   lead-sound sound k j l zero p e h t = absurd (omega arith)
   lead-sound sound k j l (suc d) p e h t =
-      by-sound sound j l p h (lead g w E C i j (suc p)) k (λ b q y. lead-sound sound k j l d (suc p) (omega arith) (known .kept .next p h (λ z. clash (cc))) y)
+      by-sound sound j l p h (lead g w E C i j (suc p)) k
+      (λ b q y. lead-sound sound k j l d (suc p) (omega arith) (known .kept .next p h (λ z. clash (cc))) y)
       (led-out g w E C i j p (lead g w E C i j (suc p)) (rw (lead-place g w E C i j p) at t))
 
   -- ---- where a nonterminal is called: E holds the end m of the call, and the next place goes on from there
-  call-in : (p a m j : ℕ) {s : List ℕ} (rest : Bool) → p < g .size → facing g p ≡ Nonterminal a → i ≤ m → T (E a m) → Der g w (suc p) m j s → (m ≡ i → T rest)
+  call-in : (p a m j : ℕ) {s : List ℕ} (rest : Bool) → p < g .size → facing g p ≡ Nonterminal a → i ≤ m → T (E a m) → Der g w (suc p) m j s
+      → (m ≡ i → T rest)
       → T (leadBy g w E C i j p (facing g p) rest)
   call-in p a m j rest h e l x y rec = ⊎-elim at-i after-i (same? m i)
     where
@@ -168,7 +173,8 @@ module _ (g : Grammar) (N : ℕ) (w : List ℕ) (C : ℕ → ℕ → ℕ → Boo
       let v = der-in x in
       let s = known .short in
       let z = closed a b f m d (omega arith) (lead-complete closed x q (known .kept .starts a b f d)) in
-      rw lead-place (call-in p a m j (lead g w E C i j (suc p)) h e (omega arith) z y (λ k. lead-complete closed y k (known .kept .next p h (λ z. clash (cc)))))
+      rw lead-place (call-in p a m j (lead g w E C i j (suc p)) h e (omega arith) z y
+      (λ k. lead-complete closed y k (known .kept .next p h (λ z. clash (cc)))))
 
   -- so E is right when it is sound and closed
   pub ends-exact : Sound → Closed → (a j : ℕ) → a < N → j < positionCount → E a j ≡ endsAt g w i a j
@@ -179,7 +185,8 @@ module _ (g : Grammar) (N : ℕ) (w : List ℕ) (C : ℕ → ℕ → ℕ → Boo
 
   -- ---- by right ends the cell of a place follows from the cell of the place behind it
   module _ (exact : (a j : ℕ) → a < N → j < positionCount → E a j ≡ endsAt g w i a j) where
-    by-complete : {p i′ j : ℕ} {r : List ℕ} → Der g w p i′ j r → i′ ≡ i → p < g .size → T (leadBy g w E C i j p (facing g p) (derives? g w (suc p) i j))
+    by-complete : {p i′ j : ℕ} {r : List ℕ} → Der g w p i′ j r → i′ ≡ i → p < g .size
+        → T (leadBy g w E C i j p (facing g p) (derives? g w (suc p) i j))
     by-complete (Der.finish {p = p} {i = i′} e l) q h = led-in g w E C i i′ p (derives? g w (suc p) i i′) (end e (sym q))
     by-complete (Der.match {p = p} {i = i′} {j = j} e d t x) q h =
         let y = cell-in (known .kept .next p h (λ z. clash (cc))) (omega arith) x in
@@ -197,7 +204,8 @@ module _ (g : Grammar) (N : ℕ) (w : List ℕ) (C : ℕ → ℕ → ℕ → Boo
       where
         to : T (leadBy g w E C i j p (facing g p) (derives? g w (suc p) i j)) → T (derives? g w p i j)
         to t =
-            let (r, x) = by-sound (λ a j h l t. rw (exact a j h l) at t) j l p h (derives? g w (suc p) i j) k (λ b e y. derives-sound g w y) (led-out g w E C i j p (derives? g w (suc p) i j) t) in
+            let (r, x) = by-sound (λ a j h l t. rw (exact a j h l) at t) j l p h (derives? g w (suc p) i j) k (λ b e y. derives-sound g w y)
+            (led-out g w E C i j p (derives? g w (suc p) i j) t) in
             derives-complete g w x
 
         from : T (derives? g w p i j) → T (leadBy g w E C i j p (facing g p) (derives? g w (suc p) i j))

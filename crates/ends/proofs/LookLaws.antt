@@ -1,7 +1,7 @@
 -- One look along the productions of a nonterminal: the sets stay sound. Sets that are sound, and to which no look adds anything, are right.
 use mathlib.Core.Path.{_≡_, _∙_}
 use mathlib.Core.Logic.{_⊎_, inl, inr, ⊎-elim}
-use mathlib.Core.Bool.{Bool, false}
+use mathlib.Core.Bool.{false}
 use mathlib.Core.Option.{some}
 use mathlib.Core.List.{List}
 use Prim.Native.Nat.{ℕ, suc, _+_, _-_, _*_, _/_, _≤_, _<_}
@@ -9,7 +9,6 @@ use native.Mathlib.Omega.{arith}
 use native.Mathlib.Decide.{decLt}
 use lib.Dec.{T}
 use lib.ListN.{length, getElem?, replicate, getD-replicate}
-use Rattle.base.specs.Rounds.{anyOf}
 use Rattle.base.proofs.Bits.{same?, test-none}
 use Rattle.base.proofs.Lists.{anyOf-T, T-anyOf}
 use Rattle.grammar.specs.Limits.{maxNonterminals}

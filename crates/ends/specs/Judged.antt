@@ -3,7 +3,6 @@ use mathlib.Core.Path.{_≡_}
 use mathlib.Core.List.{List}
 use Prim.Native.Nat.{ℕ, _<_}
 use lib.Dec.{T}
-use Rattle.base.specs.Rounds.{anyOf}
 use Rattle.positions.specs.Positions.{positionCount}
 use Rattle.order.specs.Order.{Among}
 use Rattle.ends.specs.Ends.{endHas, lead, SoundEnds}

@@ -1,7 +1,7 @@
 -- Nonterminals that are placed one after the other: each place is taken once, so there is room for all.
 use mathlib.Core.Path.{_≡_, refl, sym, ap, _∙_, subst}
-use mathlib.Core.Logic.{_⊎_, inl, inr, ⊎-elim}
-use mathlib.Core.Bool.{Bool, true, false, not, _&&_, _||_}
+use mathlib.Core.Logic.{_⊎_, ⊎-elim}
+use mathlib.Core.Bool.{Bool, true, false, not, _||_}
 use mathlib.Core.List.{List, [], _∷_, List·Memᴰ, List·Memᴰ·not-nil, List·Memᴰ·cases-cons}
 use Prim.Native.Nat.{ℕ, zero, suc, _≤_, _<_}
 use native.Mathlib.Omega.{arith}
@@ -36,7 +36,8 @@ among-more row k m a l (x, h, e) = (x, omega arith, e)
 entry-among : (row : List ℕ) (k a : ℕ) → List·Memᴰ a (entries row k) → Among row k a
 unfolding entries
 entry-among row zero a m = absurd (List·Memᴰ·not-nil m)
-entry-among row (suc k) a m = ⊎-elim (λ e. (k, omega arith, sym e)) (λ n. among-more row k (suc k) a (omega arith) (entry-among row k a n)) (List·Memᴰ·cases-cons m)
+entry-among row (suc k) a m = ⊎-elim (λ e. (k, omega arith, sym e)) (λ n. among-more row k (suc k) a (omega arith) (entry-among row k a n))
+    (List·Memᴰ·cases-cons m)
 
 module _ (g : Grammar) (n : ℕ) (row : List ℕ) where
   fewer : (k j : ℕ) → j ≤ k → Lined g n row k → Lined g n row j
@@ -202,11 +203,13 @@ module _ (t rows order : List ℕ) (set₀ count a : ℕ) (known : Cornered t ro
 
 -- as the code has it
 pub placing-on : (t rows order : List ℕ) (set₀ count a : ℕ) {row set′ count′ : ℕ} {order′ : List ℕ} {r : Bool} → Cornered t rows
-    → Placing t order set₀ count → a < nonterminalsIn t → row ≡ getD rows a 0 → r ≡ ripeOf row set₀ a → r ≡ true → set′ ≡ setBit set₀ a
+    → Placing t order set₀ count → a < nonterminalsIn t → row ≡ getD rows a 0 → r ≡ ripeOf row set₀ a → r ≡ true → set′
+    ≡ setBit set₀ a
     → count′ ≡ suc count → order′ ≡ set order count a → Placing t order′ set′ count′
 placing-on t rows order set₀ count a known inv h q e f x y z = rw (x, y, z) (placing-more t rows order set₀ count a known inv h (rw (← q, ← e) f))
 
-pub placing-fits : (t rows order : List ℕ) (set₀ count a : ℕ) {row : ℕ} {r : Bool} → Cornered t rows → Placing t order set₀ count → a < nonterminalsIn t
+pub placing-fits : (t rows order : List ℕ) (set₀ count a : ℕ) {row : ℕ} {r : Bool} → Cornered t rows → Placing t order set₀ count
+    → a < nonterminalsIn t
     → row ≡ getD rows a 0 → r ≡ ripeOf row set₀ a → r ≡ true → count < length order
 placing-fits t rows order set₀ count a known inv h q e f =
     let l = placing-space t rows order set₀ count a known inv h (rw (← q, ← e) f) in omega (arith, inv .long, known .ready .fits .few)
@@ -223,5 +226,6 @@ placing-all t order set₀ count ready inv l =
   where
     most : count ≤ nonterminalsIn t
     most =
-        let x = pigeon (nonterminalsIn t) (entries order count) (distinct (grammarIn t) (nonterminalsIn t) order count (inv .lined)) (λ a m. below (grammarIn t) (nonterminalsIn t) order count (inv .lined) a (entry-among order count a m)) in
+        let x = pigeon (nonterminalsIn t) (entries order count) (distinct (grammarIn t) (nonterminalsIn t) order count (inv .lined))
+        (λ a m. below (grammarIn t) (nonterminalsIn t) order count (inv .lined) a (entry-among order count a m)) in
         omega (arith, length-entries order count)

@@ -1,16 +1,14 @@
 -- One turn over all nonterminals: if none took a place, none was ripe, and so all have one.
 use mathlib.Core.Path.{_≡_, refl, sym, _∙_}
 use mathlib.Core.Logic.{⊎-elim}
-use mathlib.Core.Bool.{Bool, true, false, not, _&&_}
+use mathlib.Core.Bool.{Bool, true, false}
 use mathlib.Core.List.{List}
 use Prim.Native.Nat.{ℕ, suc, _+_, _-_, _≤_, _<_}
 use native.Mathlib.Omega.{arith}
-use lib.Dec.{T}
-use lib.ListN.{length, getD}
+use lib.ListN.{getD}
 use Rattle.base.specs.Bits.{testBit, isSubset}
 use Rattle.base.proofs.Bits.{same?}
-use Rattle.grammar.specs.Tables.{grammarIn, nonterminalsIn}
-use Rattle.order.specs.Order.{Among, Lined}
+use Rattle.grammar.specs.Tables.{nonterminalsIn}
 use Rattle.order.specs.Placing.{ripeOf, turnOf, Placing, Cornered}
 use Rattle.order.proofs.PlacingLaws.{placing-count}
 use Rattle.order.proofs.StuckLaws.{stuck-full}

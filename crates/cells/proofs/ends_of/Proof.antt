@@ -44,7 +44,8 @@ first-place-requires c κs =
     let at-entry = c .before .before .before .before .before .before .before .before in
     let at-rule-at = c .before .before .before .before in
     let at-rule-at2 = c .before .before .before in
-    let h = rule-within _ (at-entry .pre .0) _ (at-entry .pre .2) (at-rule-at .rule-at .ensures) (at-rule-at2 .rule-at2 .ensures) in (omega (arith, at-entry .pre .0 .fits .long), at-entry .pre .0 .fits .long)
+    let h = rule-within _ (at-entry .pre .0) _ (at-entry .pre .2) (at-rule-at .rule-at .ensures) (at-rule-at2 .rule-at2 .ensures) in
+    (omega (arith, at-entry .pre .0 .fits .long), at-entry .pre .0 .fits .long)
 
 cell-requires : tie.Need-cell-requires Inv-loop μ-loop
 cell-requires c κs =
@@ -54,7 +55,13 @@ cell-requires c κs =
     let at-rule-at2 = c .before .before .before .before in
     let at-loop = c .before .before in
     let at-loop-test = c .before in
-    spot-in _ _ _ _ _ (lent-sized (at-size .size .ensures) (at-entry .pre .1 .lent)) (omega (arith, at-size .size .ensures, first-in _ (at-entry .pre .0) _ (at-entry .pre .2) (at-rule-at .rule-at .ensures) (at-rule-at2 .rule-at2 .ensures) _ (at-loop .loop .inv .0) (at-loop-test .loop-test .taken) (c .first-place .ensures))) (at-entry .pre .1 .here)
+    spot-in _ _ _ _ _ (lent-sized (at-size .size .ensures) (at-entry .pre .1 .lent))
+    (omega (
+      arith,
+      at-size .size .ensures,
+      first-in _ (at-entry .pre .0) _ (at-entry .pre .2) (at-rule-at .rule-at .ensures) (at-rule-at2 .rule-at2 .ensures) _ (at-loop .loop .inv .0)
+          (at-loop-test .loop-test .taken) (c .first-place .ensures),
+    )) (at-entry .pre .1 .here)
 
 union-requires : tie.Need-union-requires Inv-loop μ-loop
 union-requires c κs = search needs
@@ -74,8 +81,13 @@ loop-again c =
     let at-loop = c .before .before .before .before in
     let at-loop-test = c .before .before .before in
     let at-first-place = c .before .before in
-    let at-cell = c .before in
-    (omega arith, gather-more _ _ _ _ _ _ _ (at-loop .loop .inv .1) (at-loop-test .loop-test .taken) (rule-within _ (at-entry .pre .0) _ (at-entry .pre .2) (at-rule-at .rule-at .ensures) (at-rule-at2 .rule-at2 .ensures)) (at-first-place .first-place .ensures) (λ j l. cell-member _ _ _ _ _ (at-cell .cell .ensures) l ∙ sym (sized (at-size .size .ensures) _ _ _ _)) (c .union .ensures))
+    let at-cell = c .before in (
+      omega arith,
+      gather-more _ _ _ _ _ _ _ (at-loop .loop .inv .1) (at-loop-test .loop-test .taken)
+          (rule-within _ (at-entry .pre .0) _ (at-entry .pre .2) (at-rule-at .rule-at .ensures) (at-rule-at2 .rule-at2 .ensures))
+          (at-first-place .first-place .ensures) (λ j l. cell-member _ _ _ _ _ (at-cell .cell .ensures) l ∙ sym (sized (at-size .size .ensures) _ _ _ _))
+          (c .union .ensures),
+    )
 
 returns : tie.Need-returns Inv-loop μ-loop
 returns c =

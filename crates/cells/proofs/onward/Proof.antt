@@ -11,7 +11,8 @@ use Rattle.cells.proofs.onward.Statement.{statement}
 use Rattle.cells.proofs.onward.Tie as tie
 
 abbrev Inv-loop : tie.InvT-loop
-Inv-loop ws places n s from q r₀ m₀ r m = (m ≤ positionCount) × (m < positionCount → member (s .words) m ≡ true) × Going places ws n (s .words) q (r₀ .words) from m (r .words)
+Inv-loop ws places n s from q r₀ m₀ r m = (m ≤ positionCount) × (m < positionCount → member (s .words) m ≡ true)
+    × Going places ws n (s .words) q (r₀ .words) from m (r .words)
 
 abbrev μ-loop : tie.MeasureT-loop
 μ-loop ws places n s from q r₀ m₀ r m = positionCount - m
@@ -49,8 +50,12 @@ loop-again c =
     let at-loop = c .before .before .before .before in
     let at-loop-test = c .before .before .before in
     let at-cell = c .before .before in
-    let at-union = c .before in
-    (c .next2 .ensures .most, c .next2 .ensures .found, going-on _ _ _ _ _ (omega (arith, at-entry .pre .0 .short)) _ _ _ _ _ _ (at-loop .loop .inv .2) (at-loop-test .loop-test .taken) (at-loop .loop .inv .1 (omega (arith, at-entry .pre .0 .short))) (at-cell .cell .ensures) (at-union .union .ensures) (c .next2 .ensures))
+    let at-union = c .before in (
+      c .next2 .ensures .most,
+      c .next2 .ensures .found,
+      going-on _ _ _ _ _ (omega (arith, at-entry .pre .0 .short)) _ _ _ _ _ _ (at-loop .loop .inv .2) (at-loop-test .loop-test .taken)
+          (at-loop .loop .inv .1 (omega (arith, at-entry .pre .0 .short))) (at-cell .cell .ensures) (at-union .union .ensures) (c .next2 .ensures),
+    )
 
 returns : tie.Need-returns Inv-loop μ-loop
 returns c =

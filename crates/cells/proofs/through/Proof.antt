@@ -39,7 +39,8 @@ returns-2 c =
     let at-next = c .before .before .before .before in
     let at-cell = c .before .before in
     let at-next2 = c .before in
-    one-member _ _ _ _ _ (omega (arith, at-entry .pre .0 .short)) _ _ _ (at-next .next .ensures) (omega arith) (at-cell .cell .ensures) (at-next2 .next2 .ensures) (c .if2 .taken)
+    one-member _ _ _ _ _ (omega (arith, at-entry .pre .0 .short)) _ _ _ (at-next .next .ensures) (omega arith) (at-cell .cell .ensures)
+    (at-next2 .next2 .ensures) (c .if2 .taken)
 
 full-requires : tie.Need-full-requires
 full-requires c κs =
@@ -53,7 +54,8 @@ returns-3 c =
     let at-cell = c .before .before .before .before in
     let at-next2 = c .before .before .before in
     let at-full = c .before in
-    everywhere _ _ _ _ _ (omega (arith, at-entry .pre .0 .short)) _ _ _ (at-next .next .ensures) (omega arith) (at-cell .cell .ensures) (at-next2 .next2 .ensures) (at-entry .pre .2) (at-full .full .ensures) (c .if3 .taken)
+    everywhere _ _ _ _ _ (omega (arith, at-entry .pre .0 .short)) _ _ _ (at-next .next .ensures) (omega arith) (at-cell .cell .ensures)
+    (at-next2 .next2 .ensures) (at-entry .pre .2) (at-full .full .ensures) (c .if3 .taken)
 
 onward-requires : tie.Need-onward-requires
 onward-requires c κs =
@@ -66,7 +68,8 @@ returns-4 c =
     let at-next = c .before .before .before .before .before .before .before in
     let at-cell = c .before .before .before .before .before in
     let at-next2 = c .before .before .before .before in
-    more-members _ _ _ _ _ (omega (arith, at-entry .pre .0 .short)) _ _ _ (at-next .next .ensures) (omega arith) (at-cell .cell .ensures) (at-next2 .next2 .ensures) _ (c .onward .ensures)
+    more-members _ _ _ _ _ (omega (arith, at-entry .pre .0 .short)) _ _ _ (at-next .next .ensures) (omega arith) (at-cell .cell .ensures)
+    (at-next2 .next2 .ensures) _ (c .onward .ensures)
 
 pub through-spec : {M : Type 1} → statement M
 through-spec =

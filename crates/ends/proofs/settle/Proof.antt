@@ -1,7 +1,7 @@
 -- `ends::settle` meets its contract: a look at a nonterminal changes nothing that those judged before it rest on, so that all stay closed, and sets
 -- that are sound and closed are right.
-use mathlib.Core.Path.{_≡_, refl, ap, sym, _∙_}
-use Prim.Native.Nat.{_-_, _≤_}
+use mathlib.Core.Path.{_≡_, refl, ap}
+use Prim.Native.Nat.{_-_}
 use native.Mathlib.Omega.{arith}
 use lib.ListN.{length}
 use borrow.Author.Needs.{needs}
