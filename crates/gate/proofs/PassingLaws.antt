@@ -16,8 +16,9 @@ use Rattle.soundness.specs.declared.judgement.Verdict.the-variants.{Sound, Refu
 use Rattle.soundness.specs.Compiled.{Compiled}
 use Rattle.derivation.specs.Space.{maxTokens, spaceWords}
 use Rattle.derivation.specs.Ready.{Ready}
+use Rattle.derivation.specs.Demand2.{Known as AllKnown}
 use Rattle.derivation.specs.Gate as definition
-use Rattle.derivation.proofs.ReadyLaws.{sound-judged}
+use Rattle.derivation.proofs.ReadyLaws.{ready-size, sound-judged}
 use Rattle.derivation.proofs.GateLaws.{none-known, note-8, note-9, note-11, note-passes, gate-refuses, gate-sound}
 use Rattle.gate.specs.Reading.{readingNumber, readingPlace, readingCount, tokensOf}
 use Rattle.gate.specs.Passing.{Answers, Noted, Gated}
@@ -32,8 +33,10 @@ use Rattle.gate.specs.declared.tokens.Tokens.the-variants.{Known, Unknow
 pub space-is : {P Q : ℕ} (n : ℕ) → P ≡ Q → 8192 + 8 * (P * (n + 1)) ≡ spaceWords Q n
 space-is n e = rw (e, add-one)
 
-pub space-small : (P n : ℕ) → P ≤ maxPlaces → n ≤ maxTokens → P * (n + 1) ≤ 32895
-space-small P n h l = let z = mul-le-mul-right {m = P} {n = maxPlaces} (n + 1) h in omega arith
+pub space-small : (t w : List ℕ) → Ready t → {P : ℕ} → P ≡ grammarIn t .size → length w ≤ maxTokens → P * (length w + 1) ≤ 32895
+space-small t w h {P} e l =
+    let z = mul-le-mul-right {m = P} {n = maxPlaces} (length w + 1) (omega (arith, ready-size t h)) in
+    omega arith
 
 -- ---- what the search for an unknown token found
 pub unknown-of : (o : Option ℕ) {k : Tokens} {at : ℕ} → k ≡ tokensOf o → k ≡ Unknown at → o ≡ some at

@@ -1,9 +1,7 @@
 -- `gate::passing::note_gate` meets its contract: each refusal is given where the definition gives it, in its order, and what passes meets all that a
 -- reading rests on.
 use native.Mathlib.Omega.{arith}
-use lib.ListN.{length}
 use borrow.Author.Needs.{needs}
-use Rattle.derivation.proofs.ReadyLaws.{ready-size}
 use Rattle.gate.proofs.PassingLaws.{space-small, long-note, unknown-token, short-space, note-passed}
 use Rattle.gate.proofs.passing.note_gate.Statement.{statement}
 use Rattle.gate.proofs.passing.note_gate.Tie as tie
@@ -31,48 +29,27 @@ add-if2 c = search needs
 
 mul-if2 : tie.Need-mul-if2
 mul-if2 c =
-    let at-before = c .before .before .before .before in
-    let at-before′ = at-before .before .before .before in
-    let at-entry = at-before′ .before in
-    let at-if1 = at-before .before in
-    omega (
-      arith,
-      space-small (c .size .result) (length (at-entry .args .note .now)) (omega (arith, c .size .ensures, ready-size _ (at-entry .pre)))
-          (omega (arith, at-if1 .if1 .left)),
-    )
+    let at-entry = c .before .before .before .before .before .before .before .before in
+    let at-if1 = c .before .before .before .before .before in
+    omega (arith, space-small _ (at-entry .args .note .now) (at-entry .pre) (c .size .ensures) (omega (arith, at-if1 .if1 .left)))
 
 mul-if2-2 : tie.Need-mul-if2-2
 mul-if2-2 c =
-    let at-before = c .before .before .before .before in
-    let at-before′ = at-before .before .before .before in
-    let at-entry = at-before′ .before in
-    let at-if1 = at-before .before in
-    omega (
-      arith,
-      space-small (c .size .result) (length (at-entry .args .note .now)) (omega (arith, c .size .ensures, ready-size _ (at-entry .pre)))
-          (omega (arith, at-if1 .if1 .left)),
-    )
+    let at-entry = c .before .before .before .before .before .before .before .before in
+    let at-if1 = c .before .before .before .before .before in
+    omega (arith, space-small _ (at-entry .args .note .now) (at-entry .pre) (c .size .ensures) (omega (arith, at-if1 .if1 .left)))
 
 add-if2-2 : tie.Need-add-if2-2
 add-if2-2 c =
-    let at-before = c .before .before .before .before in
-    let at-before′ = at-before .before .before .before in
-    let at-entry = at-before′ .before in
-    let at-if1 = at-before .before in
-    omega (
-      arith,
-      space-small (c .size .result) (length (at-entry .args .note .now)) (omega (arith, c .size .ensures, ready-size _ (at-entry .pre)))
-          (omega (arith, at-if1 .if1 .left)),
-    )
+    let at-entry = c .before .before .before .before .before .before .before .before in
+    let at-if1 = c .before .before .before .before .before in
+    omega (arith, space-small _ (at-entry .args .note .now) (at-entry .pre) (c .size .ensures) (omega (arith, at-if1 .if1 .left)))
 
 returns-2 : tie.Need-returns-2
 returns-2 c =
-    let at-before = c .before .before .before in
-    let at-before′ = at-before .before in
-    let at-before′′ = at-before′ .before in
-    let at-if1 = at-before′′ .before in
-    let at-kinds = at-before′ .before in
-    let at-first-unknown = at-before .before in
+    let at-if1 = c .before .before .before .before .before .before in
+    let at-kinds = c .before .before .before .before .before in
+    let at-first-unknown = c .before .before .before .before in
     let at-enum-told = c .before .before in
     let at-size = c .before in
     short-space _ _ _ (omega (arith, at-if1 .if1 .left)) (at-kinds .kinds .ensures) (at-first-unknown .first-unknown .ensures)
@@ -80,27 +57,20 @@ returns-2 c =
 
 returns-3 : tie.Need-returns-3
 returns-3 c =
-    let at-before = c .before .before in
-    let at-before′ = at-before .before in
-    let at-before′′ = at-before′ .before in
-    let at-if1 = at-before′′ .before in
-    let at-kinds = at-before′ .before in
-    let at-first-unknown = at-before .before in
+    let at-if1 = c .before .before .before .before .before in
+    let at-kinds = c .before .before .before .before in
+    let at-first-unknown = c .before .before .before in
     let at-tokens = c .before in
     unknown-token _ _ _ (omega (arith, at-if1 .if1 .left)) (at-kinds .kinds .ensures) (at-first-unknown .first-unknown .ensures) (at-tokens .tokens .given .1)
 
 returns-4 : tie.Need-returns-4
 returns-4 c =
-    let at-before = c .before .before .before in
-    let at-before′ = at-before .before in
-    let at-before′′ = at-before′ .before in
-    let at-before′′′ = at-before′′ .before .before .before in
-    let at-if1 = at-before′′ .before in
-    let at-kinds = at-before′ .before in
-    let at-first-unknown = at-before .before in
+    let at-if1 = c .before .before .before .before .before .before in
+    let at-kinds = c .before .before .before .before .before in
+    let at-first-unknown = c .before .before .before .before in
     let at-enum-told = c .before .before in
     let at-size = c .before in
-    let at-entry = at-before′′′ .before in
+    let at-entry = c .before .before .before .before .before .before .before .before .before in
     note-passed _ _ _ (omega (arith, at-if1 .if1 .left)) (at-kinds .kinds .ensures) (at-first-unknown .first-unknown .ensures)
     (at-enum-told .enum-told .given .1) (at-size .size .ensures) (at-entry .pre) (omega (arith, c .if2 .left))
 

@@ -17,10 +17,8 @@ enum-told c = search needs
 
 note-gate-requires : tie.Need-note-gate-requires
 note-gate-requires c κs =
-    let at-before = c .before .before .before .before in
-    let at-before′ = at-before .before .before .before .before .before in
-    let at-entry = at-before′ .before in
-    let at-compile = at-before .before in
+    let at-entry = c .before .before .before .before .before .before .before .before .before .before in
+    let at-compile = c .before .before .before .before .before in
     let at-enum-told = c .before in
     sound-ready (at-entry .args .grammar .now) (at-compile .compile .ensures) (at-enum-told .enum-told .given .1)
 
@@ -29,8 +27,7 @@ same-length c = search needs
 
 returns : tie.Need-returns
 returns c =
-    let at-before = c .before .before .before .before in
-    let at-compile = at-before .before in
+    let at-compile = c .before .before .before .before .before in
     let at-verdict = c .before in
     refused-gate _ _ _ (at-compile .compile .ensures) (at-verdict .verdict .given .1)
 
@@ -39,8 +36,7 @@ same-length-2 c = search needs
 
 returns-2 : tie.Need-returns-2
 returns-2 c =
-    let at-before = c .before .before .before .before .before in
-    let at-compile = at-before .before in
+    let at-compile = c .before .before .before .before .before .before in
     let at-enum-told = c .before .before in
     sound-gate _ _ _ (at-compile .compile .ensures) (at-enum-told .enum-told .given .1) (c .note-gate .ensures)
 

@@ -29,8 +29,7 @@ rule-at-requires-2 c κs = search needs
 
 loop-holds : tie.Need-loop-holds Inv-loop μ-loop
 loop-holds c =
-    let at-before = c .before .before .before .before in
-    let at-entry = at-before .before in
+    let at-entry = c .before .before .before .before .before in
     let at-rule-at = c .before in (
       omega arith,
       seeking-at _ _ _ _ _ _ _ _ _ (omega arith)
@@ -45,11 +44,9 @@ add-k c = search needs
 
 first-place-requires : tie.Need-first-place-requires Inv-loop μ-loop
 first-place-requires c κs =
-    let at-before = c .before .before in
-    let at-before′ = at-before .before .before .before .before in
-    let at-entry = at-before′ .before in
+    let at-entry = c .before .before .before .before .before .before .before in
     let at-loop = c .before in
-    let at-rule-at = at-before .before in
+    let at-rule-at = c .before .before .before in
     let at-rule-at2 = c .before .before in (
       omega (
         arith,
@@ -62,14 +59,10 @@ first-place-requires c κs =
 
 cell-requires : tie.Need-cell-requires Inv-loop μ-loop
 cell-requires c κs =
-    let at-before = c .before .before in
-    let at-before′ = at-before .before in
-    let at-before′′ = at-before′ .before in
-    let at-before′′′ = at-before′′ .before .before .before in
-    let at-size = at-before′′ .before in
-    let at-entry = at-before′′′ .before in
-    let at-rule-at = at-before′ .before in
-    let at-rule-at2 = at-before .before in
+    let at-size = c .before .before .before .before .before in
+    let at-entry = c .before .before .before .before .before .before .before .before in
+    let at-rule-at = c .before .before .before .before in
+    let at-rule-at2 = c .before .before .before in
     let at-loop = c .before .before in
     spot-in _ _ _ _ _ (lent-of (at-size .size .ensures) (at-entry .pre .1 .lent))
     (omega (
@@ -93,18 +86,12 @@ sub-result c = search needs
 
 returns : tie.Need-returns Inv-loop μ-loop
 returns c =
-    let at-before = c .before .before in
-    let at-before′ = at-before .before .before in
-    let at-before′′ = at-before′ .before in
-    let at-before′′′ = at-before′′ .before in
-    let at-before′′′′ = at-before′′′ .before in
-    let at-before′′′′′ = at-before′′′′ .before .before .before in
-    let at-entry = at-before′′′′′ .before in
-    let at-rule-at = at-before′′′ .before in
-    let at-rule-at2 = at-before′′ .before in
-    let at-loop = at-before′ .before in
-    let at-first-place = at-before .before in
-    let at-size = at-before′′′′ .before in
+    let at-entry = c .before .before .before .before .before .before .before .before .before .before .before in
+    let at-rule-at = c .before .before .before .before .before .before .before in
+    let at-rule-at2 = c .before .before .before .before .before .before in
+    let at-loop = c .before .before .before .before .before in
+    let at-first-place = c .before .before .before in
+    let at-size = c .before .before .before .before .before .before .before .before in
     let at-cell = c .before .before in
     let at-meets = c .before in
     seeking-found _ _ _ _ _ (at-entry .pre .0) (at-entry .pre .2) (at-rule-at .rule-at .ensures) (at-rule-at2 .rule-at2 .ensures) _ (at-loop .loop .inv .1)
@@ -116,18 +103,12 @@ loop-less c = search needs
 
 loop-again : tie.Need-loop-again Inv-loop μ-loop
 loop-again c =
-    let at-before = c .before .before in
-    let at-before′ = at-before .before .before in
-    let at-before′′ = at-before′ .before in
-    let at-before′′′ = at-before′′ .before in
-    let at-before′′′′ = at-before′′′ .before in
-    let at-before′′′′′ = at-before′′′′ .before .before .before in
-    let at-loop = at-before′ .before in
-    let at-entry = at-before′′′′′ .before in
-    let at-rule-at = at-before′′′ .before in
-    let at-rule-at2 = at-before′′ .before in
-    let at-first-place = at-before .before in
-    let at-size = at-before′′′′ .before in
+    let at-loop = c .before .before .before .before .before in
+    let at-entry = c .before .before .before .before .before .before .before .before .before .before .before in
+    let at-rule-at = c .before .before .before .before .before .before .before in
+    let at-rule-at2 = c .before .before .before .before .before .before in
+    let at-first-place = c .before .before .before in
+    let at-size = c .before .before .before .before .before .before .before .before in
     let at-cell = c .before .before in
     let at-meets = c .before in (
       omega (arith, at-loop .loop .inv .0),

@@ -33,12 +33,9 @@ add-if2 c = search needs
 
 returns : tie.Need-returns Inv-loop μ-loop
 returns c =
-    let at-before = c .before .before .before in
-    let at-before′ = at-before .before in
-    let at-before′′ = at-before′ .before .before .before .before in
-    let at-entry = at-before′′ .before in
-    let at-loop = at-before′ .before in
-    let at-place-at = at-before .before in
+    let at-entry = c .before .before .before .before .before .before .before .before .before in
+    let at-loop = c .before .before .before .before .before in
+    let at-place-at = c .before .before .before .before in
     let at-enum-told = c .before .before in
     let at-if1 = c .before in
     out-end (at-entry .args .note .now) (at-loop .loop .inv) (facing-of _ _ (at-place-at .place-at .ensures) (at-enum-told .enum-told .given .1))
@@ -46,12 +43,9 @@ returns c =
 
 returns-2 : tie.Need-returns-2 Inv-loop μ-loop
 returns-2 c =
-    let at-before = c .before .before .before in
-    let at-before′ = at-before .before in
-    let at-before′′ = at-before′ .before .before .before .before in
-    let at-entry = at-before′′ .before in
-    let at-loop = at-before′ .before in
-    let at-place-at = at-before .before in
+    let at-entry = c .before .before .before .before .before .before .before .before .before in
+    let at-loop = c .before .before .before .before .before in
+    let at-place-at = c .before .before .before .before in
     let at-enum-told = c .before .before in
     let at-if1 = c .before in
     out-early (at-entry .args .note .now) (at-loop .loop .inv) (facing-of _ _ (at-place-at .place-at .ensures) (at-enum-told .enum-told .given .1))
@@ -62,10 +56,8 @@ sub-d c = search needs
 
 return-place-requires : tie.Need-return-place-requires Inv-loop μ-loop
 return-place-requires c κs =
-    let at-before = c .before .before .before in
-    let at-before′ = at-before .before .before .before .before in
-    let at-entry = at-before′ .before in
-    let at-loop = at-before .before in
+    let at-entry = c .before .before .before .before .before .before .before .before in
+    let at-loop = c .before .before .before .before in
     omega (arith, at-entry .pre .1, moves-depth (at-loop .loop .inv))
 
 loop-less : tie.Need-loop-less Inv-loop μ-loop
@@ -73,12 +65,9 @@ loop-less c = search needs
 
 loop-again : tie.Need-loop-again Inv-loop μ-loop
 loop-again c =
-    let at-before = c .before .before .before in
-    let at-before′ = at-before .before in
-    let at-before′′ = at-before′ .before .before .before .before in
-    let at-entry = at-before′′ .before in
-    let at-loop = at-before′ .before in
-    let at-place-at = at-before .before in
+    let at-entry = c .before .before .before .before .before .before .before .before .before in
+    let at-loop = c .before .before .before .before .before in
+    let at-place-at = c .before .before .before .before in
     let at-enum-told = c .before .before in
     let at-if1 = c .before in
     turn-pop (at-entry .args .note .now) (at-loop .loop .inv) (facing-of _ _ (at-place-at .place-at .ensures) (at-enum-told .enum-told .given .1))
@@ -89,12 +78,9 @@ enum-known-symbol c = search needs
 
 returns-3 : tie.Need-returns-3 Inv-loop μ-loop
 returns-3 c =
-    let at-before = c .before .before .before in
-    let at-before′ = at-before .before in
-    let at-before′′ = at-before′ .before .before .before .before in
-    let at-entry = at-before′′ .before in
-    let at-loop = at-before′ .before in
-    let at-place-at = at-before .before in
+    let at-entry = c .before .before .before .before .before .before .before .before .before in
+    let at-loop = c .before .before .before .before .before in
+    let at-place-at = c .before .before .before .before in
     let at-symbol = c .before .before in
     out-over (at-entry .args .note .now) (at-loop .loop .inv) (facing-of _ _ (at-place-at .place-at .ensures) (at-symbol .symbol .given .1)) (c .if3 .taken)
 
@@ -106,14 +92,10 @@ admits-requires c κs = search needs
 
 returns-4 : tie.Need-returns-4 Inv-loop μ-loop
 returns-4 c =
-    let at-before = c .before .before .before .before in
-    let at-before′ = at-before .before .before in
-    let at-before′′ = at-before′ .before in
-    let at-before′′′ = at-before′′ .before .before .before .before in
-    let at-entry = at-before′′′ .before in
-    let at-loop = at-before′′ .before in
-    let at-place-at = at-before′ .before in
-    let at-symbol = at-before .before in
+    let at-entry = c .before .before .before .before .before .before .before .before .before .before .before .before in
+    let at-loop = c .before .before .before .before .before .before .before .before in
+    let at-place-at = c .before .before .before .before .before .before .before in
+    let at-symbol = c .before .before .before .before .before in
     let at-token-at = c .before .before in
     let at-admits = c .before in
     out-other (at-entry .args .note .now) (at-loop .loop .inv) (facing-of _ _ (at-place-at .place-at .ensures) (at-symbol .symbol .given .1))
@@ -121,10 +103,8 @@ returns-4 c =
 
 add-p : tie.Need-add-p Inv-loop μ-loop
 add-p c =
-    let at-before = c .before .before .before .before in
-    let at-before′ = at-before .before .before in
-    let at-place-at = at-before′ .before in
-    let at-symbol = at-before .before in
+    let at-place-at = c .before .before .before .before .before .before .before in
+    let at-symbol = c .before .before .before .before .before in
     omega (arith, place-small _ _ (facing-of _ _ (at-place-at .place-at .ensures) (at-symbol .symbol .given .1)) (λ z. clash (cc)))
 
 add-i : tie.Need-add-i Inv-loop μ-loop
@@ -135,14 +115,10 @@ loop-less-2 c = search needs
 
 loop-again-2 : tie.Need-loop-again-2 Inv-loop μ-loop
 loop-again-2 c =
-    let at-before = c .before .before .before .before in
-    let at-before′ = at-before .before .before in
-    let at-before′′ = at-before′ .before in
-    let at-before′′′ = at-before′′ .before .before .before .before in
-    let at-entry = at-before′′′ .before in
-    let at-loop = at-before′′ .before in
-    let at-place-at = at-before′ .before in
-    let at-symbol = at-before .before in
+    let at-entry = c .before .before .before .before .before .before .before .before .before .before .before .before in
+    let at-loop = c .before .before .before .before .before .before .before .before in
+    let at-place-at = c .before .before .before .before .before .before .before in
+    let at-symbol = c .before .before .before .before .before in
     let at-token-at = c .before .before in
     let at-admits = c .before in
     turn-match (at-entry .args .note .now) (at-loop .loop .inv) (facing-of _ _ (at-place-at .place-at .ensures) (at-symbol .symbol .given .1))
@@ -153,19 +129,15 @@ enum-known-symbol-2 c = search needs
 
 add-t21 : tie.Need-add-t21 Inv-loop μ-loop
 add-t21 c =
-    let at-before = c .before .before in
-    let at-place-at = at-before .before in
+    let at-place-at = c .before .before .before in
     let at-symbol2 = c .before in
     omega (arith, place-small _ _ (facing-of _ _ (at-place-at .place-at .ensures) (at-symbol2 .symbol2 .given .1)) (λ z. clash (cc)))
 
 returns-5 : tie.Need-returns-5 Inv-loop μ-loop
 returns-5 c =
-    let at-before = c .before .before in
-    let at-before′ = at-before .before in
-    let at-before′′ = at-before′ .before .before .before .before in
-    let at-entry = at-before′′ .before in
-    let at-loop = at-before′ .before in
-    let at-place-at = at-before .before in
+    let at-entry = c .before .before .before .before .before .before .before .before in
+    let at-loop = c .before .before .before .before in
+    let at-place-at = c .before .before .before in
     let at-symbol2 = c .before in
     out-call (at-entry .args .note .now) (at-loop .loop .inv) (facing-of _ _ (at-place-at .place-at .ensures) (at-symbol2 .symbol2 .given .1))
 

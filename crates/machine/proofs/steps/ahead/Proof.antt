@@ -12,16 +12,13 @@ empty-requires c κs = search needs
 
 with-requires : tie.Need-with-requires
 with-requires c κs =
-    let at-before = c .before .before .before .before .before in
-    let at-entry = at-before .before in
+    let at-entry = c .before .before .before .before .before .before in
     omega (arith, at-entry .pre .lent .short)
 
 returns : tie.Need-returns
 returns c =
-    let at-before = c .before .before .before in
-    let at-before′ = at-before .before .before .before in
-    let at-words = at-before .before in
-    let at-entry = at-before′ .before in
+    let at-words = c .before .before .before .before in
+    let at-entry = c .before .before .before .before .before .before .before in
     let at-if1 = c .before .before in
     let at-empty = c .before in
     ahead-end _ _ _ (λ k. at-words .shared-slice-known3 .given k .fits) _ _ _ (at-entry .pre) (at-if1 .if1 .taken) (at-empty .empty .ensures)
@@ -29,8 +26,7 @@ returns c =
 
 ends-of-requires : tie.Need-ends-of-requires
 ends-of-requires c κs =
-    let at-before = c .before .before .before .before in
-    let at-entry = at-before .before in
+    let at-entry = c .before .before .before .before .before in
     let at-words = c .before .before in (
       at-entry .pre .ready,
       at-entry .pre .spaced .places,
@@ -43,30 +39,23 @@ sub-rest c = search needs
 
 rest-requires : tie.Need-rest-requires
 rest-requires c κs =
-    let at-before = c .before .before .before .before .before .before in
-    let at-entry = at-before .before in
+    let at-entry = c .before .before .before .before .before .before .before in
     omega (arith, at-entry .pre .spaced .base, waits-frames _ (at-entry .pre .ready) _ (at-entry .pre .lent) (at-entry .pre .waits))
 
 serving-requires : tie.Need-serving-requires
 serving-requires c κs =
-    let at-before = c .before .before in
-    let at-before′ = at-before .before .before .before .before .before in
-    let at-entry = at-before′ .before in
-    let at-if1 = at-before .before in (
+    let at-entry = c .before .before .before .before .before .before .before .before in
+    let at-if1 = c .before .before .before in (
       lent-of (at-entry .pre .spaced .places) (at-entry .pre .lent),
       rw (at-entry .pre .spaced .places) (waits-place _ (at-entry .pre .ready) _ (at-entry .pre .waits) (at-if1 .if1 .left)),
     )
 
 returns-2 : tie.Need-returns-2
 returns-2 c =
-    let at-before = c .before .before in
-    let at-before′ = at-before .before in
-    let at-before′′ = at-before′ .before .before in
-    let at-before′′′ = at-before′′ .before .before .before in
-    let at-words = at-before′′ .before in
-    let at-entry = at-before′′′ .before in
-    let at-if1 = at-before′ .before in
-    let at-ends-of = at-before .before in
+    let at-words = c .before .before .before .before .before .before in
+    let at-entry = c .before .before .before .before .before .before .before .before .before in
+    let at-if1 = c .before .before .before .before in
+    let at-ends-of = c .before .before .before in
     let at-rest = c .before in
     ahead-over _ _ _ (λ k. at-words .shared-slice-known3 .given k .fits) _ _ _ (at-entry .pre) _ _ _ (at-if1 .if1 .left) (at-ends-of .ends-of .ensures)
     (at-rest .rest .ensures) (c .serving .ensures)

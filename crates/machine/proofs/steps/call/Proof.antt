@@ -9,16 +9,13 @@ use Rattle.machine.proofs.steps.call.Tie as tie
 
 ahead-requires : tie.Need-ahead-requires
 ahead-requires c κs =
-    let at-before = c .before .before .before in
-    let at-entry = at-before .before in
+    let at-entry = c .before .before .before .before in
     at-entry .pre
 
 choose-requires : tie.Need-choose-requires
 choose-requires c κs =
-    let at-before = c .before .before in
-    let at-before′ = at-before .before .before .before in
-    let at-entry = at-before′ .before in
-    let at-words = at-before .before in (
+    let at-entry = c .before .before .before .before .before .before in
+    let at-words = c .before .before .before in (
       at-entry .pre .ready,
       calling-at _ _ _ (λ k. at-words .slice-known .given k .fits) _ _ _ (at-entry .pre),
       waits-named _ (at-entry .pre .ready) _ (at-entry .pre .waits),
@@ -31,12 +28,9 @@ same-length c = search needs
 
 returns : tie.Need-returns
 returns c =
-    let at-before = c .before .before .before in
-    let at-before′ = at-before .before .before in
-    let at-before′′ = at-before′ .before .before .before in
-    let at-words = at-before′ .before in
-    let at-entry = at-before′′ .before in
-    let at-ahead = at-before .before in
+    let at-words = c .before .before .before .before .before .before in
+    let at-entry = c .before .before .before .before .before .before .before .before .before in
+    let at-ahead = c .before .before .before .before in
     let at-choose = c .before .before in
     call-leaves _ _ _ (λ k. at-words .slice-known .given k .fits) _ _ _ (at-entry .pre) _ (at-ahead .ahead .ensures) (at-choose .choose .ensures .0)
     (at-choose .choose .ensures .1)

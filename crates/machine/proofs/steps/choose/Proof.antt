@@ -19,8 +19,7 @@ returns c =
 
 push-requires : tie.Need-push-requires
 push-requires c κs =
-    let at-before = c .before .before .before .before .before in
-    let at-entry = at-before .before in
+    let at-entry = c .before .before .before .before .before .before in
     let at-lowest = c .before .before in
     let at-if1 = c .before in
     let h = lowest-named (at-entry .args .tables .now) (at-entry .args .ws .now) (at-entry .args .a) (at-entry .args .at .position) (at-entry .args .s .words)
@@ -32,12 +31,9 @@ same-length-2 c = search needs
 
 returns-2 : tie.Need-returns-2
 returns-2 c =
-    let at-before = c .before .before .before in
-    let at-before′ = at-before .before in
-    let at-before′′ = at-before′ .before .before .before .before in
-    let at-lowest = at-before′ .before in
-    let at-entry = at-before′′ .before in
-    let at-if1 = at-before .before in
+    let at-lowest = c .before .before .before .before .before in
+    let at-entry = c .before .before .before .before .before .before .before .before .before in
+    let at-if1 = c .before .before .before .before in
     let at-push = c .before .before in (
       at-lowest .lowest .ensures,
       push-if _ (at-entry .args .ws .now) (at-entry .args .base) (at-entry .args .at .depth) (at-entry .args .at .place)

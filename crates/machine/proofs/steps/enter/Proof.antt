@@ -15,8 +15,7 @@ advance-requires c κs = search needs
 
 returns : tie.Need-returns
 returns c =
-    let at-before = c .before .before .before .before .before in
-    let at-entry = at-before .before in
+    let at-entry = c .before .before .before .before .before .before in
     let at-first = c .before .before in
     entered-is (at-entry .args .tables .now) (at-entry .args .note .now) (at-entry .args .ws .now) (at-entry .args .base) (at-entry .args .a)
     (at-entry .args .b) (at-entry .args .at) (at-first .first .ensures) (c .advance .ensures)

@@ -1,7 +1,7 @@
 -- `machine::steps::space_of` meets its contract: the cells of at most 255 places at 129 positions end within a machine word.
 use native.Mathlib.Omega.{arith}
 use borrow.Author.Needs.{needs}
-use Rattle.machine.proofs.SpaceLaws.{space-small, spaced-is}
+use Rattle.machine.proofs.SpaceLaws.{cells-small, spaced-is}
 use Rattle.machine.proofs.steps.space_of.Statement.{statement}
 use Rattle.machine.proofs.steps.space_of.Tie as tie
 
@@ -13,15 +13,13 @@ add-t5 c = search needs
 
 mul-t6 : tie.Need-mul-t6
 mul-t6 c =
-    let at-before = c .before .before in
-    let at-entry = at-before .before in
-    omega (arith, space-small _ (at-entry .args .note .now) (at-entry .pre .0) (c .size .ensures) (at-entry .pre .1))
+    let at-entry = c .before .before .before in
+    omega (arith, cells-small _ (at-entry .args .note .now) (at-entry .pre .0) (c .size .ensures) (at-entry .pre .1))
 
 mul-t7 : tie.Need-mul-t7
 mul-t7 c =
-    let at-before = c .before .before in
-    let at-entry = at-before .before in
-    omega (arith, space-small _ (at-entry .args .note .now) (at-entry .pre .0) (c .size .ensures) (at-entry .pre .1))
+    let at-entry = c .before .before .before in
+    omega (arith, cells-small _ (at-entry .args .note .now) (at-entry .pre .0) (c .size .ensures) (at-entry .pre .1))
 
 returns : tie.Need-returns
 returns c = spaced-is _ _ (c .size .ensures)
