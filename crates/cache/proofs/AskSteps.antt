@@ -2,7 +2,7 @@
 use mathlib.Core.Path.{_≡_, refl, sym, ap, _∙_}
 use mathlib.Core.Option.{Option, none, some}
 use mathlib.Core.List.{List}
-use Prim.Native.Nat.{ℕ, _+_, _-_, _*_, _≤_}
+use Prim.Native.Nat.{ℕ, _+_, _-_, _*_, _≤_, _<_}
 use native.Mathlib.Omega.{arith}
 use lib.ListN.{length, set, take, drop, length-take}
 use borrow.Author.Tests.{eq-eqb, ne-eqb}
@@ -15,11 +15,13 @@ use Rattle.lookahead.specs.Told.{keptWords, Tells}
 use Rattle.lookahead.specs.declared.rules.Outcome as told
 use Rattle.lookahead.specs.declared.rules.Outcome.the-variants.{Full, Alternative, State}
 use Rattle.lookahead.proofs.PackLaws.{length-packAll}
-use Rattle.words.specs.Layout.{configWords, configsAt, startAt, stepAt, fullWord, stateWord}
+use Rattle.words.specs.Layout.{configWords, slots, configsAt, startAt, stepAt, fullWord, stateWord}
 use Rattle.words.specs.Words.{word, startOf, stepOf, keptCount, keptIn, addState, searched}
 use Rattle.words.specs.Words as words
+use Rattle.cache.specs.Calls.{Kept}
 use Rattle.cache.specs.Recording.{Learned, learned, holds?, find, recordNew, recordOutcome, askStart, askStep}
 use Rattle.cache.specs.ByWords.{holdsWords, findWords, addWords, sayWord, newWords, onFound, stateWords, outcomeWords, Room}
+use Rattle.words.proofs.WordLaws.{slot-within}
 use Rattle.cache.proofs.RecordLaws.{putAt, ask, start-ask, step-ask}
 
 -- the words of a state are as many as its configurations say
@@ -27,10 +29,11 @@ pub told-room : (o : told.Outcome) (ws : List ℕ) (x : Outcome) → length ws �
 unfolding Tells Room
 told-room Full ws x l h = tt
 told-room (Alternative b) ws x l h = tt
-told-room (State n) ws x l h =
+told-room (State n) ws x q h =
     let e = ap (λ (l : List ℕ). length l) (h .words) ∙ length-packAll (h .configs) in
     let z = h .count in
-    (omega (arith, e, z, length-take (configWords * n) ws), omega (arith, e, z, length-take (configWords * n) ws))
+    let l = length-take (configWords * n) ws in
+    record { few = omega (arith, e, z, l); room = omega (arith, e, z, l) }
 
 -- a state by its configurations is one by its words
 state-by-words : (i : ℕ) (c : List ℕ) (a : ℕ) (ks : List Config) → recordOutcome (putAt i) c a (state ks) ≡ stateWords i c a (length ks) (packAll ks)
@@ -48,7 +51,7 @@ told-is i c a (Alternative b) ws x h = rw h
 told-is i c a (State n) ws x h = rw (h .is, h .words, ← h .count) (sym (state-by-words i c a (h .configs)))
 
 -- ---- recording by the code's ways out
-pub room-state : (o : told.Outcome) (ws : List ℕ) {n : ℕ} → o ≡ State n → Room o ws → (n ≤ maxKept) × (configWords * n ≤ length ws)
+pub room-state : (o : told.Outcome) (ws : List ℕ) {n : ℕ} → o ≡ State n → Room o ws → Kept n ws
 unfolding Room
 room-state o ws e h = rw e at h
 
@@ -69,6 +72,14 @@ module _ (i : ℕ) (c : List ℕ) (a : ℕ) (o : told.Outcome) (ws : List ℕ) {
 pub kept-few : (c : List ℕ) (s : ℕ) {n : ℕ} → n ≡ keptCount c s → n ≤ maxKept
 unfolding keptCount
 kept-few c s e = omega arith
+
+-- they lie within the cache
+pub part-within : (c : List ℕ) (s : ℕ) {at n : ℕ} → s < slots (length c) → at ≡ configsAt s → n ≡ keptCount c s
+    → (n ≤ maxKept) × (at + configWords * n ≤ length c)
+part-within c s h e f =
+    let few = kept-few c s f in
+    let inside = slot-within (length c) s h in
+    (few, omega arith)
 
 pub part-short : (c : List ℕ) (s at : ℕ) {n : ℕ} → n ≡ keptCount c s → length (take (at + configWords * n - at) (drop at c)) ≤ keptWords
 part-short c s at {n} e = omega (arith, kept-few c s e, length-take (at + configWords * n - at) (drop at c))

@@ -26,9 +26,7 @@ slots-requires : tie.Need-slots-requires Inv-loop μ-loop
 slots-requires c κs = search needs
 
 ask-start-requires : tie.Need-ask-start-requires Inv-loop μ-loop
-ask-start-requires c κs =
-    let at-entry = c .before .before .before .before .before in
-    (at-entry .pre .ready, at-entry .pre .names, at-entry .pre .long)
+ask-start-requires c κs = let call = c .before .before .before .before .before .pre in record { ready = call .ready; names = call .names; long = call .long }
 
 loop-holds : tie.Need-loop-holds Inv-loop μ-loop
 loop-holds c =
@@ -71,7 +69,7 @@ ask-step-requires c κs =
     let at-entry = c .before .before .before .before .before .before .before .before .before .before .before .before .before .before .before in
     let call = at-entry .pre in
     let small = token-small _ (call .ready) (at-entry .args .note .now) (call .known) (at-loop .loop .j) (c .before .token-at .ensures) in
-    (call .ready, omega arith, small, omega arith)
+    (record { ready = call .ready; slot = omega arith; kind = small }, omega arith)
 
 add-j : tie.Need-add-j Inv-loop μ-loop
 add-j c = omega arith
