@@ -40,11 +40,13 @@ state-by-words : (i : ℕ) (c : List ℕ) (a : ℕ) (ks : List Config) → recor
 unfolding recordOutcome stateWords find findWords holds? holdsWords searched recordNew newWords addState addWords
 state-by-words i c a ks = go (findWords c a (packAll ks))
   where
-    go : (o : Option ℕ) → elim o as (λ _. Learned) [ none ↦ recordNew (putAt i) c a ks | some s ↦ learned (stateWord s) (set c i (stateWord s)) ] ≡ onFound i c a (length ks) (packAll ks) o
+    go : (o : Option ℕ) → elim o as (λ _. Learned) [ none ↦ recordNew (putAt i) c a ks | some s ↦ learned (stateWord s) (set c i (stateWord s)) ]
+        ≡ onFound i c a (length ks) (packAll ks) o
     go none = refl
     go (some s) = refl
 
-pub told-is : (i : ℕ) (c : List ℕ) (a : ℕ) (o : told.Outcome) (ws : List ℕ) (x : Outcome) → Tells o ws x → outcomeWords i c a o ws ≡ recordOutcome (putAt i) c a x
+pub told-is : (i : ℕ) (c : List ℕ) (a : ℕ) (o : told.Outcome) (ws : List ℕ) (x : Outcome) → Tells o ws x → outcomeWords i c a o ws
+    ≡ recordOutcome (putAt i) c a x
 unfolding Tells outcomeWords recordOutcome
 told-is i c a Full ws x h = rw h
 told-is i c a (Alternative b) ws x h = rw h
@@ -97,7 +99,8 @@ asked-recorded : (c : List ℕ) (i a : ℕ) (o : Outcome) → (word c i ≡ 0 �
 asked-recorded c i a o n = rw (ne-eqb (word c i) 0 n)
 
 -- nothing is recorded yet
-asked-learned : (i : ℕ) (c : List ℕ) (a : ℕ) (o : told.Outcome) (ws : List ℕ) (x : Outcome) {l : Learned} → word c i ≡ 0 → Tells o ws x → l ≡ outcomeWords i c a o ws
+asked-learned : (i : ℕ) (c : List ℕ) (a : ℕ) (o : told.Outcome) (ws : List ℕ) (x : Outcome) {l : Learned} → word c i ≡ 0 → Tells o ws x → l
+    ≡ outcomeWords i c a o ws
     → l ≡ ask c i a x
 asked-learned i c a o ws x z t e = rw (eq-eqb (word c i) 0 z) (e ∙ told-is i c a o ws x t)
 
@@ -106,7 +109,8 @@ module _ (g : Grammar) (c : List ℕ) (a : ℕ) where
   unfolding startOf
   start-recorded e n = rw e (asked-recorded c (startAt a) a (startOutcome g a) (λ z. n (e ∙ z)) ∙ sym (start-ask g c a))
 
-  pub start-learned : (o : told.Outcome) (ws : List ℕ) {l : Learned} → startOf c a ≡ 0 → Tells o ws (startOutcome g a) → l ≡ outcomeWords (startAt a) c a o ws
+  pub start-learned : (o : told.Outcome) (ws : List ℕ) {l : Learned} → startOf c a ≡ 0 → Tells o ws (startOutcome g a) → l
+      ≡ outcomeWords (startAt a) c a o ws
       → l ≡ askStart g c a
   unfolding startOf
   start-learned o ws z t e = asked-learned (startAt a) c a o ws (startOutcome g a) z t e ∙ sym (start-ask g c a)
@@ -116,7 +120,8 @@ module _ (g : Grammar) (c : List ℕ) (a : ℕ) where
     unfolding stepOf
     step-recorded e n = rw e (asked-recorded c (stepAt s t) a (stepOutcome g t (keptIn c s)) (λ z. n (e ∙ z)) ∙ sym (step-ask g c a s t))
 
-    pub step-learned : (o : told.Outcome) (ws : List ℕ) {l : Learned} {i : ℕ} → i ≡ stepAt s t → stepOf c s t ≡ 0 → Tells o ws (stepOutcome g t (keptIn c s))
+    pub step-learned : (o : told.Outcome) (ws : List ℕ) {l : Learned} {i : ℕ} → i ≡ stepAt s t → stepOf c s t ≡ 0
+        → Tells o ws (stepOutcome g t (keptIn c s))
         → l ≡ outcomeWords i c a o ws → l ≡ askStep g c a s t
     unfolding stepOf
     step-learned o ws q z h e = asked-learned (stepAt s t) c a o ws (stepOutcome g t (keptIn c s)) z h (e ∙ rw q) ∙ sym (step-ask g c a s t)

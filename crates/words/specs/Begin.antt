@@ -35,7 +35,8 @@ beginWords bytes l = sets (sets (replicate l 0) lengthAt (sizeWords bytes l)) by
 unfoldable pub begun? : List ℕ → List ℕ → Bool
 unfolding packBytes sameList
 begun? bytes c =
-    let same = sameList (take (length (packBytes bytes)) (drop bytesAt c)) (packBytes bytes) in sameList (take 3 (drop lengthAt c)) (sizeWords bytes (length c)) && same
+    let same = sameList (take (length (packBytes bytes)) (drop bytesAt c)) (packBytes bytes) in
+    sameList (take 3 (drop lengthAt c)) (sizeWords bytes (length c)) && same
 
 -- what beginning answers, and the words that it leaves
 pub record Begun : Type 0 where

@@ -39,7 +39,8 @@ returns c =
     let at-entry = c .before .before .before .before .before .before .before .before .before .before .before .before in
     let at-outcome = c .before .before .before .before .before .before .before in
     let at-step = c .before .before .before .before in
-    step-learned _ _ _ _ _ _ _ (at-step .step-at .ensures) (at-entry .pre .1 .none) (at-outcome .step-outcome .ensures) (c .before .before .record-outcome .ensures)
+    step-learned _ _ _ _ _ _ _ (at-step .step-at .ensures) (at-entry .pre .1 .none) (at-outcome .step-outcome .ensures)
+    (c .before .before .record-outcome .ensures)
 
 pub learn-step-spec : {M : Type 1} → statement M
 learn-step-spec =

@@ -10,7 +10,8 @@ use Rattle.derivation.specs.Runs.{marked}
 use Rattle.words.specs.Layout as layout
 use Rattle.cache.specs.Recording.{learned}
 use Rattle.cache.specs.Predict.{follow}
-use Rattle.cache.proofs.PredictSteps.{Asking, asking-on, asking-beyond, asking-over, asking-none, asking-some, predict-starts, start-slots, step-slots, token-small}
+use Rattle.cache.proofs.PredictSteps.{Asking, asking-on, asking-beyond, asking-over, asking-none, asking-some, predict-starts, start-slots, step-slots}
+use Rattle.cache.proofs.PredictSteps.{token-small}
 use Rattle.cache.proofs.prediction.predict.Statement.{statement}
 use Rattle.cache.proofs.prediction.predict.Tie as tie
 
@@ -99,7 +100,9 @@ returns-3 c =
     ∙ predict-starts _ _ _ _ (at-start .ask-start .ensures)
 
 alternatives-requires : tie.Need-alternatives-requires Inv-loop μ-loop
-alternatives-requires c κs = let at-entry = c .before .before .before .before .before .before .before .before .before .before .before .before in (at-entry .pre .ready, at-entry .pre .names)
+alternatives-requires c κs =
+    let at-entry = c .before .before .before .before .before .before .before .before .before .before .before .before in
+    (at-entry .pre .ready, at-entry .pre .names)
 
 same-length-4 : tie.Need-same-length-4 Inv-loop μ-loop
 same-length-4 c = search needs
@@ -108,7 +111,8 @@ returns-4 : tie.Need-returns-4 Inv-loop μ-loop
 returns-4 c =
     let at-loop = c .before .before .before .before .before in
     let at-start = c .before .before .before .before .before .before .before .before in
-    asking-none _ _ _ (at-loop .loop .inv .0) (c .before .before .before .number2 .ensures) (omega arith) (λ _. omega (arith, c .before .alternatives .ensures))
+    asking-none _ _ _ (at-loop .loop .inv .0) (c .before .before .before .number2 .ensures) (omega arith)
+    (λ _. omega (arith, c .before .alternatives .ensures))
     ∙ predict-starts _ _ _ _ (at-start .ask-start .ensures)
 
 same-length-5 : tie.Need-same-length-5 Inv-loop μ-loop
@@ -118,7 +122,8 @@ returns-5 : tie.Need-returns-5 Inv-loop μ-loop
 returns-5 c =
     let at-loop = c .before .before .before .before .before in
     let at-start = c .before .before .before .before .before .before .before .before in
-    asking-some _ _ _ (at-loop .loop .inv .0) (c .before .before .before .number2 .ensures) (omega arith) (omega arith) (omega (arith, c .before .alternatives .ensures))
+    asking-some _ _ _ (at-loop .loop .inv .0) (c .before .before .before .number2 .ensures) (omega arith) (omega arith)
+    (omega (arith, c .before .alternatives .ensures))
     ∙ predict-starts _ _ _ _ (at-start .ask-start .ensures)
 
 pub predict-spec : {M : Type 1} → statement M

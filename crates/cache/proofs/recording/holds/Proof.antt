@@ -24,7 +24,9 @@ returns-2 c =
     other-count _ _ _ _ (c .before .before .before .decision .ensures) (c .before .kept-count .ensures) (at-entry .pre .0) (c .if2 .taken) short
 
 configs-at-requires : tie.Need-configs-at-requires
-configs-at-requires c κs = let at-entry = c .before .before .before .before .before .before in slot-few (length (at-entry .args .cache .now)) _ (at-entry .pre .0)
+configs-at-requires c κs =
+    let at-entry = c .before .before .before .before .before .before in
+    slot-few (length (at-entry .args .cache .now)) _ (at-entry .pre .0)
 
 mul-same-words : tie.Need-mul-same-words
 mul-same-words c = search needs
@@ -40,7 +42,8 @@ returns-3 : tie.Need-returns-3
 returns-3 c =
     let at-decision = c .before .before .before .before .before in
     let at-count = c .before .before .before in
-    same-decision _ _ _ _ (at-decision .decision .ensures) (at-count .kept-count .ensures) (c .before .before .before .before .if1 .left) (c .before .before .if2 .left)
+    same-decision _ _ _ _ (at-decision .decision .ensures) (at-count .kept-count .ensures) (c .before .before .before .before .if1 .left)
+    (c .before .before .if2 .left)
     (c .before .configs-at .ensures) (c .same-words .ensures)
 
 pub holds-spec : {M : Type 1} → statement M

@@ -43,7 +43,8 @@ returns c =
     let at-held = c .before .before .before .before .before .before .before .before .before .before .before in
     let at-slots = c .before .before .before .before .before .before .before .before .before .before in
     let at-added = c .before .before .before .before .before .before .before in
-    new-held _ _ _ _ _ (at-held .held .ensures) (omega (arith, at-slots .slots .ensures)) (at-added .add-state .ensures) (c .before .before .before .word .ensures)
+    new-held _ _ _ _ _ (at-held .held .ensures) (omega (arith, at-slots .slots .ensures)) (at-added .add-state .ensures)
+    (c .before .before .before .word .ensures)
     (c .before .before .say .ensures)
 
 same-length-2 : tie.Need-same-length-2
