@@ -20,7 +20,9 @@ use Rattle.derivation.specs.Space.{frameWords}
 use Rattle.derivation.specs.Ready.{Ready}
 use Rattle.derivation.proofs.ReadyLaws.{ready-first}
 use Rattle.derivation.proofs.MarkedCells.{derives-inside}
-use Rattle.cache.specs.Recording.{learned}
+use Rattle.cache.specs.declared.prediction.Forecast.{Forecast}
+use Rattle.cache.specs.declared.prediction.Forecast.the-variants.{Alternative, Full}
+use Rattle.cache.specs.Predictor.{predicted}
 use Rattle.cache.specs.Predict.{predict}
 use Rattle.chart.specs.Chart.{Lent, Filled}
 use Rattle.plain.specs.Frames.{Serving}
@@ -46,7 +48,8 @@ module _ (t : List ℕ) (h : Ready t) (w ws : List ℕ) (lent : Lent (grammarIn 
     pub begin-order : s < e
     begin-order = omega (arith, counted, one-at-least t h 0 (some-named t h))
 
-    decided : (c : List ℕ) {said : ℕ} {c′ : List ℕ} → learned said c′ ≡ predict (grammarIn t) c 0 (drop 0 (marked w)) → 2 ≤ e - s → quickChoice (grammarIn t) (marked w) c (endPlace ∷ []) 0 0 ≡ settle (grammarIn t) (marked w) (endPlace ∷ []) 0 0 (learned said c′)
+    decided : (c : List ℕ) {x : Forecast} {c′ : List ℕ} → predicted x c′ ≡ predict (grammarIn t) c 0 (drop 0 (marked w)) → 2 ≤ e - s
+        → quickChoice (grammarIn t) (marked w) c (endPlace ∷ []) 0 0 ≡ settle (grammarIn t) (marked w) (endPlace ∷ []) 0 0 (predicted x c′)
     decided c u l =
         choice-decided (grammarIn t) (marked w) c (endPlace ∷ []) 0 0 (lt-ltb 1 (length (alternatives (grammarIn t) 0)) (omega (arith, counted)))
         ∙ ap (settle (grammarIn t) (marked w) (endPlace ∷ []) 0 0) (sym u)
@@ -68,13 +71,13 @@ module _ (t : List ℕ) (h : Ready t) (w ws : List ℕ) (lent : Lent (grammarIn 
       pub begin-single : {after : List ℕ} {known : ℕ} → e - s < 2 → after ≡ set ws (base + frameWords * 0) endPlace → known ≡ 0 → Began t w ws after c c known 1
       begin-single l = begin-taken 1 (choice-single (grammarIn t) (marked w) c (endPlace ∷ []) 0 0 (le-ltb 1 (length (alternatives (grammarIn t) 0)) (omega (arith, counted))))
 
-      module _ {said r : ℕ} {c′ : List ℕ} (u : learned said c′ ≡ predict (grammarIn t) c 0 (drop 0 (marked w))) (y : r ≡ said) (l : 2 ≤ e - s) where
-        pub begin-named : {after : List ℕ} {known : ℕ} → 0 < r → r ≤ e - s → after ≡ set ws (base + frameWords * 0) endPlace → known ≡ 0 → Began t w ws after c c′ known r
-        begin-named m k q n =
-            rw y (begin-taken said (decided c u l ∙ settle-named (grammarIn t) (marked w) (endPlace ∷ []) 0 0 (learned said c′) (omega arith) (omega (arith, counted))) q n)
+      module _ {x : Forecast} {c′ : List ℕ} (u : predicted x c′ ≡ predict (grammarIn t) c 0 (drop 0 (marked w))) (l : 2 ≤ e - s) where
+        pub begin-named : {b : ℕ} {after : List ℕ} {known : ℕ} → x ≡ Alternative b → after ≡ set ws (base + frameWords * 0) endPlace → known ≡ 0
+            → Began t w ws after c c′ known b
+        begin-named {b} m q n = begin-taken b (decided c u l ∙ settle-named (grammarIn t) (marked w) (endPlace ∷ []) 0 0 (predicted x c′) b m) q n
 
         -- FULL: the cells, and by them the lowest alternative that serves
-        pub begin-full : {after us es ss : List ℕ} {b known : ℕ} → (0 < r → e - s < r) → Filled t w ws us → Fit us → es ≡ emptySet → ss ≡ withOf es (length w)
+        pub begin-full : {after us es ss : List ℕ} {b known : ℕ} → x ≡ Full → Filled t w ws us → Fit us → es ≡ emptySet → ss ≡ withOf es (length w)
             → b ≡ lowestIn t us 0 0 ss → after ≡ pushIf b us base 0 endPlace ss → known ≡ 1 → Began t w ws after c c′ known b
         unfolding Serving
         begin-full {after} {us} {es} {ss} {b} {known} m f fit p q k a n = go b refl
@@ -86,7 +89,7 @@ module _ (t : List ℕ) (h : Ready t) (w ws : List ℕ) (lent : Lent (grammarIn 
             room = omega (arith, begin-room, f .kept)
 
             choice : quickChoice (grammarIn t) (marked w) c (endPlace ∷ []) 0 0 ≡ picked (lowest (grammarIn t) (marked w) (endPlace ∷ []) 0 0) c′
-            choice = decided c u l ∙ settle-full (grammarIn t) (marked w) (endPlace ∷ []) 0 0 (learned said c′) (λ j. let i = m (omega arith) in omega (arith, counted))
+            choice = decided c u l ∙ settle-full (grammarIn t) (marked w) (endPlace ∷ []) 0 0 (predicted x c′) m
 
             asks : b ≡ orZero ((quickChoice (grammarIn t) (marked w) c (endPlace ∷ []) 0 0) .choice)
             asks = begin-asks t h w us fit lent′ (f .charted) p q k ∙ sym (ap (λ (o : Picked). orZero (o .choice)) choice)

@@ -5,7 +5,6 @@ pub mod LockStep
 pub mod NoteLaws
 pub mod Demand3Laws
 pub mod RunSteps
-pub mod PredictSteps
 pub mod GoingLaws
 pub mod RanLaws
 pub mod FloorLaws

@@ -18,10 +18,10 @@ use Rattle.derivation.proofs.RunLaws.{run-le, run-end, run-token}
 use Rattle.derivation.proofs.MachineLaws.{Seen, ended, halted, crammed, popped, matched, picked, see, Served, call-served, right-serves, serves-at}
 use Rattle.derivation.proofs.LowestLaws.{lowest-right}
 use Rattle.lookahead.proofs.Following.{Valid, valid-below, valid-token, valid-call}
-use Rattle.lookahead.proofs.Agreeing.{Marked}
-use Rattle.cache.specs.Coherent.{Coherent}
-use Rattle.cache.proofs.SuitLaws.{Suits}
-use Rattle.cache.proofs.PredictLaws.{Tokens}
+use Rattle.cache.specs.Predictor.{Predictor}
+use Rattle.cache.specs.Predict.{predict}
+use Rattle.cache.specs.Coherent.{Coherent, Extends}
+use Rattle.cache.proofs.PredictorLaws.{Stands}
 use Rattle.quick.specs.Machine.{quickCall, quickSymbol, quickStep, followed, quickRun}
 use Rattle.quick.proofs.ChoiceLaws.{choice-same}
 use Rattle.quick.proofs.StepLaws.{step-grows}
@@ -60,12 +60,13 @@ module _ (g : Grammar) (ordered : Ordered g) where
   rests-call p a S e (based (on h)) = h
   rests-call p a S e read = let h = ordered .end-past in clash (cc)
 
-module _ (g : Grammar) (bytes : List ℕ) (suits : Suits g bytes) (ordered : Ordered g) (w : List ℕ) (known : Tokens g bytes suits w) (marked : Marked g ordered w) where
+module _ (g : Grammar) (bytes : List ℕ) (ordered : Ordered g) (w : List ℕ)
+    (law : Predictor (Coherent g bytes) (Extends g) g w (Stands g w) (predict g)) where
   pub call-lowest : (c S : List ℕ) (a i room : ℕ) → Coherent g bytes c → Served g w S a i → i < length w → ((b f : ℕ) → first g a b ≡ some f → Valid g (f ∷ S))
       → (quickCall g w c S a i room) .step ≡ onCall g (lowest g w) S a i room
   unfolding quickCall onCall
   call-lowest c S a i zero h v l valid = refl
-  call-lowest c S a i (suc room) h v l valid = ap (onChoice g S a) (choice-same g bytes suits w known ordered marked c S a i h v l valid)
+  call-lowest c S a i (suc room) h v l valid = ap (onChoice g S a) (choice-same g bytes w law c S a i h v l valid)
 
   symbol-lowest : (c : List ℕ) (p : ℕ) (S : List ℕ) (i room : ℕ) (s : Symbol) → facing g p ≡ s → Coherent g bytes c → Opens g w (p ∷ S) i → Valid g (p ∷ S) → Rests (p ∷ S)
       → (quickSymbol g w c p S i room s) .step ≡ onSymbol g w (lowest g w) p S i room s
@@ -106,4 +107,4 @@ module _ (g : Grammar) (bytes : List ℕ) (suits : Suits g bytes) (ordered : Ord
       let m = quickStep g w c S i room in
       let e = step-lowest c S i room h o v y in
       ap (λ (x : Step). (followed (quickRun g w k) i room x (m .words)) .outcome) e
-      ∙ on-same k (run-same k) S i room (m .words) (step g w (lowest g w) S i room) (see g w (lowest g w) S i room) (step-grows g bytes suits w known c S i room h .coherent) o v y
+      ∙ on-same k (run-same k) S i room (m .words) (step g w (lowest g w) S i room) (see g w (lowest g w) S i room) (step-grows g bytes w law c S i room h .coherent) o v y

@@ -24,13 +24,16 @@ use Rattle.derivation.proofs.SentenceTest.{sentence-iff}
 use Rattle.derivation.proofs.MarkedCells.{length-marked, get-mark}
 use Rattle.lookahead.proofs.Following.{last}
 use Rattle.lookahead.proofs.Agreeing.{Marked}
+use Rattle.cache.specs.Predictor.{Grown, Predictor}
+use Rattle.cache.specs.Predict.{predict}
 use Rattle.cache.specs.Coherent.{Coherent, Extends}
 use Rattle.cache.proofs.SuitLaws.{Suits}
 use Rattle.cache.proofs.ExtendLaws.{extends-trans}
 use Rattle.cache.proofs.PredictLaws.{Tokens}
+use Rattle.cache.proofs.PredictorLaws.{Stands, cache-predicts}
 use Rattle.quick.specs.Machine.{stopped, quickCall, followed, goOn, quickRun, quickRead}
 use Rattle.quick.specs.Quick.{quickNote}
-use Rattle.quick.proofs.StepLaws.{chooser, call-same, run-sound, Grows, on-grown, call-grows, go-grows, call-again, go-again}
+use Rattle.quick.proofs.StepLaws.{chooser, call-same, run-sound, on-grown, call-grows, go-grows, call-again, go-again}
 use Rattle.quick.proofs.LockStep.{floor, on, based, call-lowest, run-same}
 
 -- ---- what is accepted is a sentence, whatever the words
@@ -68,6 +71,9 @@ module _ (g : Grammar) (ordered : Ordered g) (v : List ℕ) where
       cc
 
 module _ (g : Grammar) (bytes : List ℕ) (suits : Suits g bytes) (ordered : Ordered g) (v : List ℕ) (known : Tokens g bytes suits (marked v)) where
+  law : Predictor (Coherent g bytes) (Extends g) g (marked v) (Stands g (marked v)) (predict g)
+  law = cache-predicts g bytes suits (marked v) known ordered (ends-marked g ordered v)
+
   called-same : (k room : ℕ) (c : List ℕ) (x : Step) → Sentence g v → Coherent g bytes c → Called g (lowest g (marked v)) (endPlace ∷ []) 0 0 room x
       → (followed (quickRun g (marked v) k) 0 room x c) .outcome ≡ follow (run g (marked v) (lowest g (marked v)) k) 0 room x
   called-same k room c x h j no-room = refl
@@ -76,7 +82,7 @@ module _ (g : Grammar) (bytes : List ℕ) (suits : Suits g bytes) (ordered : Ord
   called-same k room c x h j (taken {b = b} {f = f} {room = room′} e p) =
       let s = right-serves (lowest-right g (marked v)) (sentence-serves g (ordered .end-mark) (ordered .end-past) v h) e in
       ap (prefix b)
-      (run-same g bytes suits ordered (marked v) known (ends-marked g ordered v) k (f ∷ endPlace ∷ []) 0 room′ c j (serves-at 0 b s p) (last (ordered .owns 0 b f p) refl, tt)
+      (run-same g bytes ordered (marked v) law k (f ∷ endPlace ∷ []) 0 room′ c j (serves-at 0 b s p) (last (ordered .owns 0 b f p) refl, tt)
       (based (on floor)))
 
   -- a sentence is read as the plain reading reads it
@@ -85,8 +91,8 @@ module _ (g : Grammar) (bytes : List ℕ) (suits : Suits g bytes) (ordered : Ord
   read-same k room c h j =
       let m = quickCall g (marked v) c (endPlace ∷ []) 0 0 room in
       let served = sentence-serves g (ordered .end-mark) (ordered .end-past) v h in
-      let e = call-lowest g bytes suits ordered (marked v) known (ends-marked g ordered v) c (endPlace ∷ []) 0 0 room j served (omega (arith, length-marked v)) (λ b f q. (last (ordered .owns 0 b f q) refl, tt)) in
-      let grown = call-grows g bytes suits (marked v) known c (endPlace ∷ []) 0 0 room j in
+      let e = call-lowest g bytes ordered (marked v) law c (endPlace ∷ []) 0 0 room j served (omega (arith, length-marked v)) (λ b f q. (last (ordered .owns 0 b f q) refl, tt)) in
+      let grown = call-grows g bytes (marked v) law c (endPlace ∷ []) 0 0 room j in
       ap (λ (x : Step). (followed (quickRun g (marked v) k) 0 room x (m .words)) .outcome) e
       ∙ called-same k room (m .words) (onCall g (lowest g (marked v)) (endPlace ∷ []) 0 0 room) h (grown .coherent) (call-seen g (lowest g (marked v)) (endPlace ∷ []) 0 0 room)
 
@@ -107,13 +113,13 @@ module _ (g : Grammar) (bytes : List ℕ) (suits : Suits g bytes) (ordered : Ord
           (λ d q. (d, reading-sound g (ordered .end-mark) (ordered .end-past) v (lowest g (marked v)) k (length row) d q .0)))
 
   -- ---- words
-  pub note-grows : (room : ℕ) (c : List ℕ) → Coherent g bytes c → Grows g bytes suits (marked v) known c ((quickNote g v room c) .words)
+  pub note-grows : (room : ℕ) (c : List ℕ) → Coherent g bytes c → Grown (Coherent g bytes) (Extends g) c ((quickNote g v room c) .words)
   unfolding quickNote quickRead
   note-grows room c j =
       let k = suc (2 * room + length (marked v)) in
       let m = quickCall g (marked v) c (endPlace ∷ []) 0 0 room in
-      let x = call-grows g bytes suits (marked v) known c (endPlace ∷ []) 0 0 room j in
-      on-grown g bytes suits (marked v) known c (m .words) _ x (go-grows g bytes suits (marked v) known k 0 room m (x .coherent))
+      let x = call-grows g bytes (marked v) law c (endPlace ∷ []) 0 0 room j in
+      on-grown g bytes (marked v) law c (m .words) _ x (go-grows g bytes (marked v) law k 0 room m (x .coherent))
 
   -- READ AGAIN over words that have only grown since, it leaves them as found
   pub note-again : (room : ℕ) (c d : List ℕ) → Coherent g bytes c → Coherent g bytes d → Extends g ((quickNote g v room c) .words) d → (quickNote g v room d) .words ≡ d
@@ -121,8 +127,8 @@ module _ (g : Grammar) (bytes : List ℕ) (suits : Suits g bytes) (ordered : Ord
   note-again room c d j i e =
       let k = suc (2 * room + length (marked v)) in
       let m = quickCall g (marked v) c (endPlace ∷ []) 0 0 room in
-      let x = call-grows g bytes suits (marked v) known c (endPlace ∷ []) 0 0 room j in
-      let y = go-grows g bytes suits (marked v) known k 0 room m (x .coherent) in
-      let q = call-again g bytes suits (marked v) known c d (endPlace ∷ []) 0 0 room j i (extends-trans g _ _ _ (y .extends) e) in
-      let z : goOn (quickRun g (marked v) k) 0 room (quickCall g (marked v) d (endPlace ∷ []) 0 0 room) ≡ stopped ((goOn (quickRun g (marked v) k) 0 room m) .outcome) d = ap (goOn (quickRun g (marked v) k) 0 room) q ∙ go-again g bytes suits (marked v) known k 0 room m d (x .coherent) i e in
+      let x = call-grows g bytes (marked v) law c (endPlace ∷ []) 0 0 room j in
+      let y = go-grows g bytes (marked v) law k 0 room m (x .coherent) in
+      let q = call-again g bytes (marked v) law c d (endPlace ∷ []) 0 0 room j i (extends-trans g _ _ _ (y .extends) e) in
+      let z : goOn (quickRun g (marked v) k) 0 room (quickCall g (marked v) d (endPlace ∷ []) 0 0 room) ≡ stopped ((goOn (quickRun g (marked v) k) 0 room m) .outcome) d = ap (goOn (quickRun g (marked v) k) 0 room) q ∙ go-again g bytes (marked v) law k 0 room m d (x .coherent) i e in
       rw z

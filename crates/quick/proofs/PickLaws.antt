@@ -1,6 +1,5 @@
 -- What the code takes where a nonterminal waits is what the quick machine chooses.
 use mathlib.Core.Path.{_≡_, refl, sym, ap, subst, _∙_}
-use mathlib.Core.Bool.{false}
 use mathlib.Core.Option.{some}
 use mathlib.Core.List.{List, [], _∷_}
 use Prim.Native.Nat.{ℕ, zero, suc, _+_, _-_, _*_, _≤_, _<_, min}
@@ -8,8 +7,7 @@ use native.Mathlib.Numerals.{add-one}
 use native.Mathlib.Omega.{arith}
 use lib.ListN.{length, drop, set, length-set}
 use lib.Seq.{getD-set-same, getD-set-other}
-use borrow.Author.Tests.{lt-ltb, le-ltb, le-leb, lt-leb}
-use Rattle.base.proofs.Booleans.{and-none}
+use borrow.Author.Tests.{lt-ltb, le-ltb}
 use Rattle.grammar.specs.Limits.{maxPlaces, endPlace}
 use Rattle.grammar.specs.Grammar.{Grammar, alternatives, first}
 use Rattle.grammar.specs.Tables.{grammarIn, nonterminalsIn, ruleAt}
@@ -20,8 +18,11 @@ use Rattle.derivation.specs.Space.{frameWords, returnsOf}
 use Rattle.derivation.specs.Ready.{Ready}
 use Rattle.derivation.proofs.ReadyLaws.{ready-size}
 use Rattle.derivation.proofs.Entries.{Open}
-use Rattle.cache.specs.Recording.{Learned, learned}
+use Rattle.cache.specs.declared.prediction.Forecast.{Forecast}
+use Rattle.cache.specs.declared.prediction.Forecast.the-variants.{Alternative, Full}
+use Rattle.cache.specs.Predictor.{Predicted, predicted}
 use Rattle.cache.specs.Predict.{predict}
+use Rattle.cache.proofs.ForecastLaws.{predict-named}
 use Rattle.plain.specs.Choice.{orZero}
 use Rattle.plain.specs.Frames.{FramesBelow, EveryFrame}
 use Rattle.plain.specs.Machine.{ground, waiting}
@@ -29,7 +30,7 @@ use Rattle.plain.specs.Waiting.{Waiting}
 use Rattle.plain.proofs.GoodLaws.{good-fewer}
 use Rattle.plain.proofs.GoingLaws.{frame-room}
 use Rattle.plain.proofs.PushLaws.{low-charted}
-use Rattle.quick.specs.Machine.{Picked, picked, named?, settle}
+use Rattle.quick.specs.Machine.{Picked, picked, settle}
 use Rattle.quick.specs.Going.{Calls, Tabled, Prepared, Found, choiceAt, Chose}
 use Rattle.quick.specs.Sets.{Unsettled, Settled}
 use Rattle.derivation.proofs.CountLaws.{count-is, one-at-least, first-within}
@@ -38,17 +39,13 @@ use Rattle.quick.proofs.TableLaws.{calls-floored, calls-position, calls
 
 -- ---- the definition, by what a prediction said
 module _ (g : Grammar) (w S : List ℕ) (a i : ℕ) where
-  pub settle-named : (l : Learned) → 0 < l .said → l .said ≤ length (alternatives g a) → settle g w S a i l ≡ picked (some (l .said)) (l .words)
+  pub settle-named : (p : Predicted (List ℕ)) (b : ℕ) → p .forecast ≡ Alternative b → settle g w S a i p ≡ picked (some b) (p .state)
   unfolding settle
-  settle-named l m n = rw (settle, lt-ltb 0 (l .said) m, le-leb (l .said) (length (alternatives g a)) n)
+  settle-named p b e = rw e
 
-  named-false : (n b : ℕ) → (0 < b → n < b) → named? n b ≡ false
-  named-false n zero h = refl
-  named-false n (suc b) h = rw (lt-leb (suc b) n (h (omega arith)), and-none)
-
-  pub settle-full : (l : Learned) → (0 < l .said → length (alternatives g a) < l .said) → settle g w S a i l ≡ picked (lowest g w S a i) (l .words)
+  pub settle-full : (p : Predicted (List ℕ)) → p .forecast ≡ Full → settle g w S a i p ≡ picked (lowest g w S a i) (p .state)
   unfolding settle
-  settle-full l n = rw (settle, named-false (length (alternatives g a)) (l .said) n)
+  settle-full p e = rw e
 
 -- ---- the code
 module _ (t : List ℕ) (h : Ready t) (w ws c : List ℕ) {d p a i known : ℕ} (x : Calls t w ws d p a i known) where
@@ -117,18 +114,20 @@ module _ (t : List ℕ) (h : Ready t) (w ws c : List ℕ) {d p a i known : ℕ} 
         good = z .good;
       }
 
-  module _ {l : Learned} (e : predict (grammarIn t) c a (drop i (marked w)) ≡ l) (decides : 1 < length (alternatives (grammarIn t) a)) where
+  module _ {l : Predicted (List ℕ)} (e : predict (grammarIn t) c a (drop i (marked w)) ≡ l) (decides : 1 < length (alternatives (grammarIn t) a)) where
     decided : choiceAt t w ws c d p a i ≡ settle (grammarIn t) (marked w) (waiting t w ws d p) a i l
-    decided = choice-decided (grammarIn t) (marked w) c (waiting t w ws d p) a i (lt-ltb 1 (length (alternatives (grammarIn t) a)) decides) ∙ ap (settle (grammarIn t) (marked w) (waiting t w ws d p) a i) e
+    decided =
+        choice-decided (grammarIn t) (marked w) c (waiting t w ws d p) a i (lt-ltb 1 (length (alternatives (grammarIn t) a)) decides)
+        ∙ ap (settle (grammarIn t) (marked w) (waiting t w ws d p) a i) e
 
     -- the predicted alternative
-    pub pick-named : {known′ f : ℕ} {after : List ℕ} → 0 < l .said → l .said ≤ length (alternatives (grammarIn t) a) → first (grammarIn t) a (l .said) ≡ some f
-        → after ≡ set ws (ground t w + frameWords * d) (suc p) → known′ ≡ min known d → Chose t w ws after c (l .words) d p a i known′ (l .said)
-    pick-named {known′} {f} m n q z k = taken (l .said) known′ (decided ∙ settle-named (grammarIn t) (marked w) (waiting t w ws d p) a i l m n) f q z k
+    pub pick-named : {known′ f b : ℕ} {after : List ℕ} → l .forecast ≡ Alternative b → first (grammarIn t) a b ≡ some f
+        → after ≡ set ws (ground t w + frameWords * d) (suc p) → known′ ≡ min known d → Chose t w ws after c (l .state) d p a i known′ b
+    pick-named {known′} {f} {b} m q z k = taken b known′ (decided ∙ settle-named (grammarIn t) (marked w) (waiting t w ws d p) a i l b m) f q z k
 
     -- FULL
-    pub pick-full : {known′ r : ℕ} {after : List ℕ} → (0 < l .said → length (alternatives (grammarIn t) a) < l .said) → Found t w ws after d p a i r → (r ≡ 0 → known′ ≡ d)
-        → ((r ≡ 0 → ⊥) → known′ ≡ suc d) → Chose t w ws after c (l .words) d p a i known′ r
+    pub pick-full : {known′ r : ℕ} {after : List ℕ} → l .forecast ≡ Full → Found t w ws after d p a i r → (r ≡ 0 → known′ ≡ d)
+        → ((r ≡ 0 → ⊥) → known′ ≡ suc d) → Chose t w ws after c (l .state) d p a i known′ r
     pick-full {known′} {r} {after} n y zero-known some-known =
         record {
           chosen = y .called .chosen ∙ (ap (λ (S : List ℕ). orZero (lowest (grammarIn t) (marked w) (suc p ∷ S) a i)) (v .same) ∙ sym (ap (λ (o : Picked). orZero (o .choice)) q));
@@ -149,7 +148,7 @@ module _ (t : List ℕ) (h : Ready t) (w ws c : List ℕ) {d p a i known : ℕ} 
         v : Prepared t w ws (y .mid) d p i d
         v = y .prepared
 
-        q : choiceAt t w ws c d p a i ≡ picked (lowest (grammarIn t) (marked w) (waiting t w ws d p) a i) (l .words)
+        q : choiceAt t w ws c d p a i ≡ picked (lowest (grammarIn t) (marked w) (waiting t w ws d p) a i) (l .state)
         q = decided ∙ settle-full (grammarIn t) (marked w) (waiting t w ws d p) a i l n
 
   -- a single production
@@ -158,12 +157,12 @@ module _ (t : List ℕ) (h : Ready t) (w ws c : List ℕ) {d p a i known : ℕ} 
   pick-single {known′} {f} n q z k = taken 1 known′ (choice-single (grammarIn t) (marked w) c (waiting t w ws d p) a i (le-ltb 1 (length (alternatives (grammarIn t) a)) n)) f q z k
 
 -- ---- with the tables' count of alternatives, and with what the code's calls ensure
-module _ (t : List ℕ) (h : Ready t) (w ws : List ℕ) {d p a i known : ℕ} (x : Calls t w ws d p a i known) where
+module _ (t : List ℕ) (h : Ready t) (w ws : List ℕ) {d p a i known : ℕ} (call : Calls t w ws d p a i known) where
   pub decide-below : a < nonterminalsIn t
-  decide-below = h .fits .named p a (x .calls)
+  decide-below = h .fits .named p a (call .calls)
 
   pub decide-place : p < maxPlaces
-  decide-place = omega (arith, ready-size t h, calls-place t h w ws x)
+  decide-place = omega (arith, ready-size t h, calls-place t h w ws call)
 
   module _ {s e : ℕ} (begins : s ≡ ruleAt t a) (ends : e ≡ ruleAt t (a + 1)) where
     counted : length (alternatives (grammarIn t) a) ≡ e - s
@@ -175,32 +174,31 @@ module _ (t : List ℕ) (h : Ready t) (w ws : List ℕ) {d p a i known : ℕ} (x
     within : (b : ℕ) → 1 ≤ b → b ≤ e - s → (f : ℕ) × (first (grammarIn t) a b ≡ some f)
     within b m k = first-within t h a decide-below b m (omega (arith, counted))
 
-    over : {said r : ℕ} → r ≡ said → (0 < r → e - s < r) → 0 < said → length (alternatives (grammarIn t) a) < said
-    over y m j = let k = m (omega arith) in omega (arith, counted)
-
     -- a frame for a named alternative has room
     pub decide-room : {base : ℕ} → base ≡ ground t w → base + frameWords * suc d ≤ length ws
     decide-room z =
         let l = decide-order in
         let f = within 1 (omega arith) (omega arith) in
-        omega (arith, frame-room t h w ws (x .lent) d p i (x .held) 1 (x .calls) (f .1))
+        omega (arith, frame-room t h w ws (call .lent) d p i (call .held) 1 (call .calls) (f .1))
 
     module _ (c : List ℕ) {base : ℕ} (z : base ≡ ground t w) {after : List ℕ} {known′ : ℕ} where
       pub decide-single : e - s < 2 → after ≡ set ws (base + frameWords * d) (p + 1) → known′ ≡ min known d → Chose t w ws after c c d p a i known′ 1
       decide-single l q k =
           let m = decide-order in
           let f = within 1 (omega arith) (omega arith) in
-          pick-single t h w ws c x (omega (arith, counted)) (f .1) (rw (z, add-one) at q) k
+          pick-single t h w ws c call (omega (arith, counted)) (f .1) (rw (z, add-one) at q) k
 
-      module _ {said r : ℕ} {c′ : List ℕ} (u : learned said c′ ≡ predict (grammarIn t) c a (drop i (marked w))) (y : r ≡ said) (l : 2 ≤ e - s) where
-        pub decide-named : 0 < r → r ≤ e - s → after ≡ set ws (base + frameWords * d) (p + 1) → known′ ≡ min known d → Chose t w ws after c c′ d p a i known′ r
-        decide-named m k q n =
-            let f = within said (omega arith) (omega arith) in
-            rw y (pick-named t h w ws c x (sym u) (omega (arith, counted)) (omega arith) (omega (arith, counted)) (f .1) (rw (z, add-one) at q) n)
+      module _ {x : Forecast} {c′ : List ℕ} (u : predicted x c′ ≡ predict (grammarIn t) c a (drop i (marked w))) (l : 2 ≤ e - s) where
+        pub decide-named : {b : ℕ} → x ≡ Alternative b → after ≡ set ws (base + frameWords * d) (p + 1) → known′ ≡ min known d → Chose t w ws after c c′ d p a i known′ b
+        decide-named {b} m q n =
+            let said : (predict (grammarIn t) c a (drop i (marked w))) .forecast ≡ Alternative b = ap (λ (v : Predicted (List ℕ)). v .forecast) (sym u) ∙ m in
+            let (low, high) = predict-named (grammarIn t) c a (drop i (marked w)) b said in
+            let f = within b low (omega (arith, counted)) in
+            pick-named t h w ws c call (sym u) (omega (arith, counted)) m (f .1) (rw (z, add-one) at q) n
 
-        module _ (m : 0 < r → e - s < r) {b : ℕ} (q : Found t w ws after d p a i b) where
+        module _ (m : x ≡ Full) {b : ℕ} (q : Found t w ws after d p a i b) where
           pub decide-none : b ≡ 0 → known′ ≡ d → Chose t w ws after c c′ d p a i known′ 0
-          decide-none o n = rw o at (pick-full t h w ws c x (sym u) (omega (arith, counted)) (over y m) q (λ _. n) (λ j. absurd (j o)))
+          decide-none o n = rw o at (pick-full t h w ws c call (sym u) (omega (arith, counted)) m q (λ _. n) (λ j. absurd (j o)))
 
           pub decide-found : (b ≡ 0 → ⊥) → known′ ≡ d + 1 → Chose t w ws after c c′ d p a i known′ b
-          decide-found o n = pick-full t h w ws c x (sym u) (omega (arith, counted)) (over y m) q (λ j. absurd (o j)) (λ _. omega arith)
+          decide-found o n = pick-full t h w ws c call (sym u) (omega (arith, counted)) m q (λ j. absurd (o j)) (λ _. omega arith)

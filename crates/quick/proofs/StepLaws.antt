@@ -12,10 +12,11 @@ use Rattle.grammar.specs.Grammar.{Grammar, facing}
 use Rattle.derivation.specs.Runs.{Run}
 use Rattle.derivation.specs.Machine.{Chooser, accepted, Step, halt, move, pick, onCall, onSymbol, step}
 use Rattle.derivation.proofs.MachineLaws.{Seen, ended, halted, crammed, popped, matched, picked, see, prefix-accepted}
+use Rattle.cache.specs.Predictor.{Grown, Predictor}
+use Rattle.cache.specs.Predict.{predict}
 use Rattle.cache.specs.Coherent.{Coherent, Extends}
-use Rattle.cache.proofs.SuitLaws.{Suits}
 use Rattle.cache.proofs.ExtendLaws.{extends-refl, extends-trans}
-use Rattle.cache.proofs.PredictLaws.{Tokens, Grown}
+use Rattle.cache.proofs.PredictorLaws.{Stands}
 use Rattle.quick.specs.Machine.{quickChoice, Moved, moved, chosenStep, quickCall, quickSymbol, quickStep, stopped, prefixed, followed, goOn, quickRun}
 use Rattle.quick.proofs.ChoiceLaws.{choice-grows, choice-again}
 
@@ -64,10 +65,10 @@ module _ (g : Grammar) (w : List ℕ) where
       let m = quickStep g w c S i room in
       sound-on k (run-sound k) S i room c (m .words) r (m .step) (subst (Seen g w (chooser c) S i room) (sym (step-same c S i room)) (see g w (chooser c) S i room)) q
 
-module _ (g : Grammar) (bytes : List ℕ) (suits : Suits g bytes) (w : List ℕ) (known : Tokens g bytes suits w) where
+module _ (g : Grammar) (bytes w : List ℕ) (law : Predictor (Coherent g bytes) (Extends g) g w (Stands g w) (predict g)) where
   -- ---- words only grow
   abbrev pub Grows : List ℕ → List ℕ → Type 0
-  Grows c d = Grown g bytes suits c d
+  Grows c d = Grown (Coherent g bytes) (Extends g) c d
 
   still : (c : List ℕ) → Coherent g bytes c → Grows c c
   still c h = record { coherent = h; extends = extends-refl g c }
@@ -78,7 +79,7 @@ module _ (g : Grammar) (bytes : List ℕ) (suits : Suits g bytes) (w : List ℕ)
   pub call-grows : (c S : List ℕ) (a i room : ℕ) → Coherent g bytes c → Grows c ((quickCall g w c S a i room) .words)
   unfolding quickCall
   call-grows c S a i zero h = still c h
-  call-grows c S a i (suc room) h = choice-grows g bytes suits w known c S a i h
+  call-grows c S a i (suc room) h = choice-grows g bytes w law c S a i h
 
   symbol-grows : (c : List ℕ) (p : ℕ) (S : List ℕ) (i room : ℕ) (s : Symbol) → Coherent g bytes c → Grows c ((quickSymbol g w c p S i room s) .words)
   unfolding quickSymbol
@@ -116,7 +117,7 @@ module _ (g : Grammar) (bytes : List ℕ) (suits : Suits g bytes) (w : List ℕ)
       → quickCall g w d S a i room ≡ moved ((quickCall g w c S a i room) .step) d
   unfolding quickCall
   call-again c d S a i zero h j x = refl
-  call-again c d S a i (suc room) h j x = ap (chosenStep g S a) (choice-again g bytes suits w known c d S a i h j x)
+  call-again c d S a i (suc room) h j x = ap (chosenStep g S a) (choice-again g bytes w law c d S a i h j x)
 
   symbol-again : (c d : List ℕ) (p : ℕ) (S : List ℕ) (i room : ℕ) (s : Symbol) → Coherent g bytes c → Coherent g bytes d → Extends g ((quickSymbol g w c p S i room s) .words) d
       → quickSymbol g w d p S i room s ≡ moved ((quickSymbol g w c p S i room s) .step) d

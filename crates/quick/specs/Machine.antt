@@ -1,16 +1,18 @@
 -- The machine under the quick chooser: the same steps as under the plain one, with the cache handed on from prediction to prediction.
-use mathlib.Core.Bool.{Bool, true, false, _&&_, cond}
+use mathlib.Core.Bool.{true, false, cond}
 use mathlib.Core.Option.{Option, some}
 use mathlib.Core.List.{List, [], _∷_}
 use Prim.Native.Nat.{ℕ, zero, suc, pred}
-use lib.Dec.{eqb, ltb, leb}
+use lib.Dec.{eqb, ltb}
 use lib.ListN.{length, getElem?, drop}
 use Rattle.grammar.specs.declared.Symbol.{Symbol}
 use Rattle.grammar.specs.declared.Symbol.the-variants.{Token, Nonterminal, End}
 use Rattle.grammar.specs.Limits.{endPlace}
 use Rattle.grammar.specs.Grammar.{Grammar, facing, alternatives}
 use Rattle.derivation.specs.Machine.{lowest, Outcome, accepted, stuck, full, prefix, Step, halt, move, pick, onToken, onChoice}
-use Rattle.cache.specs.Recording.{Learned}
+use Rattle.cache.specs.declared.prediction.Forecast.{Forecast}
+use Rattle.cache.specs.declared.prediction.Forecast.the-variants.{Alternative, Full}
+use Rattle.cache.specs.Predictor.{Predicted}
 use Rattle.cache.specs.Predict.{predict}
 
 -- ---- choosing
@@ -22,14 +24,15 @@ pub record Picked : Type 0 where
 abbrev pub picked : Option ℕ → List ℕ → Picked
 picked o c = record { choice = o; words = c }
 
--- what was predicted: one of the n alternatives, or else FULL
-abbrev pub named? : ℕ → ℕ → Bool
-named? n b = ltb 0 b && leb b n
-
 -- a predicted alternative is taken; FULL takes the lowest from which the rest of the note can be derived by it and what is still open
-unfoldable pub settle : Grammar → List ℕ → List ℕ → ℕ → ℕ → Learned → Picked
-unfolding lowest alternatives
-settle g w S a i l = elim (named? (length (alternatives g a)) (l .said)) [ true ↦ picked (some (l .said)) (l .words) | false ↦ picked (lowest g w S a i) (l .words) ]
+unfoldable pub settled : Grammar → List ℕ → List ℕ → ℕ → ℕ → Forecast → List ℕ → Picked
+unfolding lowest
+settled g w S a i (Alternative b) c = picked (some b) c
+settled g w S a i Full c = picked (lowest g w S a i) c
+
+unfoldable pub settle : Grammar → List ℕ → List ℕ → ℕ → ℕ → Predicted (List ℕ) → Picked
+unfolding settled
+settle g w S a i p = settled g w S a i (p .forecast) (p .state)
 
 -- nonterminal a over the stack S that stays open, at position i of the marked note w: a decision is predicted, a single production is taken
 unfoldable pub quickChoice : Grammar → List ℕ → List ℕ → List ℕ → ℕ → ℕ → Picked

@@ -1,5 +1,6 @@
 // Which alternative is taken where a nonterminal waits: a single one as it is, else the predicted one, and where a prediction says FULL the lowest from
 // which the rest of the note can be derived. Only then is there need of the derivation cells and of the open frames' sets.
+use cache::Forecast;
 use positions::Positions;
 ghost use mathlib.Core.Path.{_≡_};
 ghost use Prim.Native.Nat.{suc, _+_, _*_, _≤_, _<_, min};
@@ -105,15 +106,14 @@ pub fn decide(
             known: stand,
         };
     }
-    let said = base::number(crate::predict::predict(tables, note, cache, a, i));
-    if 0 < said {
-        if said <= count {
-            let stand = push(ws, base, known, d, p + 1);
-            return Pick {
-                alternative: said,
-                known: stand,
-            };
-        }
+    let prediction = cache::predict(tables, note, cache, a, i);
+    let forecast = prediction.forecast;
+    if let Forecast::Alternative(b) = forecast {
+        let stand = push(ws, base, known, d, p + 1);
+        return Pick {
+            alternative: b,
+            known: stand,
+        };
     }
     let b = full(tables, note, ws, places, base, known, d, p, a, i);
     if b == 0 {

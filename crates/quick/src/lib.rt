@@ -1,7 +1,6 @@
 // The quick reading: alternatives are predicted by what the lookahead cache has learned; derivation cells are worked out only where that says nothing.
 mod choosing;
 mod machine;
-mod predict;
 mod reading;
 mod sets;
 

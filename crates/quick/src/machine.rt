@@ -1,6 +1,7 @@
 // The machine: a place over the open frames, at a position of the note. At each nonterminal it takes the alternative that was predicted, and where a
 // prediction says FULL the lowest from which the rest of the note can be derived.
 use crate::choosing::Pick;
+use cache::Forecast;
 use grammar::Symbol;
 use positions::Positions;
 ghost use mathlib.Core.Path.{_≡_};
@@ -44,15 +45,14 @@ fn begin(
             known: stand,
         };
     }
-    let said = base::number(crate::predict::predict(tables, note, cache, 0, 0));
-    if 0 < said {
-        if said <= count {
-            let stand = crate::choosing::push(ws, base, 0, 0, grammar::END_PLACE);
-            return Pick {
-                alternative: said,
-                known: stand,
-            };
-        }
+    let prediction = cache::predict(tables, note, cache, 0, 0);
+    let forecast = prediction.forecast;
+    if let Forecast::Alternative(b) = forecast {
+        let stand = crate::choosing::push(ws, base, 0, 0, grammar::END_PLACE);
+        return Pick {
+            alternative: b,
+            known: stand,
+        };
     }
     chart::fill(tables, note, ws, places);
     let s = Positions::empty().with(note.len());
