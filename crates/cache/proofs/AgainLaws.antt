@@ -41,7 +41,8 @@ module _ (g : Grammar) (bytes : List ℕ) (suits : Suits g bytes) {c″ : List �
 
   module _ {c : List ℕ} (k : Coherent g bytes c) {i a : ℕ} where
     -- a state for which no slot was free finds none again
-    module _ {ks : List Config} (f : Field g c i a (state ks)) (free : word c i ≡ 0) (e : find c a ks ≡ none) (no-room : slots (length c) ≤ held c) (x : Extends g c c″) where
+    module _ {ks : List Config} (f : Field g c i a (state ks)) (free : word c i ≡ 0) (e : find c a ks ≡ none) (no-room : slots (length c) ≤ held c)
+        (x : Extends g c c″) where
       as-many : held c″ ≡ held c
       as-many = omega (arith, x .more, k .held-fits, k″ .held-fits, ap slots (x .as-long))
 
@@ -65,12 +66,14 @@ module _ (g : Grammar) (bytes : List ℕ) (suits : Suits g bytes) {c″ : List �
           ∙ ap (byRoom c″ i a ks) (le-ltb (held c″) (slots (length c″)) (omega (arith, as-many, ap slots (x .as-long))))
 
     -- a state that no slot held
-    again-new : {ks : List Config} → Field g c i a (state ks) → word c i ≡ 0 → find c a ks ≡ none → Extends g (recordNew (putAt i) c a ks .words) c″
+    again-new : {ks : List Config} → Field g c i a (state ks) → word c i ≡ 0 → find c a ks ≡ none
+        → Extends g (recordNew (putAt i) c a ks .words) c″
         → ask c″ i a (state ks) ≡ learned (recordNew (putAt i) c a ks .said) c″
     unfolding recordNew
     again-new {ks} f z e x = go (ltb (held c) (slots (length c))) refl x
       where
-        go : (b : Bool) → ltb (held c) (slots (length c)) ≡ b → Extends g (byRoom c i a ks b .words) c″ → ask c″ i a (state ks) ≡ learned (byRoom c i a ks b .said) c″
+        go : (b : Bool) → ltb (held c) (slots (length c)) ≡ b → Extends g (byRoom c i a ks b .words) c″ → ask c″ i a (state ks)
+            ≡ learned (byRoom c i a ks b .said) c″
         go true q x =
             let n = field-new g bytes suits k f e (ltb-true (held c) (slots (length c)) q) in
             again-put (n .coherent) (field-extends g (n .extends) f) (n .cells (field-cell g suits f) ∙ z) (stateWord (held c)) (λ r. omega arith) x
@@ -83,7 +86,8 @@ module _ (g : Grammar) (bytes : List ℕ) (suits : Suits g bytes) {c″ : List �
     again-record (alternative b) f z x = let y = field-recordable g bytes suits k f in again-put k f z b (λ r. omega (arith, y .0)) x
     again-record (state ks) f z x = go (find c a ks) refl x
       where
-        go : (o : Option ℕ) → find c a ks ≡ o → Extends g (byFind c i a ks o .words) c″ → ask c″ i a (state ks) ≡ learned (byFind c i a ks o .said) c″
+        go : (o : Option ℕ) → find c a ks ≡ o → Extends g (byFind c i a ks o .words) c″ → ask c″ i a (state ks)
+            ≡ learned (byFind c i a ks o .said) c″
         go none e x = again-new f z e x
         go (some s) e x = again-put k f z (stateWord s) (λ r. omega arith) x
 

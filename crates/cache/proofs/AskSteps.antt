@@ -2,7 +2,7 @@
 use mathlib.Core.Path.{_≡_, refl, sym, ap, _∙_}
 use mathlib.Core.Option.{Option, none, some}
 use mathlib.Core.List.{List}
-use Prim.Native.Nat.{ℕ, _+_, _-_, _*_, _≤_}
+use Prim.Native.Nat.{ℕ, _+_, _-_, _*_, _≤_, _<_}
 use native.Mathlib.Omega.{arith}
 use lib.ListN.{length, set, take, drop, length-take}
 use borrow.Author.Tests.{eq-eqb, ne-eqb}
@@ -15,11 +15,13 @@ use Rattle.learning.specs.Told.{keptWords, Tells}
 use Rattle.learning.specs.declared.rules.Outcome as told
 use Rattle.learning.specs.declared.rules.Outcome.the-variants.{Full, Alternative, State}
 use Rattle.configurations.proofs.PackLaws.{length-packAll}
-use Rattle.words.specs.Layout.{configWords, configsAt, startAt, stepAt, fullWord, stateWord}
+use Rattle.words.specs.Layout.{configWords, slots, configsAt, startAt, stepAt, fullWord, stateWord}
 use Rattle.words.specs.Words.{word, startOf, stepOf, keptCount, keptIn, addState, searched}
 use Rattle.words.specs.Words as words
+use Rattle.cache.specs.Calls.{Kept}
 use Rattle.cache.specs.Recording.{Learned, learned, holds?, find, recordNew, recordOutcome, askStart, askStep}
 use Rattle.cache.specs.ByWords.{holdsWords, findWords, addWords, sayWord, newWords, onFound, stateWords, outcomeWords, Room}
+use Rattle.words.proofs.WordLaws.{slot-within}
 use Rattle.cache.proofs.RecordLaws.{putAt, ask, start-ask, step-ask}
 
 -- the words of a state are as many as its configurations say
@@ -27,28 +29,31 @@ pub told-room : (o : told.Outcome) (ws : List ℕ) (x : Outcome) → length ws �
 unfolding Tells Room
 told-room Full ws x l h = tt
 told-room (Alternative b) ws x l h = tt
-told-room (State n) ws x l h =
+told-room (State n) ws x q h =
     let e = ap (λ (l : List ℕ). length l) (h .words) ∙ length-packAll (h .configs) in
     let z = h .count in
-    (omega (arith, e, z, length-take (configWords * n) ws), omega (arith, e, z, length-take (configWords * n) ws))
+    let l = length-take (configWords * n) ws in
+    record { few = omega (arith, e, z, l); room = omega (arith, e, z, l) }
 
 -- a state by its configurations is one by its words
 state-by-words : (i : ℕ) (c : List ℕ) (a : ℕ) (ks : List Config) → recordOutcome (putAt i) c a (state ks) ≡ stateWords i c a (length ks) (packAll ks)
 unfolding recordOutcome stateWords find findWords holds? holdsWords searched recordNew newWords addState addWords
 state-by-words i c a ks = go (findWords c a (packAll ks))
   where
-    go : (o : Option ℕ) → elim o as (λ _. Learned) [ none ↦ recordNew (putAt i) c a ks | some s ↦ learned (stateWord s) (set c i (stateWord s)) ] ≡ onFound i c a (length ks) (packAll ks) o
+    go : (o : Option ℕ) → elim o as (λ _. Learned) [ none ↦ recordNew (putAt i) c a ks | some s ↦ learned (stateWord s) (set c i (stateWord s)) ]
+        ≡ onFound i c a (length ks) (packAll ks) o
     go none = refl
     go (some s) = refl
 
-pub told-is : (i : ℕ) (c : List ℕ) (a : ℕ) (o : told.Outcome) (ws : List ℕ) (x : Outcome) → Tells o ws x → outcomeWords i c a o ws ≡ recordOutcome (putAt i) c a x
+pub told-is : (i : ℕ) (c : List ℕ) (a : ℕ) (o : told.Outcome) (ws : List ℕ) (x : Outcome) → Tells o ws x → outcomeWords i c a o ws
+    ≡ recordOutcome (putAt i) c a x
 unfolding Tells outcomeWords recordOutcome
 told-is i c a Full ws x h = rw h
 told-is i c a (Alternative b) ws x h = rw h
 told-is i c a (State n) ws x h = rw (h .is, h .words, ← h .count) (sym (state-by-words i c a (h .configs)))
 
 -- ---- recording by the code's ways out
-pub room-state : (o : told.Outcome) (ws : List ℕ) {n : ℕ} → o ≡ State n → Room o ws → (n ≤ maxKept) × (configWords * n ≤ length ws)
+pub room-state : (o : told.Outcome) (ws : List ℕ) {n : ℕ} → o ≡ State n → Room o ws → Kept n ws
 unfolding Room
 room-state o ws e h = rw e at h
 
@@ -70,6 +75,14 @@ pub kept-few : (c : List ℕ) (s : ℕ) {n : ℕ} → n ≡ keptCount c s → n 
 unfolding keptCount
 kept-few c s e = omega arith
 
+-- they lie within the cache
+pub part-within : (c : List ℕ) (s : ℕ) {at n : ℕ} → s < slots (length c) → at ≡ configsAt s → n ≡ keptCount c s
+    → (n ≤ maxKept) × (at + configWords * n ≤ length c)
+part-within c s h e f =
+    let few = kept-few c s f in
+    let inside = slot-within (length c) s h in
+    (few, omega arith)
+
 pub part-short : (c : List ℕ) (s at : ℕ) {n : ℕ} → n ≡ keptCount c s → length (take (at + configWords * n - at) (drop at c)) ≤ keptWords
 part-short c s at {n} e = omega (arith, kept-few c s e, length-take (at + configWords * n - at) (drop at c))
 
@@ -86,7 +99,8 @@ asked-recorded : (c : List ℕ) (i a : ℕ) (o : Outcome) → (word c i ≡ 0 �
 asked-recorded c i a o n = rw (ne-eqb (word c i) 0 n)
 
 -- nothing is recorded yet
-asked-learned : (i : ℕ) (c : List ℕ) (a : ℕ) (o : told.Outcome) (ws : List ℕ) (x : Outcome) {l : Learned} → word c i ≡ 0 → Tells o ws x → l ≡ outcomeWords i c a o ws
+asked-learned : (i : ℕ) (c : List ℕ) (a : ℕ) (o : told.Outcome) (ws : List ℕ) (x : Outcome) {l : Learned} → word c i ≡ 0 → Tells o ws x → l
+    ≡ outcomeWords i c a o ws
     → l ≡ ask c i a x
 asked-learned i c a o ws x z t e = rw (eq-eqb (word c i) 0 z) (e ∙ told-is i c a o ws x t)
 
@@ -95,7 +109,8 @@ module _ (g : Grammar) (c : List ℕ) (a : ℕ) where
   unfolding startOf
   start-recorded e n = rw e (asked-recorded c (startAt a) a (startOutcome g a) (λ z. n (e ∙ z)) ∙ sym (start-ask g c a))
 
-  pub start-learned : (o : told.Outcome) (ws : List ℕ) {l : Learned} → startOf c a ≡ 0 → Tells o ws (startOutcome g a) → l ≡ outcomeWords (startAt a) c a o ws
+  pub start-learned : (o : told.Outcome) (ws : List ℕ) {l : Learned} → startOf c a ≡ 0 → Tells o ws (startOutcome g a) → l
+      ≡ outcomeWords (startAt a) c a o ws
       → l ≡ askStart g c a
   unfolding startOf
   start-learned o ws z t e = asked-learned (startAt a) c a o ws (startOutcome g a) z t e ∙ sym (start-ask g c a)
@@ -105,7 +120,8 @@ module _ (g : Grammar) (c : List ℕ) (a : ℕ) where
     unfolding stepOf
     step-recorded e n = rw e (asked-recorded c (stepAt s t) a (stepOutcome g t (keptIn c s)) (λ z. n (e ∙ z)) ∙ sym (step-ask g c a s t))
 
-    pub step-learned : (o : told.Outcome) (ws : List ℕ) {l : Learned} {i : ℕ} → i ≡ stepAt s t → stepOf c s t ≡ 0 → Tells o ws (stepOutcome g t (keptIn c s))
+    pub step-learned : (o : told.Outcome) (ws : List ℕ) {l : Learned} {i : ℕ} → i ≡ stepAt s t → stepOf c s t ≡ 0
+        → Tells o ws (stepOutcome g t (keptIn c s))
         → l ≡ outcomeWords i c a o ws → l ≡ askStep g c a s t
     unfolding stepOf
     step-learned o ws q z h e = asked-learned (stepAt s t) c a o ws (stepOutcome g t (keptIn c s)) z h (e ∙ rw q) ∙ sym (step-ask g c a s t)

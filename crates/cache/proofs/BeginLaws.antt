@@ -57,7 +57,8 @@ module _ (bytes : List ℕ) (packed : bytesAt + length (packBytes bytes) ≤ fix
 
   size-words : take 3 (drop lengthAt fresh) ≡ sizeWords bytes l
   size-words =
-      region-same sized fresh lengthAt 3 (length-sets sized bytesAt (packBytes bytes)) (λ i h k. word-sets sized bytesAt i (packBytes bytes) (inl (omega arith)))
+      region-same sized fresh lengthAt 3 (length-sets sized bytesAt (packBytes bytes))
+      (λ i h k. word-sets sized bytesAt i (packBytes bytes) (inl (omega arith)))
       ∙ region-sets (replicate l 0) lengthAt (sizeWords bytes l) (omega (arith, length-replicate {A = ℕ} l 0))
 
   byte-words : take (length (packBytes bytes)) (drop bytesAt fresh) ≡ packBytes bytes
@@ -71,7 +72,8 @@ module _ (bytes : List ℕ) (packed : bytesAt + length (packBytes bytes) ≤ fix
   unfolding beginWords begun?
   begun-begun =
       rw (size-words, byte-words, long-fresh)
-      (T-and (sameList (sizeWords bytes l) (sizeWords bytes l)) (sameList (packBytes bytes) (packBytes bytes)) (list-same (sizeWords bytes l)) (list-same (packBytes bytes)))
+      (T-and (sameList (sizeWords bytes l) (sizeWords bytes l)) (sameList (packBytes bytes) (packBytes bytes)) (list-same (sizeWords bytes l))
+      (list-same (packBytes bytes)))
 
   none-held : held (beginWords bytes l) ≡ 0
   unfolding held beginWords

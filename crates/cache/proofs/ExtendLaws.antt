@@ -49,7 +49,8 @@ module _ (g : Grammar) where
   kept-extends x s h = ap unpackAll (x .same-kept s h)
 
   -- the words that say what the cache was begun for
-  pub begun-extends : (bytes : List ℕ) {c c′ : List ℕ} → bytesAt + length (packBytes bytes) ≤ fixedWords → Extends g c c′ → T (begun? bytes c) → T (begun? bytes c′)
+  pub begun-extends : (bytes : List ℕ) {c c′ : List ℕ} → bytesAt + length (packBytes bytes) ≤ fixedWords → Extends g c c′ → T (begun? bytes c)
+      → T (begun? bytes c′)
   unfolding begun?
   begun-extends bytes {c} {c′} few x t =
       let n = length (packBytes bytes) in

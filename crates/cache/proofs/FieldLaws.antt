@@ -68,7 +68,8 @@ module _ (g : Grammar) where
       of-step s t (omega (arith, x .more)) l (x .same-decision s h ∙ d) e (q ∙ ap (stepOutcome g t) (sym (kept-extends g x s h)))
 
   -- and what it records stays
-  pub recorded-stays : {bytes : List ℕ} → Suits g bytes → {c c′ : List ℕ} → Extends g c c′ → {i a : ℕ} {o : Outcome} → Field g c i a o → word c i ≢ 0 → word c′ i ≡ word c i
+  pub recorded-stays : {bytes : List ℕ} → Suits g bytes → {c c′ : List ℕ} → Extends g c c′ → {i a : ℕ} {o : Outcome} → Field g c i a o
+      → word c i ≢ 0 → word c′ i ≡ word c i
   unfolding startOf stepOf
   recorded-stays u {c} {c′} x (of-start d e q) n = rw e (x .same-start _ (u .decisions _ d) (rw e at n))
   recorded-stays u {c} {c′} x (of-step s t h l d e q) n = rw e (x .same-step s t h (omega (arith, u .kinds)) (rw e at n))
@@ -94,7 +95,8 @@ module _ (g : Grammar) where
   used-extends x (kept s j h l e) = kept s j (omega (arith, x .more)) (let q = ap length (x .same-kept s h) in omega arith) e
 
   -- the steps of a slot that holds no state
-  pub unheld-step : {bytes c : List ℕ} → Suits g bytes → (s t : ℕ) → held c ≤ s → t ≤ maxKinds → {i : ℕ} → i ≡ stepAt s t → ¬ Used g bytes c i
+  pub unheld-step : {bytes c : List ℕ} → Suits g bytes → (s t : ℕ) → held c ≤ s → t ≤ maxKinds → {i : ℕ} → i ≡ stepAt s t
+      → ¬ Used g bytes c i
   unheld-step u s t h l e (size _ m) = omega arith
   unheld-step u s t h l e (start a d q) = let b = u .decisions a d in omega arith
   unheld-step u s t h l e (byte j b q) = omega (arith, u .packed)

@@ -63,7 +63,8 @@ unfolding judged
 judged-one [] e = clash (cc)
 judged-one (k ∷ ks) {b} e = go (agreed (k .alternative) ks) e
   where
-    go : (x : Bool) → cond x (alternative (k .alternative)) (resolved (k ∷ ks)) ≡ alternative b → (c : Config) × In c (k ∷ ks) × (c .alternative ≡ b)
+    go : (x : Bool) → cond x (alternative (k .alternative)) (resolved (k ∷ ks)) ≡ alternative b → (c : Config) × In c (k ∷ ks)
+        × (c .alternative ≡ b)
     go true e = (k, List·Memᴰ·head refl, cc)
     go false e = absurd (resolved-never (k ∷ ks) e)
 
@@ -80,7 +81,8 @@ module _ (g : Grammar) where
   unfolding outcome
   outcome-one start {b} e = go (close g start) refl e
     where
-      go : (o : Option (List Config)) → close g start ≡ o → (elim o as (λ _. Outcome) [ none ↦ full | some ms ↦ limited (kept g ms) ]) ≡ alternative b
+      go : (o : Option (List Config)) → close g start ≡ o → (elim o as (λ _. Outcome) [ none ↦ full | some ms ↦ limited (kept g ms) ])
+          ≡ alternative b
           → (c : Config) × Closes g start c × (c .alternative ≡ b)
       go none q e = clash (cc)
       go (some ms) q e =
@@ -91,7 +93,13 @@ module _ (g : Grammar) where
     -- ---- closing
     moved : {c d : Config} → Low c → Moves g c d → Low d
     moved {c} l (enter {a = a} {f = f} b e q) =
-        record { place = omega (arith, bounded .begins a b f q, bounded .small); least = l .least; most = l .most; returns = λ r m. pick r (List·Memᴰ·cases-cons m) }
+        record {
+          place = omega (arith, bounded .begins a b f q, bounded .small);
+          least = l .least;
+          most = l .most;
+          returns =
+              λ r m. pick r (List·Memᴰ·cases-cons m);
+        }
       where
         pick : (r : ℕ) → (r ≡ suc (c .place)) ⊎ In r (c .stack) → r < returnRadix
         pick r (inl z) = let h = bounded .goes-on (c .place) (bounded .calls (c .place) a e) (λ x. clash (cc)) in omega (arith, bounded .small)
@@ -135,7 +143,13 @@ module _ (g : Grammar) where
 
     -- ---- starts and steps
     standing-low : (c : Config) → Standing g c → Low c
-    standing-low c s = record { place = go (s .stands); least = s .least; most = s .most; returns = λ r m. let h = s .returns r m in omega (arith, bounded .small) }
+    standing-low c s = record {
+      place = go (s .stands);
+      least = s .least;
+      most = s .most;
+      returns = λ r m. let h = s .returns r m in
+          omega (arith, bounded .small);
+    }
       where
         go : {p : ℕ} {t : List ℕ} → At g p t → p ≤ pastEnd
         go (inside h) = omega (arith, bounded .small)

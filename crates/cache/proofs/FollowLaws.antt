@@ -60,6 +60,7 @@ module _ (g : Grammar) where
   unfolding follow
   follow-over a s l e = rw (follow, e)
 
-  pub follow-on : (t : ℕ) (ts : List ℕ) (a s : ℕ) (l : Learned) → meaningOf g a l ≡ at s → follow g a (t ∷ ts) l ≡ follow g a ts (askStep g (l .words) a s t)
+  pub follow-on : (t : ℕ) (ts : List ℕ) (a s : ℕ) (l : Learned) → meaningOf g a l ≡ at s → follow g a (t ∷ ts) l
+      ≡ follow g a ts (askStep g (l .words) a s t)
   unfolding follow
   follow-on t ts a s l e = rw (follow, e)

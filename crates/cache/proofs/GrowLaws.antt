@@ -25,7 +25,8 @@ pub record Growth (g : Grammar) (bytes c c′ : List ℕ) : Type 0 where
   pub one : held c′ ≤ suc (held c)
   pub counts : (s : ℕ) → s < held c → word c′ (countAt s) ≡ word c (countAt s)
   pub new-slot : held c < held c′ → Slot g c′ (held c)
-  pub new-single : held c < held c′ → (s : ℕ) → s < held c → decision c s ≡ decision c′ (held c) → keptWords c s ≡ keptWords c′ (held c) → ⊥
+  pub new-single : held c < held c′ → (s : ℕ) → s < held c → decision c s ≡ decision c′ (held c) → keptWords c s ≡ keptWords c′ (held c)
+      → ⊥
   pub new-steps : held c < held c′ → (t : ℕ) → t ≤ g .kinds → stepOf c′ (held c) t ≡ 0
   pub elsewhere : (i : ℕ) → ¬ Used g bytes c′ i → word c′ i ≡ word c i
   pub said : {i a : ℕ} {o : Outcome} → Field g c i a o → word c′ i ≢ 0 → Says c′ a (word c′ i) o
@@ -52,21 +53,26 @@ module _ (g : Grammar) (bytes : List ℕ) (suits : Suits g bytes) {c c′ : List
   slot s h (yes l) = old-slot s l
   slot s h (no l) = let q : held c ≡ s = omega (arith, w .one) in subst (Slot g c′) q (w .new-slot (omega arith))
 
-  single : (s s′ : ℕ) → s < held c′ → s′ < held c′ → decision c′ s ≡ decision c′ s′ → keptWords c′ s ≡ keptWords c′ s′ → Dec (s < held c) → Dec (s′ < held c) → s ≡ s′
+  single : (s s′ : ℕ) → s < held c′ → s′ < held c′ → decision c′ s ≡ decision c′ s′ → keptWords c′ s ≡ keptWords c′ s′
+      → Dec (s < held c) → Dec (s′ < held c) → s ≡ s′
   single s s′ h h′ d e (yes l) (yes l′) =
       k .single s s′ l l′ (sym (x .same-decision s l) ∙ d ∙ x .same-decision s′ l′) (sym (x .same-kept s l) ∙ e ∙ x .same-kept s′ l′)
   single s s′ h h′ d e (yes l) (no l′) =
       let q : s′ ≡ held c = omega (arith, w .one) in
-      absurd (w .new-single (omega arith) s l (sym (x .same-decision s l) ∙ d ∙ ap (decision c′) q) (sym (x .same-kept s l) ∙ e ∙ ap (keptWords c′) q))
+      absurd (w .new-single (omega arith) s l (sym (x .same-decision s l) ∙ d ∙ ap (decision c′) q)
+      (sym (x .same-kept s l) ∙ e ∙ ap (keptWords c′) q))
   single s s′ h h′ d e (no l) (yes l′) =
       let q : s ≡ held c = omega (arith, w .one) in
-      absurd (w .new-single (omega arith) s′ l′ (sym (x .same-decision s′ l′) ∙ sym d ∙ ap (decision c′) q) (sym (x .same-kept s′ l′) ∙ sym e ∙ ap (keptWords c′) q))
+      absurd (w .new-single (omega arith) s′ l′ (sym (x .same-decision s′ l′) ∙ sym d ∙ ap (decision c′) q)
+      (sym (x .same-kept s′ l′) ∙ sym e ∙ ap (keptWords c′) q))
   single s s′ h h′ d e (no l) (no l′) = omega (arith, w .one)
 
-  stepped : (s t : ℕ) → s < held c′ → t ≤ g .kinds → stepOf c′ s t ≢ 0 → Dec (s < held c) → Says c′ (decision c′ s) (stepOf c′ s t) (stepOutcome g t (keptIn c′ s))
+  stepped : (s t : ℕ) → s < held c′ → t ≤ g .kinds → stepOf c′ s t ≢ 0 → Dec (s < held c)
+      → Says c′ (decision c′ s) (stepOf c′ s t) (stepOutcome g t (keptIn c′ s))
   unfolding stepOf
   stepped s t h l n (yes b) = rw (x .same-decision s b, kept-extends g x s b) (w .said (of-step s t b l refl refl refl) n)
-  stepped s t h l n (no b) = let q : held c ≡ s = omega (arith, w .one) in absurd (n (ap (λ (y : ℕ). word c′ (stepAt y t)) (sym q) ∙ w .new-steps (omega arith) t l))
+  stepped s t h l n (no b) = let q : held c ≡ s = omega (arith, w .one) in
+      absurd (n (ap (λ (y : ℕ). word c′ (stepAt y t)) (sym q) ∙ w .new-steps (omega arith) t l))
 
   pub grown : Coherent g bytes c′
   unfolding startOf

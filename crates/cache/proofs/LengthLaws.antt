@@ -45,7 +45,8 @@ module _ (put : List ℕ → ℕ → List ℕ) (puts : (c : List ℕ) (w : ℕ) 
   length-recordOutcome (alternative b) = puts c b
   length-recordOutcome (state ks) = go (find c a ks)
     where
-      go : (o : Option ℕ) → length ((elim o as (λ _. Learned) [ none ↦ recordNew put c a ks | some s ↦ learned (stateWord s) (put c (stateWord s)) ]) .words) ≡ length c
+      go : (o : Option ℕ) → length ((elim o as (λ _. Learned)
+          [ none ↦ recordNew put c a ks | some s ↦ learned (stateWord s) (put c (stateWord s)) ]) .words) ≡ length c
       go none = length-recordNew ks
       go (some s) = puts c (stateWord s)
 

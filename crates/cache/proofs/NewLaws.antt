@@ -22,7 +22,8 @@ use Rattle.words.proofs.WordLaws.{kept-same, Added, added}
 use Rattle.cache.proofs.FitLaws.{Keepable, fits-packable}
 use Rattle.cache.proofs.SuitLaws.{Suits}
 use Rattle.cache.proofs.ExtendLaws.{says-extends}
-use Rattle.cache.proofs.FieldLaws.{Cell, start-cell, step-cell, cell-held, cell-slot, cell-count, cell-configs, Field, field-cell, field-says, unheld-step}
+use Rattle.cache.proofs.FieldLaws.{Cell, start-cell, step-cell, cell-held, cell-slot, cell-count, cell-configs, Field, field-cell, field-says}
+use Rattle.cache.proofs.FieldLaws.{unheld-step}
 use Rattle.cache.proofs.GrowLaws.{Growth, grown}
 
 -- what the words are with a new state of decision a: words that record outcomes stay as they were
@@ -32,99 +33,103 @@ pub record Fresh (g : Grammar) (bytes c : List ℕ) (a : ℕ) (ks : List Config)
   pub says : Says (addState c a ks) a (stateWord (held c)) (state ks)
   pub cells : {i : ℕ} → Cell i → word (addState c a ks) i ≡ word c i
 
-module _ (g : Grammar) (bytes : List ℕ) (suits : Suits g bytes) {c : List ℕ} (k : Coherent g bytes c) (a : ℕ) (ks : List Config) (decides : Decides g a) (keep : Keepable ks) (room : held c < slots (length c)) (fresh : (s : ℕ) → s < held c → decision c s ≡ a → keptWords c s ≡ packAll ks → ⊥) where
-  after : List ℕ
-  after = addState c a ks
+module _ (g : Grammar) (bytes : List ℕ) (suits : Suits g bytes) {c : List ℕ} (k : Coherent g bytes c) (a : ℕ) (ks : List Config) (decides : Decides g a)
+    (keep : Keepable ks) (room : held c < slots (length c)) (fresh : (s : ℕ) → s < held c → decision c s ≡ a → keptWords c s ≡ packAll ks → ⊥)
+  where
+    after : List ℕ
+    after = addState c a ks
 
-  new : Added c a ks after
-  unfolding after
-  new = added c a ks room (keep .few)
+    new : Added c a ks after
+    unfolding after
+    new = added c a ks room (keep .few)
 
-  -- ---- what stays
-  cell-stays : {i : ℕ} → Cell i → word after i ≡ word c i
-  cell-stays {i} x = new .elsewhere i (cell-held x) (cell-slot x (held c)) (cell-count x (held c)) (go (cell-configs x (held c)))
-    where
-      go : (i < configsAt (held c)) ⊎ (configsAt (held c) + keptRoom ≤ i) → (i < configsAt (held c)) ⊎ (configsAt (held c) + length (packAll ks) ≤ i)
-      go (inl h) = inl h
-      go (inr h) = inr (omega (arith, length-packAll ks, keep .few))
+    -- ---- what stays
+    cell-stays : {i : ℕ} → Cell i → word after i ≡ word c i
+    cell-stays {i} x = new .elsewhere i (cell-held x) (cell-slot x (held c)) (cell-count x (held c)) (go (cell-configs x (held c)))
+      where
+        go : (i < configsAt (held c)) ⊎ (configsAt (held c) + keptRoom ≤ i) → (i < configsAt (held c)) ⊎ (configsAt (held c) + length (packAll ks) ≤ i)
+        go (inl h) = inl h
+        go (inr h) = inr (omega (arith, length-packAll ks, keep .few))
 
-  fixed-stays : (i : ℕ) → (i < heldAt) ⊎ ((bytesAt ≤ i) × (i < fixedWords)) → word after i ≡ word c i
-  fixed-stays i (inl h) = new .elsewhere i (λ e. omega arith) (λ e. omega arith) (λ e. omega arith) (inl (omega arith))
-  fixed-stays i (inr (h, l)) = new .elsewhere i (λ e. omega arith) (λ e. omega arith) (λ e. omega arith) (inl (omega arith))
+    fixed-stays : (i : ℕ) → (i < heldAt) ⊎ ((bytesAt ≤ i) × (i < fixedWords)) → word after i ≡ word c i
+    fixed-stays i (inl h) = new .elsewhere i (λ e. omega arith) (λ e. omega arith) (λ e. omega arith) (inl (omega arith))
+    fixed-stays i (inr (h, l)) = new .elsewhere i (λ e. omega arith) (λ e. omega arith) (λ e. omega arith) (inl (omega arith))
 
-  -- words of the slots before it
-  slot-stays : (s i : ℕ) → s < held c → slotAt s ≤ i → i < configsAt s + keptRoom → word after i ≡ word c i
-  slot-stays s i h l m = new .elsewhere i (λ e. omega arith) (λ e. omega arith) (λ e. omega arith) (inl (omega arith))
+    -- words of the slots before it
+    slot-stays : (s i : ℕ) → s < held c → slotAt s ≤ i → i < configsAt s + keptRoom → word after i ≡ word c i
+    slot-stays s i h l m = new .elsewhere i (λ e. omega arith) (λ e. omega arith) (λ e. omega arith) (inl (omega arith))
 
-  kept-stays : (s : ℕ) → s < held c → keptWords after s ≡ keptWords c s
-  kept-stays s h = kept-same c after s (new .as-long) (slot-stays s (countAt s) h (omega arith) (omega arith)) (λ i l m. slot-stays s i h (omega arith) m)
+    kept-stays : (s : ℕ) → s < held c → keptWords after s ≡ keptWords c s
+    kept-stays s h = kept-same c after s (new .as-long) (slot-stays s (countAt s) h (omega arith) (omega arith)) (λ i l m. slot-stays s i h (omega arith) m)
 
-  new-extends : Extends g c after
-  unfolding decision startOf stepOf
-  new-extends = record {
-    as-long = new .as-long;
-    same-fixed = fixed-stays;
-    more = omega (arith, new .now-held);
-    same-decision = λ s h. slot-stays s (slotAt s) h (omega arith) (omega arith);
-    same-kept = kept-stays;
-    same-start = λ b h n. cell-stays (start-cell b h refl);
-    same-step = λ s t h l n. cell-stays (step-cell s t l refl);
-  }
+    new-extends : Extends g c after
+    unfolding decision startOf stepOf
+    new-extends = record {
+      as-long = new .as-long;
+      same-fixed = fixed-stays;
+      more = omega (arith, new .now-held);
+      same-decision = λ s h. slot-stays s (slotAt s) h (omega arith) (omega arith);
+      same-kept = kept-stays;
+      same-start = λ b h n. cell-stays (start-cell b h refl);
+      same-step = λ s t h l n. cell-stays (step-cell s t l refl);
+    }
 
-  -- ---- what is new
-  its-kept : keptIn after (held c) ≡ ks
-  unfolding keptIn
-  its-kept = ap unpackAll (new .its-words) ∙ unpack-all ks (λ x m. fits-packable x (keep .fitting x m))
+    -- ---- what is new
+    its-kept : keptIn after (held c) ≡ ks
+    unfolding keptIn
+    its-kept = ap unpackAll (new .its-words) ∙ unpack-all ks (λ x m. fits-packable x (keep .fitting x m))
 
-  new-slot : Slot g after (held c)
-  new-slot = record {
-    decides = rw (new .its-decision) decides;
-    counted = new .its-count ∙ ap length (sym its-kept);
-    few = rw its-kept (keep .few);
-    packed = new .its-words ∙ ap packAll (sym its-kept);
-    fitting = subst (Each Fits) (sym its-kept) (keep .fitting);
-    ascending = subst Ascending (sym its-kept) (keep .ascending);
-  }
+    new-slot : Slot g after (held c)
+    new-slot = record {
+      decides = rw (new .its-decision) decides;
+      counted = new .its-count ∙ ap length (sym its-kept);
+      few = rw its-kept (keep .few);
+      packed = new .its-words ∙ ap packAll (sym its-kept);
+      fitting = subst (Each Fits) (sym its-kept) (keep .fitting);
+      ascending = subst Ascending (sym its-kept) (keep .ascending);
+    }
 
-  new-steps : (t : ℕ) → t ≤ g .kinds → stepOf after (held c) t ≡ 0
-  unfolding stepOf
-  new-steps t l =
-      let m : t ≤ maxKinds = omega (arith, suits .kinds) in
-      cell-stays (step-cell (held c) t m refl) ∙ k .unused (stepAt (held c) t) (unheld-step g suits (held c) t (omega arith) m refl)
+    new-steps : (t : ℕ) → t ≤ g .kinds → stepOf after (held c) t ≡ 0
+    unfolding stepOf
+    new-steps t l =
+        let m : t ≤ maxKinds = omega (arith, suits .kinds) in
+        cell-stays (step-cell (held c) t m refl) ∙ k .unused (stepAt (held c) t) (unheld-step g suits (held c) t (omega arith) m refl)
 
-  elsewhere : (i : ℕ) → ¬ Used g bytes after i → word after i ≡ word c i
-  elsewhere i n =
-      let h : held c < held after = omega (arith, new .now-held) in
-      new .elsewhere i (λ e. n (size (omega arith) (omega arith))) (λ e. n (its-decision (held c) h e)) (λ e. n (count (held c) h e)) (go h (decLt i (configsAt (held c))) (decLt i (configsAt (held c) + length (packAll ks))))
-    where
-      go : held c < held after → Dec (i < configsAt (held c)) → Dec (i < configsAt (held c) + length (packAll ks)) → (i < configsAt (held c)) ⊎ (configsAt (held c) + length (packAll ks) ≤ i)
-      go h (yes l) m = inl l
-      go h (no l) (no m) = inr (omega arith)
-      go h (no l) (yes m) = absurd (n (kept (held c) (i - configsAt (held c)) h (omega (arith, ap length (new .its-words))) (omega arith)))
+    elsewhere : (i : ℕ) → ¬ Used g bytes after i → word after i ≡ word c i
+    elsewhere i n =
+        let h : held c < held after = omega (arith, new .now-held) in
+        new .elsewhere i (λ e. n (size (omega arith) (omega arith))) (λ e. n (its-decision (held c) h e)) (λ e. n (count (held c) h e))
+        (go h (decLt i (configsAt (held c))) (decLt i (configsAt (held c) + length (packAll ks))))
+      where
+        go : held c < held after → Dec (i < configsAt (held c)) → Dec (i < configsAt (held c) + length (packAll ks)) → (i < configsAt (held c))
+            ⊎ (configsAt (held c) + length (packAll ks) ≤ i)
+        go h (yes l) m = inl l
+        go h (no l) (no m) = inr (omega arith)
+        go h (no l) (yes m) = absurd (n (kept (held c) (i - configsAt (held c)) h (omega (arith, ap length (new .its-words))) (omega arith)))
 
-  new-said : {i b : ℕ} {o : Outcome} → Field g c i b o → word after i ≢ 0 → Says after b (word after i) o
-  new-said {i} {b} {o} f n =
-      let e = cell-stays (field-cell g suits f) in
-      rw e (says-extends g new-extends b (word c i) o (field-says g k f (λ z. n (e ∙ z))))
+    new-said : {i b : ℕ} {o : Outcome} → Field g c i b o → word after i ≢ 0 → Says after b (word after i) o
+    new-said {i} {b} {o} f n =
+        let e = cell-stays (field-cell g suits f) in
+        rw e (says-extends g new-extends b (word c i) o (field-says g k f (λ z. n (e ∙ z))))
 
-  growth : Growth g bytes c after
-  growth = record {
-    extends = new-extends;
-    within = omega (arith, new .now-held, room, ap slots (new .as-long));
-    one = omega (arith, new .now-held);
-    counts = λ s h. slot-stays s (countAt s) h (omega arith) (omega arith);
-    new-slot = λ h. new-slot;
-    new-single = λ h s l d e. fresh s l (d ∙ new .its-decision) (e ∙ new .its-words);
-    new-steps = λ h. new-steps;
-    elsewhere = elsewhere;
-    said = new-said;
-  }
+    growth : Growth g bytes c after
+    growth = record {
+      extends = new-extends;
+      within = omega (arith, new .now-held, room, ap slots (new .as-long));
+      one = omega (arith, new .now-held);
+      counts = λ s h. slot-stays s (countAt s) h (omega arith) (omega arith);
+      new-slot = λ h. new-slot;
+      new-single = λ h s l d e. fresh s l (d ∙ new .its-decision) (e ∙ new .its-words);
+      new-steps = λ h. new-steps;
+      elsewhere = elsewhere;
+      said = new-said;
+    }
 
-  pub new-state : Fresh g bytes c a ks
-  unfolding after
-  new-state = record {
-    coherent = grown g bytes suits k growth;
-    extends = new-extends;
-    says = (held c, refl, omega (arith, new .now-held), new .its-decision, new .its-words);
-    cells = λ x. cell-stays x;
-  }
+    pub new-state : Fresh g bytes c a ks
+    unfolding after
+    new-state = record {
+      coherent = grown g bytes suits k growth;
+      extends = new-extends;
+      says = (held c, refl, omega (arith, new .now-held), new .its-decision, new .its-words);
+      cells = λ x. cell-stays x;
+    }

@@ -31,7 +31,8 @@ use Rattle.cache.specs.Predictor as predictor
 use Rattle.cache.specs.Predict.{chosen, undecided, at, meaning, meaningOf, follow, predict}
 use Rattle.cache.specs.Predictor.{Decides}
 use Rattle.cache.specs.Coherent.{Says, Coherent, Extends}
-use Rattle.cache.proofs.FollowLaws.{meaning-none, meaning-chosen, meaning-state, meaning-is, meaning-same, follow-unsure, follow-sure, follow-over, follow-on}
+use Rattle.cache.proofs.FollowLaws.{meaning-none, meaning-chosen, meaning-state, meaning-is, meaning-same, follow-unsure, follow-sure, follow-over}
+use Rattle.cache.proofs.FollowLaws.{follow-on}
 use Rattle.cache.proofs.SuitLaws.{Suits}
 use Rattle.cache.proofs.ExtendLaws.{extends-refl, extends-trans}
 use Rattle.cache.proofs.RecordLaws.{Asked, ask-start, ask-step}
@@ -42,7 +43,8 @@ use Rattle.cache.proofs.AgainLaws.{again-start, again-step}
 pub data Meant (g : Grammar) (a : ℕ) (l : Learned) : Outcome → Type 0 where
   unsure : {o : Outcome} → meaningOf g a l ≡ undecided → Meant g a l o
   sure : (b : ℕ) → meaningOf g a l ≡ chosen b → Meant g a l (alternative b)
-  stands : (s : ℕ) (ks : List Config) → meaningOf g a l ≡ at s → s < held (l .words) → decision (l .words) s ≡ a → keptWords (l .words) s ≡ packAll ks
+  stands : (s : ℕ) (ks : List Config) → meaningOf g a l ≡ at s → s < held (l .words) → decision (l .words) s ≡ a → keptWords (l .words) s
+      ≡ packAll ks
       → Meant g a l (state ks)
 
 module _ (g : Grammar) (bytes : List ℕ) (a : ℕ) (few : length (alternatives g a) ≤ maxProductions) (l : Learned) where
@@ -84,7 +86,8 @@ module _ (g : Grammar) (bytes : List ℕ) (suits : Suits g bytes) where
   still c d e h = rw (← e) (record { coherent = h; extends = extends-refl g c })
 
   abbrev Grows : List ℕ → Type 0
-  Grows ts = (a : ℕ) (l : Learned) (o : Outcome) → Coherent g bytes (l .words) → Meant g a l o → Tokens ts → Grown (l .words) ((follow g a ts l) .state)
+  Grows ts = (a : ℕ) (l : Learned) (o : Outcome) → Coherent g bytes (l .words) → Meant g a l o → Tokens ts
+      → Grown (l .words) ((follow g a ts l) .state)
 
   grow-none : Grows []
   grow-none a l o h (unsure e) k = still (l .words) ((follow g a [] l) .state) (rw (follow-unsure g [] a l e)) h
@@ -122,7 +125,8 @@ module _ (g : Grammar) (bytes : List ℕ) (suits : Suits g bytes) where
     kept-states c s ks v e = ap unpackAll e ∙ unpack-all ks (states-packable g (suits .bounded) v)
 
     abbrev Agrees : List ℕ → Type 0
-    Agrees ts = (a : ℕ) (l : Learned) (o : Outcome) (i : ℕ) → Coherent g bytes (l .words) → Meant g a l o → Given a o → Tokens ts → Allows g ordered b w i o → drop i w ≡ ts
+    Agrees ts = (a : ℕ) (l : Learned) (o : Outcome) (i : ℕ) → Coherent g bytes (l .words) → Meant g a l o → Given a o → Tokens ts
+        → Allows g ordered b w i o → drop i w ≡ ts
         → FullOr b ((follow g a ts l) .forecast)
 
     agree-sure : (ts : List ℕ) (a b′ : ℕ) (l : Learned) (i : ℕ) → meaningOf g a l ≡ chosen b′ → Allows g ordered b w i (alternative b′)
@@ -148,7 +152,8 @@ module _ (g : Grammar) (bytes : List ℕ) (suits : Suits g bytes) where
         let allows = subst (Allows g ordered b w (suc i)) o (step-agrees g ordered (suits .bounded) marked f) in
         let given : Given a (stepOutcome g t (keptIn (l .words) s)) = λ ls q. stepped t v (ap (stepOutcome g t) (sym same) ∙ q) in
         rw (follow-on g t ts a s l e)
-        (rec a (askStep g (l .words) a s t) (stepOutcome g t (keptIn (l .words) s)) (suc i) (x .coherent) (asked-meant x) given (λ u n. k u (List·Memᴰ·tail n)) allows rest)
+        (rec a (askStep g (l .words) a s t) (stepOutcome g t (keptIn (l .words) s)) (suc i) (x .coherent) (asked-meant x) given
+        (λ u n. k u (List·Memᴰ·tail n)) allows rest)
 
     agree-on : (t : ℕ) (ts : List ℕ) → Agrees ts → Agrees (t ∷ ts)
     agree-on t ts rec a l o i h (unsure e) v k x q = inl (rw (follow-unsure g (t ∷ ts) a l e))
@@ -160,32 +165,38 @@ module _ (g : Grammar) (bytes : List ℕ) (suits : Suits g bytes) where
     follow-agrees (t ∷ ts) = agree-on t ts (follow-agrees ts)
 
     -- THE PREDICTION LAW: if alternative b can derive the whole rest with what is open, the prediction is FULL or exactly b
-    pub predict-agrees : (c : List ℕ) (a f i : ℕ) (S : List ℕ) {r : List ℕ} → Coherent g bytes c → Decides g a → Tokens (drop i w) → i < length w
+    pub predict-agrees : (c : List ℕ) (a f i : ℕ) (S : List ℕ) {r : List ℕ} → Coherent g bytes c → Decides g a → Tokens (drop i w)
+        → i < length w
         → first g a b ≡ some f → Run g w (f ∷ S) i (length w) r → Valid g (f ∷ S)
         → FullOr b ((predict g c a (drop i w)) .forecast)
     unfolding predict
     predict-agrees c a f i S h d k l q x v =
         let y = ask-start g bytes suits c a h d in
-        follow-agrees (drop i w) a (askStart g c a) (startOutcome g a) i (y .coherent) (asked-meant y) (λ ks e. begun e) k (start-allows g ordered a b f S q x l v) refl
+        follow-agrees (drop i w) a (askStart g c a) (startOutcome g a) i (y .coherent) (asked-meant y) (λ ks e. begun e) k
+        (start-allows g ordered a b f S q x l v) refl
 
   -- ---- a prediction again
   abbrev Again : List ℕ → Type 0
   Again ts = (a : ℕ) (l : Learned) (o : Outcome) (d : List ℕ) → Coherent g bytes (l .words) → Meant g a l o → Tokens ts → Coherent g bytes d
-      → Extends g ((follow g a ts l) .state) d → length d ≡ length (l .words) → follow g a ts (learned (l .said) d) ≡ predicted ((follow g a ts l) .forecast) d
+      → Extends g ((follow g a ts l) .state) d → length d ≡ length (l .words) → follow g a ts (learned (l .said) d)
+      ≡ predicted ((follow g a ts l) .forecast) d
 
   again-unsure : (ts : List ℕ) (a : ℕ) (l : Learned) (d : List ℕ) → length d ≡ length (l .words) → meaningOf g a l ≡ undecided
       → follow g a ts (learned (l .said) d) ≡ predicted ((follow g a ts l) .forecast) d
-  again-unsure ts a l d n e = let e′ : meaningOf g a (learned (l .said) d) ≡ undecided = meaning-same g a l d n ∙ e in rw (follow-unsure g ts a (learned (l .said) d) e′, follow-unsure g ts a l e)
+  again-unsure ts a l d n e = let e′ : meaningOf g a (learned (l .said) d) ≡ undecided = meaning-same g a l d n ∙ e in
+      rw (follow-unsure g ts a (learned (l .said) d) e′, follow-unsure g ts a l e)
 
   again-sure : (ts : List ℕ) (a b : ℕ) (l : Learned) (d : List ℕ) → length d ≡ length (l .words) → meaningOf g a l ≡ chosen b
       → follow g a ts (learned (l .said) d) ≡ predicted ((follow g a ts l) .forecast) d
-  again-sure ts a b l d n e = let e′ : meaningOf g a (learned (l .said) d) ≡ chosen b = meaning-same g a l d n ∙ e in rw (follow-sure g ts a b (learned (l .said) d) e′, follow-sure g ts a b l e)
+  again-sure ts a b l d n e = let e′ : meaningOf g a (learned (l .said) d) ≡ chosen b = meaning-same g a l d n ∙ e in
+      rw (follow-sure g ts a b (learned (l .said) d) e′, follow-sure g ts a b l e)
 
   again-none : Again []
   again-none a l o d h (unsure e) k j x n = again-unsure [] a l d n e
   again-none a l o d h (sure b e) k j x n = again-sure [] a b l d n e
   again-none a l o d h (stands s ks e _ _ _) k j x n =
-      let e′ : meaningOf g a (learned (l .said) d) ≡ at s = meaning-same g a l d n ∙ e in rw (follow-over g a s (learned (l .said) d) e′, follow-over g a s l e)
+      let e′ : meaningOf g a (learned (l .said) d) ≡ at s = meaning-same g a l d n ∙ e in
+      rw (follow-over g a s (learned (l .said) d) e′, follow-over g a s l e)
 
   again-on : (t : ℕ) (ts : List ℕ) → Again ts → Again (t ∷ ts)
   again-on t ts rec a l o d h (unsure e) k j x n = again-unsure (t ∷ ts) a l d n e
@@ -207,11 +218,13 @@ module _ (g : Grammar) (bytes : List ℕ) (suits : Suits g bytes) where
   follow-again (t ∷ ts) = again-on t ts (follow-again ts)
 
   -- A PREDICTION THAT WAS MADE before says the same again over words that have only grown, and leaves them as found
-  pub predict-again : (c d : List ℕ) (a : ℕ) (ts : List ℕ) → Coherent g bytes c → Decides g a → Tokens ts → Coherent g bytes d → Extends g ((predict g c a ts) .state) d
+  pub predict-again : (c d : List ℕ) (a : ℕ) (ts : List ℕ) → Coherent g bytes c → Decides g a → Tokens ts → Coherent g bytes d
+      → Extends g ((predict g c a ts) .state) d
       → predict g d a ts ≡ predicted ((predict g c a ts) .forecast) d
   unfolding predict
   predict-again c d a ts h z k j x =
       let y = ask-start g bytes suits c a h z in
       let grown = follow-grows ts a (askStart g c a) (startOutcome g a) (y .coherent) (asked-meant y) k in
       let e = extends-trans g _ _ _ (grown .extends) x in
-      ap (follow g a ts) (again-start g bytes suits c d a h z j e) ∙ follow-again ts a (askStart g c a) (startOutcome g a) d (y .coherent) (asked-meant y) k j x (e .as-long)
+      ap (follow g a ts) (again-start g bytes suits c d a h z j e)
+      ∙ follow-again ts a (askStart g c a) (startOutcome g a) d (y .coherent) (asked-meant y) k j x (e .as-long)

@@ -91,7 +91,8 @@ module _ (g : Grammar) (c : List ℕ) (a : ℕ) {n said : ℕ} {c′ : List ℕ}
   step-slots s t e k = k ∙ ap slots (sym (words-kept e (length-askStep g c a s t)))
 
 -- tokens of a known note, and the end mark, are within the limits
-pub token-small : (t : List ℕ) → Ready t → (w : List ℕ) → Known (grammarIn t .kinds) w → (j : ℕ) {u : ℕ} → getElem? (marked w) j ≡ some u → u ≤ maxKinds
+pub token-small : (t : List ℕ) → Ready t → (w : List ℕ) → Known (grammarIn t .kinds) w → (j : ℕ) {u : ℕ} → getElem? (marked w) j ≡ some u
+    → u ≤ maxKinds
 unfolding compile
 token-small t h w k j {u} e = go (ltb j (length w)) refl
   where

@@ -15,11 +15,13 @@ use Rattle.cache.specs.Coherent.{Says, Coherent, Extends}
 use Rattle.words.proofs.WordLaws.{kept-same, slot-within}
 use Rattle.cache.proofs.SuitLaws.{Suits}
 use Rattle.cache.proofs.ExtendLaws.{says-extends}
-use Rattle.cache.proofs.FieldLaws.{Cell, cell-held, cell-fixed, cell-slot, cell-count, cell-configs, Field, of-start, of-step, field-cell, field-extends, field-says, field-used}
+use Rattle.cache.proofs.FieldLaws.{Cell, cell-held, cell-fixed, cell-slot, cell-count, cell-configs, Field, of-start, of-step, field-cell}
+use Rattle.cache.proofs.FieldLaws.{field-extends, field-says, field-used}
 use Rattle.cache.proofs.GrowLaws.{Growth, grown}
 
 -- one word records one outcome
-field-one : (g : Grammar) {bytes : List ℕ} → Suits g bytes → {c : List ℕ} {i a b : ℕ} {o o′ : Outcome} → Field g c i a o → Field g c i b o′ → (a ≡ b) × (o ≡ o′)
+field-one : (g : Grammar) {bytes : List ℕ} → Suits g bytes → {c : List ℕ} {i a b : ℕ} {o o′ : Outcome} → Field g c i a o → Field g c i b o′
+    → (a ≡ b) × (o ≡ o′)
 field-one g u {a = a} {b = b} (of-start d e q) (of-start d′ e′ q′) = let z : a ≡ b = omega arith in (z, cc)
 field-one g u (of-start d e q) (of-step s t h l y e′ q′) = let b = u .decisions _ d in absurd (omega arith)
 field-one g u (of-step s t h l y e q) (of-start d e′ q′) = let b = u .decisions _ d in absurd (omega arith)
@@ -29,11 +31,13 @@ field-one g u {c} (of-step s t h l y e q) (of-step s′ t′ h′ l′ y′ e′
     (cc, cc)
 
 -- it lies within the words
-field-within : (g : Grammar) {bytes : List ℕ} → Suits g bytes → {c : List ℕ} → Coherent g bytes c → {i a : ℕ} {o : Outcome} → Field g c i a o → i < length c
+field-within : (g : Grammar) {bytes : List ℕ} → Suits g bytes → {c : List ℕ} → Coherent g bytes c → {i a : ℕ} {o : Outcome} → Field g c i a o
+    → i < length c
 field-within g u {c} k (of-start d e q) = omega (arith, u .decisions _ d, k .long)
 field-within g u {c} k (of-step s t h l y e q) = omega (arith, u .kinds, slot-within (length c) s (omega (arith, k .held-fits)))
 
-module _ (g : Grammar) (bytes : List ℕ) (suits : Suits g bytes) {c : List ℕ} (k : Coherent g bytes c) {i a : ℕ} {o : Outcome} (f : Field g c i a o) (w : ℕ) where
+module _ (g : Grammar) (bytes : List ℕ) (suits : Suits g bytes) {c : List ℕ} (k : Coherent g bytes c) {i a : ℕ} {o : Outcome} (f : Field g c i a o)
+    (w : ℕ) where
   abbrev after : List ℕ
   after = set c i w
 

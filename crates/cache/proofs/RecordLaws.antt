@@ -80,7 +80,8 @@ module _ (g : Grammar) (bytes : List ℕ) (suits : Suits g bytes) where
     field-new {ks} f e room =
         new-state g bytes suits k a ks (field-decides k f) (field-recordable k f) room (λ s h d q. find-none c a ks (k .held-fits) e s (h, d, q))
 
-    new-asked : {ks : List Config} → Field g c i a (state ks) → word c i ≡ 0 → find c a ks ≡ none → Asked g bytes c a (state ks) (recordNew (putAt i) c a ks)
+    new-asked : {ks : List Config} → Field g c i a (state ks) → word c i ≡ 0 → find c a ks ≡ none
+        → Asked g bytes c a (state ks) (recordNew (putAt i) c a ks)
     unfolding recordNew
     new-asked {ks} f z e = go (ltb (held c) (slots (length c))) refl
       where

@@ -48,7 +48,8 @@ module _ (c : List ℕ) (a : ℕ) (vs : List ℕ) (s : ℕ) {d : ℕ} (e : d ≡
         let q = lists-differ (keptWords c s) vs (λ z. h (omega (arith, z, kept-long c s l))) in
         rw q (sym (and-none (eqb (decision c s) a)))
 
-    pub same-decision : d ≡ a → k ≡ n → {at : ℕ} {r : Bool} → at ≡ configsAt s → r ≡ sameList (take (configWords * n) (drop at c)) vs → r ≡ holdsWords c a vs s
+    pub same-decision : d ≡ a → k ≡ n → {at : ℕ} {r : Bool} → at ≡ configsAt s → r ≡ sameList (take (configWords * n) (drop at c)) vs → r
+        ≡ holdsWords c a vs s
     unfolding holdsWords keptWords
     same-decision h m {at} p q = rw (eq-eqb (decision c s) a (sym e ∙ h), ← f, m, ← p) q
 
@@ -96,7 +97,8 @@ lowest-within p i (suc n) s e = go (p i) e (lowest-within p (suc i) n s)
     go false e rec = let h = rec e in omega arith
 
 -- ---- recording a state
-pub stored-long : (c : List ℕ) (i u v : ℕ) (vs : List ℕ) {c₁ : List ℕ} → c₁ ≡ sets (set (set c i u) (i + 1) v) (i + slotHead) vs → length c₁ ≡ length c
+pub stored-long : (c : List ℕ) (i u v : ℕ) (vs : List ℕ) {c₁ : List ℕ} → c₁ ≡ sets (set (set c i u) (i + 1) v) (i + slotHead) vs
+    → length c₁ ≡ length c
 stored-long c i u v vs e =
     ap (λ (l : List ℕ). length l) e ∙ length-sets (set (set c i u) (i + 1) v) (i + slotHead) vs ∙ length-set (set c i u) (i + 1) v ∙ length-set c i u
 
@@ -104,13 +106,15 @@ pub slot-below : (l : ℕ) {s n : ℕ} → n ≡ slots l → s < n → (s < maxS
 unfolding slots
 slot-below l {s} {n} e h = let q : s < slots l = omega arith in (omega arith, slot-within l s q)
 
-pub added-is : (c : List ℕ) (a n : ℕ) (vs : List ℕ) {c₁ : List ℕ} {s at u v w : ℕ} → s ≡ held c → at ≡ slotAt s → u ≡ a → v ≡ n → w ≡ s + 1
+pub added-is : (c : List ℕ) (a n : ℕ) (vs : List ℕ) {c₁ : List ℕ} {s at u v w : ℕ} → s ≡ held c → at ≡ slotAt s → u ≡ a → v ≡ n
+    → w ≡ s + 1
     → c₁ ≡ sets (set (set c at u) (at + 1) v) (at + slotHead) vs → set c₁ heldAt w ≡ addWords c a n vs
 unfolding addWords
 added-is c a n vs e f g h k x = rw (x, k, h, g, f, e, add-one (held c), add-one (slotAt (held c)))
 
 module _ (i : ℕ) (c : List ℕ) (a n : ℕ) (vs : List ℕ) where
-  pub new-held : {c₁ : List ℕ} {x : Learned} {s v : ℕ} → s ≡ held c → s < slots (length c) → c₁ ≡ addWords c a n vs → v ≡ stateWord s → x ≡ sayWord i c₁ v
+  pub new-held : {c₁ : List ℕ} {x : Learned} {s v : ℕ} → s ≡ held c → s < slots (length c) → c₁ ≡ addWords c a n vs → v ≡ stateWord s
+      → x ≡ sayWord i c₁ v
       → x ≡ newWords i c a n vs
   unfolding newWords
   new-held e h f g x =

@@ -2,16 +2,17 @@
 use mathlib.Core.Bool.{Bool, _&&_, cond}
 use mathlib.Core.Option.{Option, none, some}
 use mathlib.Core.List.{List}
-use Prim.Native.Nat.{ℕ, suc, _*_, _≤_}
+use Prim.Native.Nat.{ℕ, suc, _*_}
 use lib.Dec.{eqb, ltb}
 use lib.ListN.{length, set, take}
 use lib.Seq.{sets}
 use Rattle.base.specs.Search.{lowestFrom}
-use Rattle.lookahead.specs.Closing.{sameList, maxKept}
+use Rattle.lookahead.specs.Closing.{sameList}
 use Rattle.learning.specs.declared.rules.Outcome.{Outcome}
 use Rattle.learning.specs.declared.rules.Outcome.the-variants.{Full, Alternative, State}
 use Rattle.words.specs.Layout.{configWords, slots, heldAt, slotAt, countAt, configsAt, fullWord, stateWord}
 use Rattle.words.specs.Words.{held, searched, decision, keptWords}
+use Rattle.cache.specs.Calls.{Kept}
 use Rattle.cache.specs.Recording.{Learned, learned}
 use Rattle.cache.specs.declared.recording.Found.{Found}
 use Rattle.cache.specs.declared.recording.Found.the-variants.{Slot, Nowhere}
@@ -67,4 +68,4 @@ outcomeWords i c a (State n) ws = stateWords i c a n (take (configWords * n) ws)
 unfoldable pub Room : Outcome → List ℕ → Type 0
 Room Full ws = Unit {0}
 Room (Alternative b) ws = Unit {0}
-Room (State n) ws = (n ≤ maxKept) × (configWords * n ≤ length ws)
+Room (State n) ws = Kept n ws

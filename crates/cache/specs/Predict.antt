@@ -1,14 +1,11 @@
 -- A prediction of the lookahead cache: from the start of a decision over the tokens that are left, as long as there is a state to step from.
 use mathlib.Core.Bool.{_&&_, cond}
 use mathlib.Core.List.{List, [], _∷_}
-use Prim.Native.Nat.{ℕ, _-_, _≤_, _<_}
+use Prim.Native.Nat.{ℕ, _-_}
 use lib.Dec.{ltb, leb}
 use lib.ListN.{length}
 use Rattle.grammar.specs.Grammar.{Grammar, alternatives}
-use Rattle.grammar.specs.Tables.{grammarIn, nonterminalsIn}
-use Rattle.derivation.specs.Ready.{Ready}
-use Rattle.derivation.specs.Demand2.{Known}
-use Rattle.words.specs.Layout.{minWords, slots, fullWord, stateWord}
+use Rattle.words.specs.Layout.{slots, fullWord, stateWord}
 use Rattle.cache.specs.declared.prediction.Forecast.the-variants.{Alternative, Full}
 use Rattle.cache.specs.Predictor.{Predicted, predicted}
 use Rattle.cache.specs.Recording.{Learned, askStart, askStep}
@@ -45,11 +42,3 @@ follow g a (t ∷ ts) l =
 unfoldable pub predict : Grammar → List ℕ → ℕ → List ℕ → Predicted (List ℕ)
 unfolding follow askStart
 predict g c a ts = follow g a ts (askStart g c a)
-
--- nonterminal a can be predicted at position i of the note w, by these tables and words
-pub record Predictable (t w c : List ℕ) (a i : ℕ) : Type 0 where
-  pub ready : Ready t
-  pub long : minWords ≤ length c
-  pub names : a < nonterminalsIn t
-  pub within : i ≤ length w
-  pub known : Known (grammarIn t .kinds) w

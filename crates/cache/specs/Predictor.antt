@@ -40,7 +40,8 @@ module _ {C : Type 0} (Coherent : C → Type 0) (Extends : C → C → Type 0) w
   -- the laws of a predictor over the note w with its end mark, where it is asked over the open stacks at positions of which `Stands` holds
   pub record Predictor (g : Grammar) (w : List ℕ) (Stands : List ℕ → ℕ → Type 0) (predict : Predicts C) : Type 0 where
     -- AGREES: where alternative b, from its first place f on, over the open stack S can read the rest of the note, the prediction is FULL or b
-    pub agrees : (c : C) (a b f i : ℕ) (S : List ℕ) → Coherent c → Decides g a → first g a b ≡ some f → Stands (f ∷ S) i → Opens g w (f ∷ S) i
+    pub agrees : (c : C) (a b f i : ℕ) (S : List ℕ) → Coherent c → Decides g a → first g a b ≡ some f → Stands (f ∷ S) i
+        → Opens g w (f ∷ S) i
         → FullOr b ((predict c a (drop i w)) .forecast)
     -- ONLY ADDS: the state that a prediction leaves is coherent, and extends the one before
     pub adds : (c : C) (a i : ℕ) → Coherent c → Decides g a → Grown c ((predict c a (drop i w)) .state)

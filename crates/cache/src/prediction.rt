@@ -6,8 +6,9 @@ ghost use mathlib.Core.Path.{_≡_};
 ghost use lib.ListN.{drop};
 ghost use Rattle.grammar.specs.Tables.{grammarIn};
 ghost use Rattle.derivation.specs.Runs.{marked};
+ghost use Rattle.cache.specs.Calls.{Predictable};
 ghost use Rattle.cache.specs.Predictor.{predicted};
-ghost use Rattle.cache.specs.Predict.{predict, Predictable};
+ghost use Rattle.cache.specs.Predict.{predict};
 
 // One of the nonterminal's alternatives, or FULL: lookahead does not tell.
 pub enum Forecast {

@@ -7,11 +7,10 @@ use words::layout::HELD_AT;
 use words::layout::SLOT_HEAD;
 use words::layout::STATES;
 ghost use mathlib.Core.Path.{_≡_};
-ghost use Prim.Native.Nat.{_+_, _*_, _≤_, _<_, _^_};
+ghost use Prim.Native.Nat.{_*_, _≤_, _<_};
 ghost use lib.ListN.{length, take};
-ghost use Rattle.lookahead.specs.Closing.{maxKept};
-ghost use Rattle.words.specs.Layout.{minWords, configWords, maxSlots, slotWords, slots, slotAt};
-ghost use Rattle.words.specs.Words.{held};
+ghost use Rattle.words.specs.Layout.{minWords, configWords, slots};
+ghost use Rattle.cache.specs.Calls.{Kept, Next, Recordable};
 ghost use Rattle.cache.specs.Recording.{learned};
 ghost use Rattle.cache.specs.ByWords.{holdsWords, findWords, foundIn, addWords, sayWord, newWords, stateWords, Room, outcomeWords};
 
@@ -23,7 +22,7 @@ pub enum Found {
 
 // Whether slot s holds the n configurations of ws for decision a.
 fn holds(cache: &[u32], a: usize, ws: &[u32], n: usize, s: usize) -> bool
-    requires { ⌜ (s < slots (length (now cache))) × (n ≤ maxKept) × (configWords * n ≤ length (now ws)) ⌝ }
+    requires { ⌜ (s < slots (length (now cache))) × Kept n (now ws) ⌝ }
     ensures { λ r. ⌜ r ≡ holdsWords (now (cache .entry)) a (take (configWords * n) (now (ws .entry))) s ⌝ }
 {
     if words::slots::decision(cache, s) != a {
@@ -37,7 +36,7 @@ fn holds(cache: &[u32], a: usize, ws: &[u32], n: usize, s: usize) -> bool
 
 // The slot that holds them, among those that hold states. `left` counts those not yet looked at.
 fn find(cache: &[u32], a: usize, ws: &[u32], n: usize) -> Found
-    requires { ⌜ (minWords ≤ length (now cache)) × (n ≤ maxKept) × (configWords * n ≤ length (now ws)) ⌝ }
+    requires { ⌜ (minWords ≤ length (now cache)) × Kept n (now ws) ⌝ }
     ensures { λ r. ⌜ r ≡ foundIn (findWords (now (cache .entry)) a (take (configWords * n) (now (ws .entry)))) ⌝ }
 {
     let count = words::slots::searched(cache);
@@ -54,7 +53,7 @@ fn find(cache: &[u32], a: usize, ws: &[u32], n: usize) -> Found
 
 // Stores a state of n configurations in slot s, the next one.
 fn add_state(cache: &mut [u32], s: usize, a: usize, ws: &[u32], n: usize)
-    requires { ⌜ (s ≡ held (now cache)) × (s < maxSlots) × (slotAt s + slotWords ≤ length (now cache)) × (a < 2 ^ 32) × (n ≤ maxKept) × (configWords * n ≤ length (now ws)) ⌝ }
+    requires { ⌜ Next (now cache) s a × Kept n (now ws) ⌝ }
     ensures { λ _. ⌜ now (cache .exit) ≡ addWords (now (cache .entry)) a n (take (configWords * n) (now (ws .entry))) ⌝ }
 {
     let at = words::slots::slot_at(s);
@@ -75,7 +74,7 @@ fn say(cache: &mut [u32], i: usize, w: u32) -> u32
 
 // A state that no slot holds takes the next one; with no slot free nothing is recorded, and the outcome counts as FULL.
 fn new_state(cache: &mut [u32], i: usize, a: usize, ws: &[u32], n: usize) -> u32
-    requires { ⌜ (minWords ≤ length (now cache)) × (i < length (now cache)) × (a < 2 ^ 32) × (n ≤ maxKept) × (configWords * n ≤ length (now ws)) ⌝ }
+    requires { ⌜ Recordable (now cache) i a × Kept n (now ws) ⌝ }
     ensures { λ r. ⌜ learned r (now (cache .exit)) ≡ newWords i (now (cache .entry)) a n (take (configWords * n) (now (ws .entry))) ⌝ }
 {
     let s = words::slots::held(cache);
@@ -88,7 +87,7 @@ fn new_state(cache: &mut [u32], i: usize, a: usize, ws: &[u32], n: usize) -> u32
 
 // A state of n configurations.
 fn record_state(cache: &mut [u32], i: usize, a: usize, ws: &[u32], n: usize) -> u32
-    requires { ⌜ (minWords ≤ length (now cache)) × (i < length (now cache)) × (a < 2 ^ 32) × (n ≤ maxKept) × (configWords * n ≤ length (now ws)) ⌝ }
+    requires { ⌜ Recordable (now cache) i a × Kept n (now ws) ⌝ }
     ensures { λ r. ⌜ learned r (now (cache .exit)) ≡ stateWords i (now (cache .entry)) a n (take (configWords * n) (now (ws .entry))) ⌝ }
 {
     let found = find(cache, a, ws, n);
@@ -100,7 +99,7 @@ fn record_state(cache: &mut [u32], i: usize, a: usize, ws: &[u32], n: usize) -> 
 
 // Records an outcome of decision a, which lookahead told, in word i.
 pub fn record_outcome(cache: &mut [u32], i: usize, a: usize, outcome: Outcome, kept: &[u32]) -> u32
-    requires { ⌜ (minWords ≤ length (now cache)) × (i < length (now cache)) × (a < 2 ^ 32) × Room outcome (now kept) ⌝ }
+    requires { ⌜ Recordable (now cache) i a × Room outcome (now kept) ⌝ }
     ensures { λ r. ⌜ learned r (now (cache .exit)) ≡ outcomeWords i (now (cache .entry)) a outcome (now (kept .entry)) ⌝ }
 {
     match outcome {

@@ -40,7 +40,8 @@ module _ (bytes c : List ℕ) where
   unfolding begin12
   short-cache h = rw (lt-ltb (length c) minWords h)
 
-  pub settled : {c₁ c₂ c₃ : List ℕ} → minWords ≤ length c → c₁ ≡ replicate (length c) 0 → c₂ ≡ sets c₁ lengthAt (sizeWords bytes (length c₁))
+  pub settled : {c₁ c₂ c₃ : List ℕ} → minWords ≤ length c → c₁ ≡ replicate (length c) 0 → c₂
+      ≡ sets c₁ lengthAt (sizeWords bytes (length c₁))
       → c₃ ≡ sets c₂ bytesAt (packBytes bytes) → begun 0 0 c₃ ≡ begin12 bytes c
   unfolding begin12 beginWords
   settled {c₁} {c₂} {c₃} h e f g =

@@ -12,7 +12,8 @@ use Rattle.number.specs.Number.{cursor, thirdByte, secondByte, numberAt, tested
 use Rattle.number.proofs.NumberLaws.{limited-is}
 use Rattle.grammar.specs.Types.{Read, Value, Refused, Refusal, Unfinished, Malformed, OverLimit, Trailing}
 use Rattle.grammar.specs.Limits.{maxKinds, maxNonterminals, maxProductions, maxLength, maxPlaces}
-use Rattle.grammar.specs.Decode.{Rules, Mark, mark, Parsed, got, refused, andThen, times, fromRead, limited, written, symbol, production, nonterminal, ending, decode}
+use Rattle.grammar.specs.Decode.{Rules, Mark, mark, Parsed, got, refused, andThen, times, fromRead, limited, written, symbol, production, nonterminal, ending}
+use Rattle.grammar.specs.Decode.{decode}
 use Rattle.words.specs.Begin.{packBytes}
 
 -- three bytes for each of 34 numbers: the highest kind, how many nonterminals, and how many productions each of them has
@@ -32,9 +33,11 @@ Upto n (Refused r) = Unit {0}
 module _ (s : List ℕ) (at n : ℕ) where
   third-upto : (low middle here : ℕ) → here + 1 ≤ n → Upto n (thirdByte s at low middle here)
   unfolding thirdByte
-  third-upto low middle here h = go (low % 128 + (middle % 128 + getD s here 0 * 128) * 128) (leb (length s) here) (eqb (getD s here 0) 0) (ltb 3 (getD s here 0))
+  third-upto low middle here h = go (low % 128 + (middle % 128 + getD s here 0 * 128) * 128) (leb (length s) here) (eqb (getD s here 0) 0)
+      (ltb 3 (getD s here 0))
     where
-      go : (v : ℕ) (a b c : Bool) → Upto n (cond a (Refused (Unfinished at)) (cond b (Refused (Malformed at)) (cond c (Refused (Malformed at)) (Value v (cursor (here + 1))))))
+      go : (v : ℕ) (a b c : Bool) → Upto n
+          (cond a (Refused (Unfinished at)) (cond b (Refused (Malformed at)) (cond c (Refused (Malformed at)) (Value v (cursor (here + 1))))))
       go v true b c = tt
       go v false true c = tt
       go v false false true = tt
@@ -43,10 +46,12 @@ module _ (s : List ℕ) (at n : ℕ) where
   second-upto : (low here : ℕ) → here + 2 ≤ n → Upto n (secondByte s at low here)
   unfolding secondByte
   second-upto low here h =
-      go (low % 128 + getD s here 0 * 128) (leb (length s) here) (eqb (getD s here 0) 0) (ltb (getD s here 0) 128) (thirdByte s at low (getD s here 0) (here + 1))
+      go (low % 128 + getD s here 0 * 128) (leb (length s) here) (eqb (getD s here 0) 0) (ltb (getD s here 0) 128)
+      (thirdByte s at low (getD s here 0) (here + 1))
       (third-upto low (getD s here 0) (here + 1) (omega arith))
     where
-      go : (v : ℕ) (a b c : Bool) (x : Read) → Upto n x → Upto n (cond a (Refused (Unfinished at)) (cond b (Refused (Malformed at)) (cond c (Value v (cursor (here + 1))) x)))
+      go : (v : ℕ) (a b c : Bool) (x : Read) → Upto n x
+          → Upto n (cond a (Refused (Unfinished at)) (cond b (Refused (Malformed at)) (cond c (Value v (cursor (here + 1))) x)))
       go v true b c x y = tt
       go v false true c x y = tt
       go v false false true x y = omega arith
@@ -102,7 +107,8 @@ unfolding times
 ends-times P f h zero m p = well p
 ends-times P f h (suc n) m p =
     ends-then (λ _ m′. P n m′) (λ _ m′. P 0 m′) (f m) (λ x m′. andThen (times n f m′) (λ l m″. got (x ∷ l) m″)) (h n m p)
-    (λ x m′ q. ends-then (λ _ m″. P 0 m″) (λ _ m″. P 0 m″) (times n f m′) (λ l m″. got (x ∷ l) m″) (ends-times P f h n m′ q) (λ l m″ z. well z))
+    (λ x m′ q. ends-then (λ _ m″. P 0 m″) (λ _ m″. P 0 m″) (times n f m′) (λ l m″. got (x ∷ l) m″) (ends-times P f h n m′ q)
+    (λ l m″ z. well z))
 
 module _ (s : List ℕ) where
   limited-ends : (lo hi : ℕ) (m : Mark) → Ends (λ v m′. (v ≤ hi) × (m′ .byte ≤ m .byte + 3) × (m′ .places ≡ m .places)) (limited s lo hi m)
@@ -121,7 +127,8 @@ module _ (s : List ℕ) where
     symbol-ends : (m : Mark) → Ends (λ _ m′. m′ .byte ≤ m .byte + 3) (symbol s t n m)
     unfolding symbol
     symbol-ends m =
-        ends-then (λ _ m′. m′ .byte ≤ m .byte + 3) (λ _ m′. m′ .byte ≤ m .byte + 3) (fromRead (m .places) (symbolAt s t n (m .byte))) (λ v m′. got (written v) m′)
+        ends-then (λ _ m′. m′ .byte ≤ m .byte + 3) (λ _ m′. m′ .byte ≤ m .byte + 3) (fromRead (m .places) (symbolAt s t n (m .byte)))
+        (λ v m′. got (written v) m′)
         (go (symbolAt s t n (m .byte)) (symbol-upto s t n (m .byte))) (λ v m′ h. well h)
       where
         go : (x : Read) → Upto (m .byte + 3) x → Ends (λ _ m′. m′ .byte ≤ m .byte + 3) (fromRead (m .places) x)
@@ -144,24 +151,30 @@ module _ (s : List ℕ) where
     production-ends : (d : ℕ) (m : Mark) → Track d m → Ends (λ _ m′. Track d m′) (production s t n m)
     unfolding production
     production-ends d m (h, l) =
-        ends-then (λ v m′. (v ≤ maxLength) × (m′ .byte ≤ m .byte + 3) × (m′ .places ≡ m .places)) (λ _ m′. Track d m′) (limited s 0 maxLength m)
-        (λ k m′. cond (ltb maxPlaces (m .places + suc k)) (refused (OverLimit (m .byte))) (andThen (times k (symbol s t n) m′) (λ l m″. got l (mark (m″ .byte) (m .places + suc k)))))
+        ends-then (λ v m′. (v ≤ maxLength) × (m′ .byte ≤ m .byte + 3) × (m′ .places ≡ m .places)) (λ _ m′. Track d m′)
+        (limited s 0 maxLength m)
+        (λ k m′. cond (ltb maxPlaces (m .places + suc k)) (refused (OverLimit (m .byte)))
+        (andThen (times k (symbol s t n) m′) (λ l m″. got l (mark (m″ .byte) (m .places + suc k)))))
         (limited-ends 0 maxLength m) (λ k m′ q. go k m′ (q .1) (ltb maxPlaces (m .places + suc k)) refl)
       where
         go : (k : ℕ) (m′ : Mark) → m′ .byte ≤ m .byte + 3 → (b : Bool) → ltb maxPlaces (m .places + suc k) ≡ b
-            → Ends (λ _ m′. Track d m′) (cond b (refused (OverLimit (m .byte))) (andThen (times k (symbol s t n) m′) (λ l m″. got l (mark (m″ .byte) (m .places + suc k)))))
+            → Ends (λ _ m′. Track d m′) (cond b (refused (OverLimit (m .byte)))
+            (andThen (times k (symbol s t n) m′) (λ l m″. got l (mark (m″ .byte) (m .places + suc k)))))
         go k m′ q true e = none
         go k m′ q false e =
             let u = ltb-false maxPlaces (m .places + suc k) e in
-            ends-then (λ _ m″. m″ .byte ≤ m .byte + 3 + 3 * k) (λ _ m′. Track d m′) (times k (symbol s t n) m′) (λ l m″. got l (mark (m″ .byte) (m .places + suc k)))
+            ends-then (λ _ m″. m″ .byte ≤ m .byte + 3 + 3 * k) (λ _ m′. Track d m′) (times k (symbol s t n) m′)
+            (λ l m″. got l (mark (m″ .byte) (m .places + suc k)))
             (symbols-end (m .byte + 3 + 3 * k) k m′ (omega arith)) (λ y m″ z. well (omega arith, u))
 
     nonterminal-ends : (d : ℕ) (m : Mark) → Track (3 + d) m → Ends (λ _ m′. Track d m′) (nonterminal s t n m)
     unfolding nonterminal
     nonterminal-ends d m (h, l) =
-        ends-then (λ v m′. (v ≤ maxProductions) × (m′ .byte ≤ m .byte + 3) × (m′ .places ≡ m .places)) (λ _ m′. Track d m′) (limited s 1 maxProductions m)
+        ends-then (λ v m′. (v ≤ maxProductions) × (m′ .byte ≤ m .byte + 3) × (m′ .places ≡ m .places)) (λ _ m′. Track d m′)
+        (limited s 1 maxProductions m)
         (λ k m′. times k (production s t n) m′) (limited-ends 1 maxProductions m)
-        (λ k m′ q. let a = q .1 in let b = q .2 in ends-times (λ _ m. Track d m) (production s t n) (λ _ m z. production-ends d m z) k m′ (omega arith, omega arith))
+        (λ k m′ q. let a = q .1 in let b = q .2 in
+        ends-times (λ _ m. Track d m) (production s t n) (λ _ m z. production-ends d m z) k m′ (omega arith, omega arith))
 
     nonterminals-end : (k : ℕ) (m : Mark) → Track (3 * k) m → Ends (λ _ m′. Track 0 m′) (times k (nonterminal s t n) m)
     nonterminals-end k m h =
@@ -181,7 +194,8 @@ module _ (s : List ℕ) where
   decode-ends =
       ends-then (λ v m. (v ≤ maxKinds) × (m .byte ≤ 3) × (m .places ≡ 0)) (λ _ _. length s ≤ maxBytes) (limited s 1 maxKinds (mark 0 0)) _
       (limited-ends 1 maxKinds (mark 0 0)) (λ t m q.
-      ends-then (λ v m′. (v ≤ maxNonterminals) × (m′ .byte ≤ m .byte + 3) × (m′ .places ≡ m .places)) (λ _ _. length s ≤ maxBytes) (limited s 1 maxNonterminals m) _
+      ends-then (λ v m′. (v ≤ maxNonterminals) × (m′ .byte ≤ m .byte + 3) × (m′ .places ≡ m .places)) (λ _ _. length s ≤ maxBytes)
+      (limited s 1 maxNonterminals m) _
       (limited-ends 1 maxNonterminals m) (λ n m′ q′.
       let a = q .1 in
       let b = q .2 in
@@ -189,7 +203,8 @@ module _ (s : List ℕ) where
       let d = q′ .1 in
       let e = q′ .2 in
       ends-then (λ _ m″. Track t n 0 m″) (λ _ _. length s ≤ maxBytes) (times n (nonterminal s t n) m′) _
-      (nonterminals-end t n n m′ (omega arith, omega arith)) (λ l m″ z. let y = z .0 in let x = z .1 in ending-ends (record { kinds = t; productions = l }) m″ (omega arith))))
+      (nonterminals-end t n n m′ (omega arith, omega arith))
+      (λ l m″ z. let y = z .0 in let x = z .1 in ending-ends (record { kinds = t; productions = l }) m″ (omega arith))))
 
 -- ---- in words
 pub packed-few : (s : List ℕ) → length (packBytes s) ≤ length s

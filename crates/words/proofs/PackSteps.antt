@@ -72,7 +72,8 @@ module _ (l c₀ c : List ℕ) (i k : ℕ) (x : Storing l c₀ c i k) where
   store-end h = let y : sets c k [] ≡ sets c₀ bytesAt (packBytes l) = rw (pack-none l i h) at x in y
 
 -- ---- comparing: word k is the next, for the bytes from byte i on
-starts-first : (c : List ℕ) (w : ℕ) (ws : List ℕ) (k : ℕ) → k < length c → startsWith (drop k c) (w ∷ ws) ≡ (eqb (getD c k 0) w && startsWith (drop (suc k) c) ws)
+starts-first : (c : List ℕ) (w : ℕ) (ws : List ℕ) (k : ℕ) → k < length c → startsWith (drop k c) (w ∷ ws)
+    ≡ (eqb (getD c k 0) w && startsWith (drop (suc k) c) ws)
 unfolding startsWith sameList
 starts-first c w ws k h = rw (drop-cons c k 0 h)
 

@@ -14,7 +14,8 @@ use Rattle.words.specs.Layout.{lengthAt}
 use Rattle.words.specs.Bytes.{sizesHeld}
 
 -- every word has become 0
-pub cleared : (c c₀ : List ℕ) (k : ℕ) → c ≡ replicate k 0 ++ drop k c₀ → k ≤ length c₀ → length c₀ ≤ k → c ≡ replicate (length c₀) 0
+pub cleared : (c c₀ : List ℕ) (k : ℕ) → c ≡ replicate k 0 ++ drop k c₀ → k ≤ length c₀ → length c₀ ≤ k → c
+    ≡ replicate (length c₀) 0
 cleared c c₀ k e h l =
     let z : k ≡ length c₀ = omega arith in
     let y : c ≡ replicate (length c₀) 0 ++ drop (length c₀) c₀ = rw z at e in

@@ -38,7 +38,8 @@ pub first-short : (n : ℕ) (ws : List ℕ) → n ≤ length ws → length (take
 first-short n ws h = omega (arith, length-take n ws)
 
 -- word k of the run, and those behind it
-run-next : (n at k : ℕ) (c : List ℕ) → at + n ≤ length c → k < n → drop k (take n (drop at c)) ≡ getD c (at + k) 0 ∷ drop (suc k) (take n (drop at c))
+run-next : (n at k : ℕ) (c : List ℕ) → at + n ≤ length c → k < n → drop k (take n (drop at c))
+    ≡ getD c (at + k) 0 ∷ drop (suc k) (take n (drop at c))
 run-next n at k c h l =
     drop-cons (take n (drop at c)) k 0 (omega (arith, run-short n at c h))
     ∙ rw (getD-take n (drop at c) k 0 l, getD-drop at c k 0)
@@ -66,10 +67,12 @@ module _ (c : List ℕ) (at : ℕ) (ws : List ℕ) (n : ℕ) where
         y
 
     module _ (l : k < n) where
-      next : (eqb (getD c (at + k) 0) (getD ws k 0) && sameList (drop (suc k) (take n (drop at c))) (drop (suc k) (take n ws))) ≡ sameList (take n (drop at c)) (take n ws)
+      next : (eqb (getD c (at + k) 0) (getD ws k 0) && sameList (drop (suc k) (take n (drop at c))) (drop (suc k) (take n ws)))
+          ≡ sameList (take n (drop at c)) (take n ws)
       unfolding Alike sameList
       next =
-          let y : sameList (getD c (at + k) 0 ∷ drop (suc k) (take n (drop at c))) (getD ws k 0 ∷ drop (suc k) (take n ws)) ≡ sameList (take n (drop at c)) (take n ws)
+          let y : sameList (getD c (at + k) 0 ∷ drop (suc k) (take n (drop at c))) (getD ws k 0 ∷ drop (suc k) (take n ws))
+          ≡ sameList (take n (drop at c)) (take n ws)
           = rw (run-next n at k c h l, first-next n k ws m l) at x in
           y
 

@@ -46,7 +46,8 @@ region-same c c′ n m e f =
     ext-getD 0 (take m (drop n c′)) (take m (drop n c)) (omega arith)
     (λ i k.
     let b : i < m = omega arith in
-    getD-take m (drop n c′) i 0 b ∙ getD-drop n c′ i 0 ∙ f (n + i) (omega arith) (omega arith) ∙ sym (getD-drop n c i 0) ∙ sym (getD-take m (drop n c) i 0 b))
+    getD-take m (drop n c′) i 0 b ∙ getD-drop n c′ i 0 ∙ f (n + i) (omega arith) (omega arith) ∙ sym (getD-drop n c i 0)
+    ∙ sym (getD-take m (drop n c) i 0 b))
 
 -- the configurations of a slot whose count and room are held alike
 pub kept-same : (c c′ : List ℕ) (s : ℕ) → length c′ ≡ length c → word c′ (countAt s) ≡ word c (countAt s)

@@ -1,4 +1,4 @@
--- `learning_c::step` meets its contract: each way out, a token too high, a slot that is there or one that is not, is one case of `stepIn`.
+-- `learning_c::step` meets its contract: a token or a slot that there is not is answered by 0, and every other step is asked of the cache.
 use borrow.Author.Needs.{needs}
 use native.Mathlib.Omega.{arith}
 use denote.Ref.{now}
@@ -20,14 +20,11 @@ decision-requires c κs = search needs
 
 ask-step-requires : tie.Need-ask-step-requires
 ask-step-requires c κs =
+    let at-entry = c .before .before .before .before .before .before .before .before in
     let at-slots = c .before .before .before .before in
-    let at-slice-known = at-slots .before .before in
-    let at-entry = at-slice-known .before .before in (
-      at-entry .pre,
-      omega (arith, at-slots .slots .ensures),
-      omega arith,
-      decision-fits _ _ (λ k. at-slice-known .slice-known .given k .fits) (c .before .decision .ensures),
-    )
+    let words = c .before .before .before .before .before .before .slice-known .given in
+    let slot = at-slots .slots .ensures in
+    (record { ready = at-entry .pre; slot = omega (arith, slot); kind = omega arith }, decision-fits _ _ (λ k. words k .fits) (c .before .decision .ensures))
 
 same-length : tie.Need-same-length
 same-length c = search needs

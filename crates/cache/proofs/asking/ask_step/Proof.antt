@@ -1,4 +1,4 @@
--- `cache::asking::ask_step` meets its contract.
+-- `cache::asking::ask_step` meets its contract: a word that is not 0 is what was recorded, and else the outcome is worked out.
 use Rattle.cache.proofs.AskSteps.{step-recorded}
 use borrow.Author.Needs.{needs}
 use Rattle.cache.proofs.asking.ask_step.Statement.{statement}

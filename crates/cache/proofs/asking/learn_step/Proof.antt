@@ -1,4 +1,4 @@
--- `cache::asking::learn_step` meets its contract.
+-- `cache::asking::learn_step` meets its contract: what lookahead tells of the step, with the words of a state, is what is recorded.
 use Rattle.cache.proofs.AskSteps.{told-room, step-learned}
 use Rattle.words.proofs.SlotLaws.{slot-few}
 use Rattle.words.proofs.WordLaws.{slot-within}
@@ -15,19 +15,32 @@ step-outcome-requires : tie.Need-step-outcome-requires
 step-outcome-requires c κs = search needs
 
 step-at-requires : tie.Need-step-at-requires
-step-at-requires c κs = (slot-few (length (c .before .before .before .before .before .before .before .args .cache .now)) _ (c .before .before .before .before .before .before .before .pre .1), c .before .before .before .before .before .before .before .pre .2)
+step-at-requires c κs =
+    let at-entry = c .before .before .before .before .before .before .before in
+    (slot-few (length (at-entry .args .cache .now)) _ (at-entry .pre .0 .slot), at-entry .pre .0 .kind)
 
 slice-aggregate-record-outcome : tie.Need-slice-aggregate-record-outcome
 slice-aggregate-record-outcome c = search needs
 
 record-outcome-requires : tie.Need-record-outcome-requires
-record-outcome-requires c κs = let l = slot-within (length (c .before .before .before .before .before .before .before .before .before .args .cache .now)) (c .before .before .before .before .before .before .before .before .before .args .s) (c .before .before .before .before .before .before .before .before .before .pre .1) in (omega (arith, l), omega (arith, l, c .before .step-at .ensures), c .before .before .before .before .before .before .before .before .before .pre .3, told-room _ _ _ (c .before .before .before .kept2 .given) (c .before .before .before .before .step-outcome .ensures))
+record-outcome-requires c κs =
+    let at-entry = c .before .before .before .before .before .before .before .before .before in
+    let call = at-entry .pre .0 in
+    let inside = slot-within (length (at-entry .args .cache .now)) (at-entry .args .s) (call .slot) in
+    let told = told-room _ _ _ (c .before .before .before .kept2 .given) (c .before .before .before .before .step-outcome .ensures) in
+    let here = c .before .step-at .ensures in
+    (record { long = omega (arith, inside); within = omega (arith, inside, call .kind, here); decision = at-entry .pre .1 .decision }, told)
 
 same-length : tie.Need-same-length
 same-length c = search needs
 
 returns : tie.Need-returns
-returns c = step-learned _ _ _ _ _ _ _ (c .before .before .before .before .step-at .ensures) (c .before .before .before .before .before .before .before .before .before .before .before .before .pre .4) (c .before .before .before .before .before .before .before .step-outcome .ensures) (c .before .before .record-outcome .ensures)
+returns c =
+    let at-entry = c .before .before .before .before .before .before .before .before .before .before .before .before in
+    let at-outcome = c .before .before .before .before .before .before .before in
+    let at-step = c .before .before .before .before in
+    step-learned _ _ _ _ _ _ _ (at-step .step-at .ensures) (at-entry .pre .1 .none) (at-outcome .step-outcome .ensures)
+    (c .before .before .record-outcome .ensures)
 
 pub learn-step-spec : {M : Type 1} → statement M
 learn-step-spec =

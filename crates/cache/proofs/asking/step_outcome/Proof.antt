@@ -1,7 +1,6 @@
--- `cache::asking::step_outcome` meets its contract.
-use Rattle.cache.proofs.AskSteps.{kept-few, part-short, part-kept}
+-- `cache::asking::step_outcome` meets its contract: the words of a slot from its configurations on, as many as its count says, are those of its state.
+use Rattle.cache.proofs.AskSteps.{part-within, part-short, part-kept}
 use Rattle.words.proofs.SlotLaws.{slot-few}
-use Rattle.words.proofs.WordLaws.{slot-within}
 use lib.ListN.{length}
 use native.Mathlib.Omega.{arith}
 use borrow.Author.Needs.{needs}
@@ -9,19 +8,31 @@ use Rattle.cache.proofs.asking.step_outcome.Statement.{statement}
 use Rattle.cache.proofs.asking.step_outcome.Tie as tie
 
 configs-at-requires : tie.Need-configs-at-requires
-configs-at-requires c κs = slot-few (length (c .before .before .before .args .cache .now)) _ (c .before .before .before .pre .1)
+configs-at-requires c κs = let at-entry = c .before .before .before in slot-few (length (at-entry .args .cache .now)) _ (at-entry .pre .0 .slot)
 
 kept-count-requires : tie.Need-kept-count-requires
 kept-count-requires c κs = search needs
 
 mul-step : tie.Need-mul-step
-mul-step c = omega (arith, slot-within (length (c .before .before .before .before .before .args .cache .now)) (c .before .before .before .before .before .args .s) (c .before .before .before .before .before .pre .1), kept-few (c .before .before .before .before .before .args .cache .now) (c .before .before .before .before .before .args .s) (c .kept-count .ensures), c .before .configs-at .ensures)
+mul-step c =
+    let at-entry = c .before .before .before .before .before in
+    let args = at-entry .args in
+    let (few, within) = part-within (args .cache .now) (args .s) (at-entry .pre .0 .slot) (c .before .configs-at .ensures) (c .kept-count .ensures) in
+    omega arith
 
 add-step : tie.Need-add-step
-add-step c = omega (arith, slot-within (length (c .before .before .before .before .before .args .cache .now)) (c .before .before .before .before .before .args .s) (c .before .before .before .before .before .pre .1), kept-few (c .before .before .before .before .before .args .cache .now) (c .before .before .before .before .before .args .s) (c .kept-count .ensures), c .before .configs-at .ensures)
+add-step c =
+    let at-entry = c .before .before .before .before .before in
+    let args = at-entry .args in
+    let (few, within) = part-within (args .cache .now) (args .s) (at-entry .pre .0 .slot) (c .before .configs-at .ensures) (c .kept-count .ensures) in
+    omega arith
 
 mul-step-2 : tie.Need-mul-step-2
-mul-step-2 c = omega (arith, slot-within (length (c .before .before .before .before .before .args .cache .now)) (c .before .before .before .before .before .args .s) (c .before .before .before .before .before .pre .1), kept-few (c .before .before .before .before .before .args .cache .now) (c .before .before .before .before .before .args .s) (c .kept-count .ensures), c .before .configs-at .ensures)
+mul-step-2 c =
+    let at-entry = c .before .before .before .before .before in
+    let args = at-entry .args in
+    let (few, within) = part-within (args .cache .now) (args .s) (at-entry .pre .0 .slot) (c .before .configs-at .ensures) (c .kept-count .ensures) in
+    omega arith
 
 sub-step : tie.Need-sub-step
 sub-step c = search needs
@@ -30,16 +41,27 @@ part-step-start : tie.Need-part-step-start
 part-step-start c = search needs
 
 part-step-end : tie.Need-part-step-end
-part-step-end c = omega (arith, slot-within (length (c .before .before .before .before .before .args .cache .now)) (c .before .before .before .before .before .args .s) (c .before .before .before .before .before .pre .1), kept-few (c .before .before .before .before .before .args .cache .now) (c .before .before .before .before .before .args .s) (c .kept-count .ensures), c .before .configs-at .ensures)
+part-step-end c =
+    let at-entry = c .before .before .before .before .before in
+    let args = at-entry .args in
+    let (few, within) = part-within (args .cache .now) (args .s) (at-entry .pre .0 .slot) (c .before .configs-at .ensures) (c .kept-count .ensures) in
+    omega arith
 
 step-requires : tie.Need-step-requires
-step-requires c κs = (c .before .before .before .before .before .before .before .pre .0, part-short (c .before .before .before .before .before .before .before .args .cache .now) (c .before .before .before .before .before .before .before .args .s) (c .before .before .before .configs-at .result) (c .before .before .kept-count .ensures), c .before .before .before .before .before .before .before .pre .2)
+step-requires c κs =
+    let at-entry = c .before .before .before .before .before .before .before in
+    let args = at-entry .args in
+    let short = part-short (args .cache .now) (args .s) (c .before .before .before .configs-at .result) (c .before .before .kept-count .ensures) in
+    (at-entry .pre .0 .ready, short, at-entry .pre .1)
 
 same-length : tie.Need-same-length
 same-length c = search needs
 
 returns : tie.Need-returns
-returns c = part-kept _ _ _ _ _ _ (c .before .before .before .before .before .before .configs-at .ensures) (c .before .before .before .before .before .kept-count .ensures) (c .before .before .step .ensures)
+returns c =
+    let at-configs = c .before .before .before .before .before .before in
+    let at-count = c .before .before .before .before .before in
+    part-kept _ _ _ _ _ _ (at-configs .configs-at .ensures) (at-count .kept-count .ensures) (c .before .before .step .ensures)
 
 pub step-outcome-spec : {M : Type 1} → statement M
 step-outcome-spec =

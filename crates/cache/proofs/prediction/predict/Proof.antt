@@ -10,7 +10,8 @@ use Rattle.derivation.specs.Runs.{marked}
 use Rattle.words.specs.Layout as layout
 use Rattle.cache.specs.Recording.{learned}
 use Rattle.cache.specs.Predict.{follow}
-use Rattle.cache.proofs.PredictSteps.{Asking, asking-on, asking-beyond, asking-over, asking-none, asking-some, predict-starts, start-slots, step-slots, token-small}
+use Rattle.cache.proofs.PredictSteps.{Asking, asking-on, asking-beyond, asking-over, asking-none, asking-some, predict-starts, start-slots, step-slots}
+use Rattle.cache.proofs.PredictSteps.{token-small}
 use Rattle.cache.proofs.prediction.predict.Statement.{statement}
 use Rattle.cache.proofs.prediction.predict.Tie as tie
 
@@ -26,9 +27,7 @@ slots-requires : tie.Need-slots-requires Inv-loop μ-loop
 slots-requires c κs = search needs
 
 ask-start-requires : tie.Need-ask-start-requires Inv-loop μ-loop
-ask-start-requires c κs =
-    let at-entry = c .before .before .before .before .before in
-    (at-entry .pre .ready, at-entry .pre .names, at-entry .pre .long)
+ask-start-requires c κs = let call = c .before .before .before .before .before .pre in record { ready = call .ready; names = call .names; long = call .long }
 
 loop-holds : tie.Need-loop-holds Inv-loop μ-loop
 loop-holds c =
@@ -71,7 +70,7 @@ ask-step-requires c κs =
     let at-entry = c .before .before .before .before .before .before .before .before .before .before .before .before .before .before .before in
     let call = at-entry .pre in
     let small = token-small _ (call .ready) (at-entry .args .note .now) (call .known) (at-loop .loop .j) (c .before .token-at .ensures) in
-    (call .ready, omega arith, small, omega arith)
+    (record { ready = call .ready; slot = omega arith; kind = small }, omega arith)
 
 add-j : tie.Need-add-j Inv-loop μ-loop
 add-j c = omega arith
@@ -101,7 +100,9 @@ returns-3 c =
     ∙ predict-starts _ _ _ _ (at-start .ask-start .ensures)
 
 alternatives-requires : tie.Need-alternatives-requires Inv-loop μ-loop
-alternatives-requires c κs = let at-entry = c .before .before .before .before .before .before .before .before .before .before .before .before in (at-entry .pre .ready, at-entry .pre .names)
+alternatives-requires c κs =
+    let at-entry = c .before .before .before .before .before .before .before .before .before .before .before .before in
+    (at-entry .pre .ready, at-entry .pre .names)
 
 same-length-4 : tie.Need-same-length-4 Inv-loop μ-loop
 same-length-4 c = search needs
@@ -110,7 +111,8 @@ returns-4 : tie.Need-returns-4 Inv-loop μ-loop
 returns-4 c =
     let at-loop = c .before .before .before .before .before in
     let at-start = c .before .before .before .before .before .before .before .before in
-    asking-none _ _ _ (at-loop .loop .inv .0) (c .before .before .before .number2 .ensures) (omega arith) (λ _. omega (arith, c .before .alternatives .ensures))
+    asking-none _ _ _ (at-loop .loop .inv .0) (c .before .before .before .number2 .ensures) (omega arith)
+    (λ _. omega (arith, c .before .alternatives .ensures))
     ∙ predict-starts _ _ _ _ (at-start .ask-start .ensures)
 
 same-length-5 : tie.Need-same-length-5 Inv-loop μ-loop
@@ -120,7 +122,8 @@ returns-5 : tie.Need-returns-5 Inv-loop μ-loop
 returns-5 c =
     let at-loop = c .before .before .before .before .before in
     let at-start = c .before .before .before .before .before .before .before .before in
-    asking-some _ _ _ (at-loop .loop .inv .0) (c .before .before .before .number2 .ensures) (omega arith) (omega arith) (omega (arith, c .before .alternatives .ensures))
+    asking-some _ _ _ (at-loop .loop .inv .0) (c .before .before .before .number2 .ensures) (omega arith) (omega arith)
+    (omega (arith, c .before .alternatives .ensures))
     ∙ predict-starts _ _ _ _ (at-start .ask-start .ensures)
 
 pub predict-spec : {M : Type 1} → statement M

@@ -1,4 +1,4 @@
--- `cache::recording::add_state` meets its contract.
+-- `cache::recording::add_state` meets its contract: the stores are those of the definition, in its order.
 use Rattle.words.specs.Layout.{configWords, heldAt}
 use Rattle.cache.proofs.StateSteps.{added-is, stored-long}
 use Prim.Native.Nat.{_*_}
@@ -49,13 +49,35 @@ word-requires-3 : tie.Need-word-requires-3
 word-requires-3 c κs = search needs
 
 slice-write-cache-3 : tie.Need-slice-write-cache-3
-slice-write-cache-3 c = omega (arith, stored-long (c .before .before .before .before .before .before .before .before .before .before .args .cache .now) (c .before .before .before .before .before .before .before .slot-at .result) (c .before .before .before .before .before .before .word .result) (c .before .before .before .before .before .word2 .result) (take (configWords * c .before .before .before .before .before .before .before .before .before .before .args .n) (c .before .before .before .before .before .before .before .before .before .before .args .ws .now)) (c .before .before .before .store-words .ensures))
+slice-write-cache-3 c =
+    let at-entry = c .before .before .before .before .before .before .before .before .before .before in
+    let args = at-entry .args in
+    let at-slot = c .before .before .before .before .before .before .before in
+    let at-decision = c .before .before .before .before .before .before in
+    let at-count = c .before .before .before .before .before in
+    let long = stored-long (args .cache .now) (at-slot .slot-at .result) (at-decision .word .result) (at-count .word2 .result)
+    (take (configWords * args .n) (args .ws .now)) (c .before .before .before .store-words .ensures) in
+    omega (arith, long, at-entry .pre .0 .within)
 
 same-length : tie.Need-same-length
-same-length c = length-set (c .before .before .before .store-words .last .0) heldAt (c .word3 .result) ∙ stored-long (c .before .before .before .before .before .before .before .before .before .before .args .cache .now) (c .before .before .before .before .before .before .before .slot-at .result) (c .before .before .before .before .before .before .word .result) (c .before .before .before .before .before .word2 .result) (take (configWords * c .before .before .before .before .before .before .before .before .before .before .args .n) (c .before .before .before .before .before .before .before .before .before .before .args .ws .now)) (c .before .before .before .store-words .ensures)
+same-length c =
+    let at-entry = c .before .before .before .before .before .before .before .before .before .before in
+    let args = at-entry .args in
+    let at-slot = c .before .before .before .before .before .before .before in
+    let at-decision = c .before .before .before .before .before .before in
+    let at-count = c .before .before .before .before .before in
+    let long = stored-long (args .cache .now) (at-slot .slot-at .result) (at-decision .word .result) (at-count .word2 .result)
+    (take (configWords * args .n) (args .ws .now)) (c .before .before .before .store-words .ensures) in
+    length-set (c .before .before .before .store-words .last .0) heldAt (c .word3 .result) ∙ long
 
 returns : tie.Need-returns
-returns c = added-is _ _ _ _ (c .before .before .before .before .before .before .before .before .before .before .pre .0) (c .before .before .before .before .before .before .before .slot-at .ensures) (c .before .before .before .before .before .before .word .ensures) (c .before .before .before .before .before .word2 .ensures) (c .word3 .ensures) (c .before .before .before .store-words .ensures)
+returns c =
+    let at-entry = c .before .before .before .before .before .before .before .before .before .before in
+    let at-slot = c .before .before .before .before .before .before .before in
+    let at-decision = c .before .before .before .before .before .before in
+    let at-count = c .before .before .before .before .before in
+    added-is _ _ _ _ (at-entry .pre .0 .is) (at-slot .slot-at .ensures) (at-decision .word .ensures) (at-count .word2 .ensures) (c .word3 .ensures)
+    (c .before .before .before .store-words .ensures)
 
 pub add-state-spec : {M : Type 1} → statement M
 add-state-spec =

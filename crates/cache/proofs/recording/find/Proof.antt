@@ -1,4 +1,4 @@
--- `cache::recording::find` meets its contract.
+-- `cache::recording::find` meets its contract: the slots are looked at from the first on, so where one holds the state it is the lowest.
 use Rattle.words.specs.Layout.{configWords}
 use Rattle.cache.proofs.StateSteps.{Seeking, seek-begins, seek-ends, seek-hit, seek-next, searched-low}
 use borrow.Author.Needs.{needs}
@@ -24,10 +24,14 @@ sub-s : tie.Need-sub-s Inv-loop μ-loop
 sub-s c = search needs
 
 holds-requires : tie.Need-holds-requires Inv-loop μ-loop
-holds-requires c κs = (searched-low (c .before .before .before .before .before .args .cache .now) _ (omega (arith, c .before .before .searched .ensures)), c .before .before .before .before .before .pre .1, c .before .before .before .before .before .pre .2)
+holds-requires c κs =
+    let at-entry = c .before .before .before .before .before in
+    (searched-low (at-entry .args .cache .now) _ (omega (arith, c .before .before .searched .ensures)), at-entry .pre .1)
 
 returns : tie.Need-returns Inv-loop μ-loop
-returns c = seek-hit _ _ _ _ _ (c .before .before .before .loop .inv .0) (c .before .before .loop-test .taken) (c .before .holds .ensures) (c .if1 .taken)
+returns c =
+    let at-loop = c .before .before .before in
+    seek-hit _ _ _ _ _ (at-loop .loop .inv .0) (c .before .before .loop-test .taken) (c .before .holds .ensures) (c .if1 .taken)
 
 sub-left : tie.Need-sub-left Inv-loop μ-loop
 sub-left c = search needs
@@ -36,7 +40,10 @@ loop-less : tie.Need-loop-less Inv-loop μ-loop
 loop-less c = search needs
 
 loop-again : tie.Need-loop-again Inv-loop μ-loop
-loop-again c = (seek-next _ _ _ _ _ (c .before .before .before .loop .inv .0) (c .before .before .loop-test .taken) (c .before .holds .ensures) (c .before .before .before .loop .inv .1) (c .if1 .left), omega arith)
+loop-again c =
+    let at-loop = c .before .before .before in
+    let inv = at-loop .loop .inv in
+    (seek-next _ _ _ _ _ (inv .0) (c .before .before .loop-test .taken) (c .before .holds .ensures) (inv .1) (c .if1 .left), omega arith)
 
 returns-2 : tie.Need-returns-2 Inv-loop μ-loop
 returns-2 c = seek-ends _ _ _ _ _ (c .before .loop .inv .0) (omega arith)

@@ -1,4 +1,4 @@
--- `cache::recording::holds` meets its contract.
+-- `cache::recording::holds` meets its contract: a slot holds a state where decision, count and words are the same, and nowhere else.
 use lib.ListN.{length}
 use native.Mathlib.Omega.{arith}
 use Rattle.cache.proofs.StateSteps.{other-decision, other-count, same-decision}
@@ -18,19 +18,33 @@ kept-count-requires : tie.Need-kept-count-requires
 kept-count-requires c κs = search needs
 
 returns-2 : tie.Need-returns-2
-returns-2 c = other-count _ _ _ _ (c .before .before .before .decision .ensures) (c .before .kept-count .ensures) (c .before .before .before .before .before .before .pre .0) (c .if2 .taken) (first-short _ (c .before .before .before .before .before .before .args .ws .now) (c .before .before .before .before .before .before .pre .2))
+returns-2 c =
+    let at-entry = c .before .before .before .before .before .before in
+    let short = first-short _ (at-entry .args .ws .now) (at-entry .pre .1 .room) in
+    other-count _ _ _ _ (c .before .before .before .decision .ensures) (c .before .kept-count .ensures) (at-entry .pre .0) (c .if2 .taken) short
 
 configs-at-requires : tie.Need-configs-at-requires
-configs-at-requires c κs = slot-few (length (c .before .before .before .before .before .before .args .cache .now)) _ (c .before .before .before .before .before .before .pre .0)
+configs-at-requires c κs =
+    let at-entry = c .before .before .before .before .before .before in
+    slot-few (length (at-entry .args .cache .now)) _ (at-entry .pre .0)
 
 mul-same-words : tie.Need-mul-same-words
 mul-same-words c = search needs
 
 same-words-requires : tie.Need-same-words-requires
-same-words-requires c κs = (omega (arith, slot-within (length (c .before .before .before .before .before .before .before .args .cache .now)) (c .before .before .before .before .before .before .before .args .s) (c .before .before .before .before .before .before .before .pre .0), c .configs-at .ensures), omega arith)
+same-words-requires c κs =
+    let at-entry = c .before .before .before .before .before .before .before in
+    let inside = slot-within (length (at-entry .args .cache .now)) (at-entry .args .s) (at-entry .pre .0) in
+    let kept = at-entry .pre .1 in
+    (omega (arith, inside, kept .few, c .configs-at .ensures), kept .room)
 
 returns-3 : tie.Need-returns-3
-returns-3 c = same-decision _ _ _ _ (c .before .before .before .before .before .decision .ensures) (c .before .before .before .kept-count .ensures) (c .before .before .before .before .if1 .left) (c .before .before .if2 .left) (c .before .configs-at .ensures) (c .same-words .ensures)
+returns-3 c =
+    let at-decision = c .before .before .before .before .before in
+    let at-count = c .before .before .before in
+    same-decision _ _ _ _ (at-decision .decision .ensures) (at-count .kept-count .ensures) (c .before .before .before .before .if1 .left)
+    (c .before .before .if2 .left)
+    (c .before .configs-at .ensures) (c .same-words .ensures)
 
 pub holds-spec : {M : Type 1} → statement M
 holds-spec =

@@ -1,4 +1,4 @@
--- `cache::recording::new_state` meets its contract.
+-- `cache::recording::new_state` meets its contract: with a slot free the state is stored and recorded, with none nothing is, and the outcome is FULL.
 use Rattle.cache.proofs.StateSteps.{new-held, new-full, slot-below}
 use lib.ListN.{length}
 use native.Mathlib.Omega.{arith}
@@ -13,13 +13,24 @@ slots-requires : tie.Need-slots-requires
 slots-requires c κs = search needs
 
 add-state-requires : tie.Need-add-state-requires
-add-state-requires c κs = let l = slot-below (length (c .before .before .before .before .before .before .before .args .cache .now)) (c .before .before .slots .ensures) (c .before .if1 .taken) in (c .before .before .before .held .ensures, l .0, l .1, c .before .before .before .before .before .before .before .pre .2, c .before .before .before .before .before .before .before .pre .3, c .before .before .before .before .before .before .before .pre .4)
+add-state-requires c κs =
+    let at-entry = c .before .before .before .before .before .before .before in
+    let (low, within) = slot-below (length (at-entry .args .cache .now)) (c .before .before .slots .ensures) (c .before .if1 .taken) in
+    (record { is = c .before .before .before .held .ensures; low = low; within = within; decision = at-entry .pre .0 .decision }, at-entry .pre .1)
 
 add-word : tie.Need-add-word
-add-word c = omega (arith, slot-below (length (c .before .before .before .before .before .before .before .before .before .before .before .args .cache .now)) (c .before .before .before .before .before .before .slots .ensures) (c .before .before .before .before .before .if1 .taken) .0)
+add-word c =
+    let at-entry = c .before .before .before .before .before .before .before .before .before .before .before in
+    let at-slots = c .before .before .before .before .before .before in
+    let at-test = c .before .before .before .before .before in
+    omega (arith, slot-below (length (at-entry .args .cache .now)) (at-slots .slots .ensures) (at-test .if1 .taken) .0)
 
 word-requires : tie.Need-word-requires
-word-requires c κs = omega (arith, slot-below (length (c .before .before .before .before .before .before .before .before .before .before .before .args .cache .now)) (c .before .before .before .before .before .before .slots .ensures) (c .before .before .before .before .before .if1 .taken) .0)
+word-requires c κs =
+    let at-entry = c .before .before .before .before .before .before .before .before .before .before .before in
+    let at-slots = c .before .before .before .before .before .before in
+    let at-test = c .before .before .before .before .before in
+    omega (arith, slot-below (length (at-entry .args .cache .now)) (at-slots .slots .ensures) (at-test .if1 .taken) .0)
 
 say-requires : tie.Need-say-requires
 say-requires c κs = search needs
@@ -28,7 +39,13 @@ same-length : tie.Need-same-length
 same-length c = search needs
 
 returns : tie.Need-returns
-returns c = new-held _ _ _ _ _ (c .before .before .before .before .before .before .before .before .before .before .before .held .ensures) (omega (arith, c .before .before .before .before .before .before .before .before .before .before .slots .ensures)) (c .before .before .before .before .before .before .before .add-state .ensures) (c .before .before .before .word .ensures) (c .before .before .say .ensures)
+returns c =
+    let at-held = c .before .before .before .before .before .before .before .before .before .before .before in
+    let at-slots = c .before .before .before .before .before .before .before .before .before .before in
+    let at-added = c .before .before .before .before .before .before .before in
+    new-held _ _ _ _ _ (at-held .held .ensures) (omega (arith, at-slots .slots .ensures)) (at-added .add-state .ensures)
+    (c .before .before .before .word .ensures)
+    (c .before .before .say .ensures)
 
 same-length-2 : tie.Need-same-length-2
 same-length-2 c = search needs

@@ -1,4 +1,4 @@
--- `cache::recording::record_outcome` meets its contract.
+-- `cache::recording::record_outcome` meets its contract: each of the three outcomes is recorded as the definition says.
 use Rattle.cache.proofs.AskSteps.{room-state, record-full, record-alternative, record-is}
 use borrow.Author.Needs.{needs}
 use Rattle.cache.proofs.recording.record_outcome.Statement.{statement}
@@ -20,7 +20,9 @@ enum-known-outcome-2 : tie.Need-enum-known-outcome-2
 enum-known-outcome-2 c = search needs
 
 record-state-requires : tie.Need-record-state-requires
-record-state-requires c κs = let r = room-state _ (c .before .before .before .before .before .before .args .kept .now) (c .before .before .outcome2 .given .1) (c .before .before .before .before .before .before .pre .3) in (c .before .before .before .before .before .before .pre .0, c .before .before .before .before .before .before .pre .1, c .before .before .before .before .before .before .pre .2, r .0, r .1)
+record-state-requires c κs =
+    let at-entry = c .before .before .before .before .before .before in
+    (at-entry .pre .0, room-state _ (at-entry .args .kept .now) (c .before .before .outcome2 .given .1) (at-entry .pre .1))
 
 same-length : tie.Need-same-length
 same-length c = search needs

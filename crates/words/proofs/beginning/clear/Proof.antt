@@ -1,4 +1,4 @@
--- `cache::beginning::clear` meets its contract.
+-- `words::beginning::clear` meets its contract: each turn clears the next word, so all before it are 0.
 use Rattle.words.proofs.SizeLaws.{cleared}
 use borrow.Author.Fill.{fill-more}
 use borrow.Author.Needs.{needs}
@@ -32,13 +32,21 @@ loop-less : tie.Need-loop-less Inv-loop μ-loop
 loop-less c = search needs
 
 loop-again : tie.Need-loop-again Inv-loop μ-loop
-loop-again c = (ap (λ (l : List ℕ). set l (c .before .loop .k) 0) (c .before .loop .inv .0) ∙ fill-more (c .before .loop .k) 0 (c .before .before .args .cache .now) (omega arith), simp length-set (omega arith), omega arith)
+loop-again c =
+    let at-entry = c .before .before in (
+      ap (λ (l : List ℕ). set l (c .before .loop .k) 0) (c .before .loop .inv .0)
+          ∙ fill-more (c .before .loop .k) 0 (at-entry .args .cache .now) (omega arith),
+      simp length-set (omega arith),
+      omega arith,
+    )
 
 same-length : tie.Need-same-length Inv-loop μ-loop
 same-length c = search needs
 
 returns : tie.Need-returns Inv-loop μ-loop
-returns c = cleared _ (c .before .before .args .cache .now) (c .before .loop .k) (c .before .loop .inv .0) (omega arith) (omega arith)
+returns c =
+    let at-entry = c .before .before in
+    cleared _ (at-entry .args .cache .now) (c .before .loop .k) (c .before .loop .inv .0) (omega arith) (omega arith)
 
 pub clear-spec : {M : Type 1} → statement M
 clear-spec =

@@ -1,4 +1,4 @@
--- `cache::beginning::settle` meets its contract.
+-- `words::beginning::settle` meets its contract: a cache that is too short stays as it was, every other is cleared and then gets its lengths and bytes.
 use Rattle.words.proofs.BeginSteps.{short-cache, settled}
 use borrow.Author.Needs.{needs}
 use Rattle.words.proofs.beginning.settle.Statement.{statement}
@@ -20,7 +20,12 @@ same-length : tie.Need-same-length
 same-length c = search needs
 
 returns-2 : tie.Need-returns-2
-returns-2 c = settled _ _ (c .before .before .before .before .before .before .before .before .before .before .before .before .if1 .left) (c .before .before .before .before .before .before .before .before .before .before .clear .ensures) (c .before .before .before .before .before .before .write-sizes .ensures) (c .before .before .write-bytes .ensures)
+returns-2 c =
+    let at-write-bytes = c .before .before in
+    let at-write-sizes = at-write-bytes .before .before .before .before in
+    let at-clear = at-write-sizes .before .before .before .before in
+    let at-if1 = at-clear .before .before in
+    settled _ _ (at-if1 .if1 .left) (at-clear .clear .ensures) (at-write-sizes .write-sizes .ensures) (at-write-bytes .write-bytes .ensures)
 
 pub settle-spec : {M : Type 1} → statement M
 settle-spec =

@@ -1,4 +1,4 @@
--- `cache::beginning::write_sizes` meets its contract.
+-- `words::beginning::write_sizes` meets its contract: the three stores are those of the definition.
 use lib.ListN.{length-set}
 use native.Mathlib.Omega.{arith}
 use borrow.Author.Needs.{needs}

@@ -1,4 +1,4 @@
--- `cache::bytes::byte_at` meets its contract.
+-- `words::bytes::byte_at` meets its contract: past the end the default stands.
 use lib.ListN.{List·getD-eq-default}
 use mathlib.Core.Path.{sym}
 use borrow.Author.Needs.{needs}

@@ -1,4 +1,4 @@
--- `cache::bytes::has_bytes` meets its contract.
+-- `words::bytes::has_bytes` meets its contract: as long as no word differed, the bytes compared so far are the stored ones.
 use Rattle.words.proofs.PackSteps.{compare-end, compare-short, compare-differs, compare-next, Comparing, compare-begins}
 use borrow.Author.Needs.{needs}
 use native.Mathlib.Omega.{arith}
@@ -17,7 +17,9 @@ loop-holds : tie.Need-loop-holds Inv-loop μ-loop
 loop-holds c = compare-begins _ _
 
 returns : tie.Need-returns Inv-loop μ-loop
-returns c = compare-short _ _ _ _ (c .before .before .loop .inv) (omega arith) (c .if1 .taken)
+returns c =
+    let at-loop = c .before .before in
+    compare-short _ _ _ _ (at-loop .loop .inv) (omega arith) (c .if1 .taken)
 
 mul-if2 : tie.Need-mul-if2 Inv-loop μ-loop
 mul-if2 c = search needs
@@ -29,7 +31,10 @@ word-at-requires : tie.Need-word-at-requires Inv-loop μ-loop
 word-at-requires c κs = search needs
 
 returns-2 : tie.Need-returns-2 Inv-loop μ-loop
-returns-2 c = compare-differs _ _ _ _ (c .before .before .before .before .before .loop .inv) (omega arith) (c .before .before .before .if1 .left) refl (c .before .word-at .ensures) (c .if2 .taken)
+returns-2 c =
+    let at-if1 = c .before .before .before in
+    let at-loop = at-if1 .before .before in
+    compare-differs _ _ _ _ (at-loop .loop .inv) (omega arith) (at-if1 .if1 .left) refl (c .before .word-at .ensures) (c .if2 .taken)
 
 add-k : tie.Need-add-k Inv-loop μ-loop
 add-k c = search needs
@@ -41,7 +46,10 @@ loop-less : tie.Need-loop-less Inv-loop μ-loop
 loop-less c = search needs
 
 loop-again : tie.Need-loop-again Inv-loop μ-loop
-loop-again c = compare-next _ _ _ _ (c .before .before .before .before .before .loop .inv) (omega arith) (c .before .before .before .if1 .left) refl (c .before .word-at .ensures) (c .if2 .left)
+loop-again c =
+    let at-if1 = c .before .before .before in
+    let at-loop = at-if1 .before .before in
+    compare-next _ _ _ _ (at-loop .loop .inv) (omega arith) (at-if1 .if1 .left) refl (c .before .word-at .ensures) (c .if2 .left)
 
 returns-3 : tie.Need-returns-3 Inv-loop μ-loop
 returns-3 c = compare-end _ _ _ _ (c .before .loop .inv) (omega arith)

@@ -1,4 +1,4 @@
--- `cache::bytes::joined` meets its contract.
+-- `words::bytes::joined` meets its contract: the four bytes do not overlap, so joining them adds them.
 use native.Mathlib.Omega.{arith}
 use Rattle.words.proofs.PackSteps.{four}
 use Rattle.words.proofs.bytes.joined.Statement.{statement}

@@ -1,4 +1,4 @@
--- `cache::bytes::write_bytes` meets its contract.
+-- `words::bytes::write_bytes` meets its contract: each turn stores the word of the next four bytes, so those stored so far are the first of the packed bytes.
 use Rattle.words.proofs.PackSteps.{store-next, store-end, Storing, store-begins}
 use Rattle.words.specs.Layout.{bytesAt}
 use borrow.Author.Needs.{needs}
@@ -37,7 +37,9 @@ loop-less : tie.Need-loop-less Inv-loop μ-loop
 loop-less c = search needs
 
 loop-again : tie.Need-loop-again Inv-loop μ-loop
-loop-again c = (store-next _ _ _ _ _ (c .before .before .loop .inv .0) (omega arith) (c .word-at .ensures), simp length-set (omega arith), omega arith)
+loop-again c =
+    let at-loop = c .before .before in
+    (store-next _ _ _ _ _ (at-loop .loop .inv .0) (omega arith) (c .word-at .ensures), simp length-set (omega arith), omega arith)
 
 same-length : tie.Need-same-length Inv-loop μ-loop
 same-length c = search needs

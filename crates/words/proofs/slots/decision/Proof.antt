@@ -1,4 +1,4 @@
--- `cache::slots::decision` meets its contract.
+-- `words::slots::decision` meets its contract: a slot begins with its decision.
 use Rattle.words.proofs.SlotLaws.{slot-few}
 use Rattle.words.proofs.WordLaws.{slot-within}
 use lib.ListN.{length}
@@ -13,10 +13,14 @@ slot-at-requires : tie.Need-slot-at-requires
 slot-at-requires c κs = slot-few (length (c .before .args .cache .now)) _ (c .before .pre)
 
 mul-number : tie.Need-mul-number
-mul-number c = omega (arith, slot-within (length (c .before .before .args .cache .now)) (c .before .before .args .s) (c .before .before .pre))
+mul-number c =
+    let at-entry = c .before .before in
+    omega (arith, slot-within (length (at-entry .args .cache .now)) (at-entry .args .s) (at-entry .pre))
 
 shared-slice-read-number : tie.Need-shared-slice-read-number
-shared-slice-read-number c = omega (arith, slot-within (length (c .before .before .before .args .cache .now)) (c .before .before .before .args .s) (c .before .before .before .pre))
+shared-slice-read-number c =
+    let at-entry = c .before .before .before in
+    omega (arith, slot-within (length (at-entry .args .cache .now)) (at-entry .args .s) (at-entry .pre))
 
 number-requires : tie.Need-number-requires
 number-requires c κs = search needs

@@ -1,4 +1,4 @@
--- `cache::slots::held` meets its contract.
+-- `words::slots::held` meets its contract: the word at its address is how many states are held.
 use Rattle.words.specs.Words.{held}
 use borrow.Author.Needs.{needs}
 use Rattle.words.proofs.slots.held.Statement.{statement}

@@ -1,4 +1,4 @@
--- `cache::slots::kept_count` meets its contract.
+-- `words::slots::kept_count` meets its contract: a count is read as what the slot says, or as the most that is kept where it says more.
 use Rattle.words.proofs.SlotLaws.{slot-few, count-high, count-low}
 use Rattle.words.proofs.WordLaws.{slot-within}
 use lib.ListN.{length}
@@ -15,19 +15,27 @@ add-number : tie.Need-add-number
 add-number c = search needs
 
 mul-number : tie.Need-mul-number
-mul-number c = omega (arith, slot-within (length (c .before .before .args .cache .now)) (c .before .before .args .s) (c .before .before .pre))
+mul-number c =
+    let at-entry = c .before .before in
+    omega (arith, slot-within (length (at-entry .args .cache .now)) (at-entry .args .s) (at-entry .pre))
 
 shared-slice-read-number : tie.Need-shared-slice-read-number
-shared-slice-read-number c = omega (arith, slot-within (length (c .before .before .before .args .cache .now)) (c .before .before .before .args .s) (c .before .before .before .pre))
+shared-slice-read-number c =
+    let at-entry = c .before .before .before in
+    omega (arith, slot-within (length (at-entry .args .cache .now)) (at-entry .args .s) (at-entry .pre))
 
 number-requires : tie.Need-number-requires
 number-requires c κs = search needs
 
 returns : tie.Need-returns
-returns c = count-high _ _ (c .before .number .ensures) (c .before .before .before .slot-at .ensures) (c .if1 .taken)
+returns c =
+    let at-slot-at = c .before .before .before in
+    count-high _ _ (c .before .number .ensures) (at-slot-at .slot-at .ensures) (c .if1 .taken)
 
 returns-2 : tie.Need-returns-2
-returns-2 c = count-low _ _ (c .before .number .ensures) (c .before .before .before .slot-at .ensures) (c .if1 .left)
+returns-2 c =
+    let at-slot-at = c .before .before .before in
+    count-low _ _ (c .before .number .ensures) (at-slot-at .slot-at .ensures) (c .if1 .left)
 
 pub kept-count-spec : {M : Type 1} → statement M
 kept-count-spec =

@@ -1,5 +1,4 @@
--- `cache::slots::same_words` meets its contract.
--- `cache::slots::same_words` meets its contract.
+-- `words::slots::same_words` meets its contract: as long as no word differed, those compared so far are the same.
 use Rattle.words.proofs.SlotLaws.{Alike, alike-begins, alike-ends, alike-differs, alike-next}
 use borrow.Author.Needs.{needs}
 use native.Mathlib.Omega.{arith}
@@ -32,7 +31,11 @@ shared-slice-read-if1-2 : tie.Need-shared-slice-read-if1-2 Inv-loop μ-loop
 shared-slice-read-if1-2 c = search needs
 
 returns : tie.Need-returns Inv-loop μ-loop
-returns c = alike-differs _ _ _ _ (c .before .before .before .before .before .pre .0) (c .before .before .before .before .before .pre .1) _ (c .before .before .before .before .loop .inv) (c .before .before .before .loop-test .taken) (c .if1 .taken)
+returns c =
+    let at-loop-test = c .before .before .before in
+    let at-loop = at-loop-test .before in
+    let at-entry = at-loop .before in
+    alike-differs _ _ _ _ (at-entry .pre .0) (at-entry .pre .1) _ (at-loop .loop .inv) (at-loop-test .loop-test .taken) (c .if1 .taken)
 
 add-k : tie.Need-add-k Inv-loop μ-loop
 add-k c = search needs
@@ -41,10 +44,16 @@ loop-less : tie.Need-loop-less Inv-loop μ-loop
 loop-less c = search needs
 
 loop-again : tie.Need-loop-again Inv-loop μ-loop
-loop-again c = alike-next _ _ _ _ (c .before .before .before .before .before .pre .0) (c .before .before .before .before .before .pre .1) _ (c .before .before .before .before .loop .inv) (c .before .before .before .loop-test .taken) (c .if1 .left)
+loop-again c =
+    let at-loop-test = c .before .before .before in
+    let at-loop = at-loop-test .before in
+    let at-entry = at-loop .before in
+    alike-next _ _ _ _ (at-entry .pre .0) (at-entry .pre .1) _ (at-loop .loop .inv) (at-loop-test .loop-test .taken) (c .if1 .left)
 
 returns-2 : tie.Need-returns-2 Inv-loop μ-loop
-returns-2 c = alike-ends _ _ _ _ (c .before .before .pre .0) (c .before .before .pre .1) _ (c .before .loop .inv) (omega arith)
+returns-2 c =
+    let at-entry = c .before .before in
+    alike-ends _ _ _ _ (at-entry .pre .0) (at-entry .pre .1) _ (c .before .loop .inv) (omega arith)
 
 pub same-words-spec : {M : Type 1} → statement M
 same-words-spec =

@@ -1,4 +1,4 @@
--- `cache::slots::searched` meets its contract.
+-- `words::slots::searched` meets its contract: as many slots as hold states, and no more than there are.
 use native.Mathlib.Omega.{arith}
 use Rattle.words.specs.Words.{searched}
 use borrow.Author.Needs.{needs}

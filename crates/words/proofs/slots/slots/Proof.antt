@@ -1,3 +1,4 @@
+-- `words::slots::slots` meets its contract: the words behind the fixed ones are divided among slots, up to the most that are used.
 use borrow.Author.Needs.{needs}
 -- `cache::slots::slots` meets its contract.
 use Rattle.words.specs.Layout.{slots}

@@ -1,4 +1,4 @@
--- `cache::slots::start_of` meets its contract.
+-- `words::slots::start_of` meets its contract: the word at its address is what is recorded.
 use Rattle.words.specs.Words.{startOf}
 use borrow.Author.Needs.{needs}
 use Rattle.words.proofs.slots.start_of.Statement.{statement}

@@ -1,4 +1,4 @@
--- `cache::slots::store_words` meets its contract.
+-- `words::slots::store_words` meets its contract: each turn stores the next word, so the words stored so far are the first of those to store.
 use Rattle.words.proofs.SlotLaws.{Stored, stored-begins, stored-next, stored-ends}
 use borrow.Author.Needs.{needs}
 use lib.ListN.{length, length-set}
@@ -39,13 +39,18 @@ loop-less : tie.Need-loop-less Inv-loop μ-loop
 loop-less c = search needs
 
 loop-again : tie.Need-loop-again Inv-loop μ-loop
-loop-again c = (stored-next _ _ _ _ _ (c .before .before .before .pre .1) _ (c .before .before .loop .inv .0) (omega arith) refl, simp length-set (omega arith))
+loop-again c =
+    let at-loop = c .before .before in
+    let at-entry = at-loop .before in
+    (stored-next _ _ _ _ _ (at-entry .pre .1) _ (at-loop .loop .inv .0) (omega arith) refl, simp length-set (omega arith))
 
 same-length : tie.Need-same-length Inv-loop μ-loop
 same-length c = search needs
 
 returns : tie.Need-returns Inv-loop μ-loop
-returns c = stored-ends _ _ _ _ _ (c .before .before .pre .1) _ (c .before .loop .inv .0) (omega arith)
+returns c =
+    let at-entry = c .before .before in
+    stored-ends _ _ _ _ _ (at-entry .pre .1) _ (c .before .loop .inv .0) (omega arith)
 
 pub store-words-spec : {M : Type 1} → statement M
 store-words-spec =
