@@ -22,15 +22,15 @@ use Rattle.grammar.proofs.WordLaws.{code-end, code-token, code-nonterminal, pla
 use Rattle.derivation.specs.Ready.{Ready}
 use Rattle.derivation.proofs.FirstLaws.{rules-are, first-in}
 use Rattle.derivation.proofs.ReadyLaws.{ready-size, ready-call}
-use Rattle.lookahead.specs.Configs.{Config, config, calls?, behindFrom, entered}
+use Rattle.lookahead.specs.Configs.{Config, config, into, calls?, behindFrom, entered}
 
 -- ---- the productions of a nonterminal
 -- into the productions whose words stand from k up to e in the tables
 unfoldable pub entering : List ℕ → Config → ℕ → ℕ → List Config
-entering t c k e = map (λ (f : ℕ). config f (c .alternative) (suc (c .place) ∷ c .stack)) (slice k e t)
+entering t c k e = map (into c) (slice k e t)
 
 pub entering-first : (t : List ℕ) (c : Config) (k e : ℕ) {f : ℕ} → k < e → e ≤ length t → f ≡ getD t k 0
-    → entering t c k e ≡ config f (c .alternative) (suc (c .place) ∷ c .stack) ∷ entering t c (k + 1) e
+    → entering t c k e ≡ into c f ∷ entering t c (k + 1) e
 unfolding entering
 entering-first t c k e h l q = rw (slice-cons k e t 0 h l, q, add-one)
 
@@ -41,10 +41,10 @@ entering-none t c k e h = let z : slice k e t ≡ [] = drop-of-length-le (take e
 pub entering-all : (t : List ℕ) (ready : Ready t) (a : ℕ) (h : a < nonterminalsIn t) (c : Config) {s e : ℕ} → s ≡ ruleAt t a → e ≡ ruleAt t (a + 1)
     → entering t c s e ≡ entered (grammarIn t) c a
 unfolding entering entered
-entering-all t ready a h c p q = ap (map (λ (f : ℕ). config f (c .alternative) (suc (c .place) ∷ c .stack))) (sym (rules-are t ready a h p q))
+entering-all t ready a h c p q = ap (map (into c)) (sym (rules-are t ready a h p q))
 
--- a first place fits a head
-pub first-small : (t : List ℕ) (ready : Ready t) (a : ℕ) (h : a < nonterminalsIn t) {s e : ℕ} → s ≡ ruleAt t a → e ≡ ruleAt t (a + 1) → (k : ℕ) {f : ℕ} → s ≤ k → k < e → f ≡ getD t k 0 → f < 512
+-- a first place is one of the tables'
+pub first-small : (t : List ℕ) (ready : Ready t) (a : ℕ) (h : a < nonterminalsIn t) {s e : ℕ} → s ≡ ruleAt t a → e ≡ ruleAt t (a + 1) → (k : ℕ) {f : ℕ} → s ≤ k → k < e → f ≡ getD t k 0 → f ≤ endPlace
 first-small t ready a h p q k m l d = omega (arith, first-in t ready a h p q k m l d, ready-size t ready)
 
 -- ---- occurrences
