@@ -22,6 +22,8 @@ use Rattle.grammar.proofs.WordLaws.{code-end, code-token, code-nonterminal, pla
 use Rattle.derivation.specs.Ready.{Ready}
 use Rattle.derivation.proofs.FirstLaws.{rules-are, first-in}
 use Rattle.derivation.proofs.ReadyLaws.{ready-size, ready-call}
+use Rattle.configurations.specs.declared.config.Packed.{Packed}
+use Rattle.configurations.specs.Packing.{configOf, Packs}
 use Rattle.lookahead.specs.Configs.{Config, config, into, calls?, behindFrom, entered}
 
 -- ---- the productions of a nonterminal
@@ -48,6 +50,15 @@ pub first-small : (t : List ℕ) (ready : Ready t) (a : ℕ) (h : a < nontermina
 first-small t ready a h p q k m l d = omega (arith, first-in t ready a h p q k m l d, ready-size t ready)
 
 -- ---- occurrences
+-- a place of the grammar is one of the tables'
+pub within : (t : List ℕ) (ready : Ready t) {n p : ℕ} → n ≡ grammarIn t .size → p < n → p < endPlace
+within t ready e l = omega (arith, e, ready-size t ready)
+
+-- on an empty stack, at place p
+pub at-empty : (c : Packed) {d : Packed} {p : ℕ} → configOf c .stack ≡ [] → Packs d (config p (configOf c .alternative) (configOf c .stack))
+    → Packs d (config p (configOf c .alternative) [])
+at-empty c e h = rw e at h
+
 code-calls : (a c : ℕ) → eqb c (2 * a + 2) ≡ calls? a (symbolOf c)
 code-calls a c = go (same? c 0) (same? (c % 2) 1)
   where

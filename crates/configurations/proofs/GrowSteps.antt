@@ -3,10 +3,12 @@ use mathlib.Core.Path.{_≡_, refl, sym, subst, ap, _∙_}
 use mathlib.Core.Option.{Option, none, some}
 use mathlib.Core.List.{List, [], _∷_, _++_}
 use Prim.Native.Nat.{ℕ}
+use Rattle.configurations.specs.declared.config.Packed.{Packed}
 use Rattle.configurations.specs.declared.members.Added.{Added}
 use Rattle.configurations.specs.declared.members.Added.the-variants.{Count, Full}
 use Rattle.lookahead.specs.Configs.{Config}
 use Rattle.lookahead.specs.Closing.{add, addAll}
+use Rattle.configurations.specs.Packing.{configOf, Packs}
 use Rattle.configurations.specs.Held.{held, Room, heldAfter, RoomAfter, Grows}
 
 -- what follows an answer
@@ -70,17 +72,30 @@ addAll-append (d ∷ ds) es ms = addAll-cons ms d (ds ++ es) ∙ go (add ms d) (
     go none rec = refl
     go (some m) rec = rec m
 
--- ---- a loop over configurations: those that are left give the same end
-module _ (ws : List ℕ) (n : ℕ) {l : List Config} {end : Option (List Config)} (h : addAll (held ws 0 n) l ≡ end) where
+-- a packed configuration added is the one that it packs
+pub grow-packs : {r : Added} {ws : List ℕ} {c : Packed} {d : Config} (ms : List Config) → Packs c d → Grows r ws (add ms (configOf c)) → Grows r ws (add ms d)
+grow-packs ms p g = grow-cast (ap (add ms) (p .is)) g
+
+-- ---- a loop over configurations
+-- with the first n members, those that are left give the same end
+pub record Left (ws : List ℕ) (n : ℕ) (l : List Config) (end : Option (List Config)) : Type 0 where
+  pub room : Room ws n
+  pub same : addAll (held ws 0 n) l ≡ end
+
+module _ {ws : List ℕ} {n : ℕ} {l : List Config} {end : Option (List Config)} (h : Left ws n l end) where
+  pub left-by : {m : List Config} → l ≡ m → Left ws n m end
+  left-by e = record { room = h .room; same = ap (addAll (held ws 0 n)) (sym e) ∙ h .same }
+
+  pub left-none : l ≡ [] → Grows (Count n) ws end
+  left-none e = grow-count ws n (h .room) (sym (addAll-none (held ws 0 n)) ∙ ap (addAll (held ws 0 n)) (sym e) ∙ h .same)
+
+  -- the first of them is added
   module _ {d : Config} {ds : List Config} (e : l ≡ d ∷ ds) {r : Added} {ws′ : List ℕ} (g : Grows r ws′ (add (held ws 0 n) d)) where
     opened : then (add (held ws 0 n) d) (λ m. addAll m ds) ≡ end
-    opened = sym (addAll-cons (held ws 0 n) d ds) ∙ ap (addAll (held ws 0 n)) (sym e) ∙ h
+    opened = sym (addAll-cons (held ws 0 n) d ds) ∙ ap (addAll (held ws 0 n)) (sym e) ∙ h .same
 
-    pub left-on : (m : ℕ) → r ≡ Count m → addAll (held ws′ 0 m) ds ≡ end
-    left-on m q = then-on g (λ m. addAll m ds) opened m q
+    pub left-on : (m : ℕ) → r ≡ Count m → Left ws′ m ds end
+    left-on m q = record { room = grow-room g m q; same = then-on g (λ m. addAll m ds) opened m q }
 
     pub left-stop : r ≡ Full → {ws″ : List ℕ} → Grows Full ws″ end
     left-stop q = then-stop g (λ m. addAll m ds) opened q
-
-  pub left-none : Room ws n → l ≡ [] → Grows (Count n) ws end
-  left-none room e = grow-count ws n room (sym (addAll-none (held ws 0 n)) ∙ ap (addAll (held ws 0 n)) (sym e) ∙ h)

@@ -1,33 +1,28 @@
+-- `closing::worklist::calls` meets its contract: a nonterminal's code stands in the low eight bits of a place's word.
+use Rattle.closing.proofs.FollowLaws.{calls-is}
 use borrow.Author.Needs.{needs}
 use Rattle.closing.proofs.worklist.calls.Statement.{statement}
 use Rattle.closing.proofs.worklist.calls.Tie as tie
-use Rattle.closing.proofs.worklist.calls.Reads as reads
-use Rattle.closing.proofs.worklist.calls.Lts as lts
-use Rattle.base.proofs.index.Reads as index-reads
 
--- src/worklist.rt:57:17
 mul-index : tie.Need-mul-index
 mul-index c = search needs
 
--- src/worklist.rt:57:17
 shared-slice-read-index : tie.Need-shared-slice-read-index
 shared-slice-read-index c = search needs
 
--- src/worklist.rt:57:5
 index-requires : tie.Need-index-requires
 index-requires c κs = search needs
 
--- src/worklist.rt:57:37
 mul-result : tie.Need-mul-result
 mul-result c = search needs
 
--- src/worklist.rt:57:37
 add-result : tie.Need-add-result
 add-result c = search needs
 
--- src/worklist.rt:53:1
 returns : tie.Need-returns
-returns c = ?
+returns c =
+    let at-entry = c .before .before .before in
+    calls-is _ _ _ (at-entry .pre .1) (c .index .ensures)
 
 pub calls-spec : {M : Type 1} → statement M
 calls-spec =

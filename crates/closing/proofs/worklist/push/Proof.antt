@@ -1,35 +1,40 @@
+-- `closing::worklist::push` meets its contract: a full stack would be too deep, any other has room for one more.
+use native.Mathlib.Omega.{arith}
+use Rattle.configurations.proofs.GrowLaws.{add-deep}
+use Rattle.configurations.proofs.GrowSteps.{grow-packs}
 use borrow.Author.Needs.{needs}
 use Rattle.closing.proofs.worklist.push.Statement.{statement}
 use Rattle.closing.proofs.worklist.push.Tie as tie
-use Rattle.closing.proofs.worklist.push.Reads as reads
-use Rattle.closing.proofs.worklist.push.Lts as lts
-use Rattle.configurations.proofs.config.Packed.entered.Reads as entered-reads
-use Rattle.configurations.proofs.config.Packed.entries.Reads as entries-reads
-use Rattle.configurations.proofs.add.Reads as add-reads
 
--- src/worklist.rt:23:8
 entries-requires : tie.Need-entries-requires
 entries-requires c κs = search needs
 
--- src/worklist.rt:24:9
 returns : tie.Need-returns
-returns c = ?
+returns c =
+    let at-entries = c .before in
+    let at-entry = at-entries .before .before in
+    add-deep _ _ (at-entry .pre .0) _ (omega (arith, at-entries .entries .ensures, c .if1 .taken))
 
--- src/worklist.rt:26:37
 entered-requires : tie.Need-entered-requires
-entered-requires c κs = search needs
+entered-requires c κs =
+    let at-if1 = c .before in
+    let at-entries = at-if1 .before in
+    let at-entry = at-entries .before .before in
+    (at-entry .pre .1, omega (arith, at-entry .pre .1 .exact .shallow, at-entries .entries .ensures, at-if1 .if1 .left))
 
--- src/worklist.rt:26:5
 add-requires : tie.Need-add-requires
-add-requires c κs = search needs
+add-requires c κs =
+    let at-entry = c .before .before .before .before .before in
+    (at-entry .pre .0, c .entered .ensures .exact)
 
--- src/worklist.rt:19:1
 same-length : tie.Need-same-length
 same-length c = search needs
 
--- src/worklist.rt:19:1
 returns-2 : tie.Need-returns-2
-returns-2 c = ?
+returns-2 c =
+    let at-add = c .before .before in
+    let at-entered = at-add .before in
+    grow-packs _ (at-entered .entered .ensures) (at-add .add .ensures)
 
 pub push-spec : {M : Type 1} → statement M
 push-spec =
