@@ -67,7 +67,8 @@ code-calls a c = go (same? c 0) (same? (c % 2) 1)
     go (inr n) (inl o) = rw (← code-token c n o) (ne-eqb c (2 * a + 2) (λ e. omega arith))
     go (inr n) (inr o) = rw (← code-nonterminal c n o) (eqb-iff c (2 * a + 2) (c / 2 - 1) a (λ e. omega arith) (λ e. omega arith))
 
-pub calls-is : (t : List ℕ) (p a : ℕ) {w : ℕ} → p < 256 → w ≡ getD t p 0 → eqb (w % 256) (2 * a + 2) ≡ calls? a (facing (grammarIn t) p)
+pub calls-is : (t : List ℕ) (p a : ℕ) {w : ℕ} → p ≤ endPlace → w ≡ getD t p 0
+    → eqb (w % 256) (2 * a + 2) ≡ calls? a (facing (grammarIn t) p)
 unfolding facing placeOf
 calls-is t p a {w} h e =
     let q : placeOf w ≡ placeAt (grammarIn t) p = place-in t p (omega arith) (ap placeOf e) in

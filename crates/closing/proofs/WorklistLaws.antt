@@ -14,7 +14,7 @@ use Rattle.grammar.specs.declared.Symbol.the-variants.{Token, Nonterminal, End}
 use Rattle.grammar.specs.declared.Place.{Place}
 use Rattle.grammar.specs.Limits.{endPlace}
 use Rattle.grammar.specs.Grammar.{Grammar, placeAt, owner}
-use Rattle.grammar.specs.Tables.{grammarIn, nonterminalsIn}
+use Rattle.grammar.specs.Tables.{grammarIn}
 use Rattle.closing.proofs.FollowLaws.{owner-small}
 use Rattle.configurations.proofs.FacingLaws.{place-faces}
 use Rattle.derivation.specs.Ready.{Ready}
@@ -24,11 +24,11 @@ use Rattle.configurations.specs.declared.members.Added.the-variants.{Count, Ful
 use Rattle.lookahead.specs.Configs.{Config, config, behindFrom, follows, entered, returned, movesAt, moves}
 use Rattle.lookahead.specs.Closing.{maxMembers, add, addAll, closeFrom}
 use Rattle.configurations.specs.declared.config.Packed.{Packed}
-use Rattle.configurations.specs.Packing.{configOf, Exact, Has, packedAt, Pops}
+use Rattle.configurations.specs.Packing.{configOf, packedAt, Pops}
 use Rattle.closing.specs.Moving.{Movable, Calling, Unknown}
 use Rattle.configurations.specs.Held.{heldAt, held, Room, Grows}
 use Rattle.lookahead.proofs.ListLaws.{get-below}
-use Rattle.configurations.proofs.HeldLaws.{length-held, get-held, said-at, member-has, exact-at}
+use Rattle.configurations.proofs.HeldLaws.{length-held, get-held, said-at, exact-at}
 use Rattle.configurations.proofs.GrowSteps.{then, grow-room, grow-count, then-on, then-stop, addAll-none, addAll-one, addAll-append}
 
 -- ---- back

@@ -5,15 +5,14 @@ use grammar::Symbol;
 ghost use mathlib.Core.Path.{_≡_};
 ghost use mathlib.Core.List.{[], map};
 ghost use Prim.Native.Nat.{ℕ, _<_};
-ghost use lib.ListN.{length};
 ghost use Rattle.grammar.specs.Grammar.{facing, owner};
-ghost use Rattle.grammar.specs.Tables.{grammarIn, tableWords};
+ghost use Rattle.grammar.specs.Tables.{grammarIn};
 ghost use Rattle.derivation.specs.Ready.{Ready};
 ghost use Rattle.lookahead.specs.Configs.{config, into, calls?, behindFrom, entered, returned, moves};
 ghost use Rattle.lookahead.specs.Closing.{maxMembers, add, addAll, closeFrom};
 ghost use Rattle.configurations.specs.Packing.{configOf, Enters};
 ghost use Rattle.configurations.specs.Held.{held, Room, Grows};
-ghost use Rattle.closing.specs.Moving.{Movable, Calling, Unknown};
+ghost use Rattle.closing.specs.Moving.{Movable, Calling, Unknown, Looks};
 
 // Into the production with first place f, over the return place.
 fn push(members: &mut [u32], n: usize, c: Packed, f: usize) -> Added
@@ -51,7 +50,7 @@ fn enter(tables: &[u16], members: &mut [u32], from: usize, c: Packed, a: usize) 
 
 // Whether place p faces nonterminal a: one look at the symbol's code, since a whole grammar is searched so.
 fn calls(tables: &[u16], p: usize, a: usize) -> bool
-    requires { ⌜ (length (now tables) ≡ tableWords) × (p < 256) × (a < 64) ⌝ }
+    requires { ⌜ Looks (now tables) p a ⌝ }
     ensures { λ r. ⌜ r ≡ calls? a (facing (grammarIn (now (tables .entry))) p) ⌝ }
 {
     base::index(tables[p]) % 256 == 2 * a + 2

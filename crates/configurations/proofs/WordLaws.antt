@@ -7,7 +7,7 @@ use lib.ListN.{length, getD, set, take, drop, length-set, length-drop}
 use lib.Seq.{getD-set-same, getD-set-other, drop-cons, take-suc-set}
 use Rattle.lookahead.specs.Configs.{Config}
 use Rattle.configurations.specs.declared.config.Packed.{Packed}
-use Rattle.configurations.specs.Packing.{configWords, wordRadix, configOf, Exact, Has, packedAt, putAt, pack, packAll, unpack, unpackAll}
+use Rattle.configurations.specs.Packing.{configWords, wordRadix, configOf, Exact, Has, packedAt, putAt, pack, packAll, unpackAll}
 use Rattle.configurations.specs.Held.{heldAt}
 use Rattle.configurations.proofs.PackLaws.{joined}
 

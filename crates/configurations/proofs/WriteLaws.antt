@@ -1,9 +1,9 @@
 -- The words of a state, written one configuration after another.
 use mathlib.Core.Path.{_≡_, sym, subst, ap, _∙_}
 use mathlib.Core.List.{List, [], _∷_, _++_}
-use Prim.Native.Nat.{ℕ, suc, _+_, _*_, _≤_, _<_}
+use Prim.Native.Nat.{ℕ, suc, _+_, _*_, _<_}
 use native.Mathlib.Omega.{arith}
-use lib.ListN.{length, take}
+use lib.ListN.{take}
 use Rattle.lookahead.specs.Configs.{Config}
 use Rattle.configurations.specs.declared.config.Packed.{Packed}
 use Rattle.configurations.specs.Packing.{configWords, configOf, Has, packedAt, putAt, pack, packAll}

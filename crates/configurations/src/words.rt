@@ -3,7 +3,7 @@ use crate::config::Packed;
 ghost use mathlib.Core.Path.{_≡_};
 ghost use Prim.Native.Nat.{_+_, _*_, _≤_};
 ghost use lib.ListN.{length, take};
-ghost use Rattle.configurations.specs.Packing.{configWords, Exact, Has, packedAt, putAt, packAll};
+ghost use Rattle.configurations.specs.Packing.{configWords, Has, packedAt, putAt, packAll};
 ghost use Rattle.configurations.specs.Held.{held, Room};
 
 // The words of a configuration.

@@ -2,10 +2,9 @@
 use mathlib.Core.Path.{_≡_, refl, sym, ap, _∙_}
 use mathlib.Core.Bool.{Bool, true, false, cond}
 use mathlib.Core.List.{List, [], _∷_, map}
-use Prim.Native.Nat.{ℕ, suc, _+_, _*_, _/_, _≤_, _<_}
+use Prim.Native.Nat.{ℕ, suc, _+_, _/_, _≤_, _<_}
 use native.Mathlib.Omega.{arith}
 use native.Mathlib.Decide.{decLe}
-use native.Mathlib.Numerals.{add-one}
 use lib.ListN.{length}
 use Rattle.base.proofs.Booleans.{clash}
 use Rattle.grammar.specs.declared.Symbol.{Symbol}
@@ -16,7 +15,6 @@ use Rattle.grammar.specs.Grammar.{Grammar, placeAt, facing, admits}
 use Rattle.grammar.specs.Tables.{grammarIn}
 use Rattle.grammar.proofs.WordLaws.{facing-past}
 use Rattle.lookahead.specs.Configs.{Config}
-use Rattle.lookahead.specs.Closing.{maxEntries}
 use Rattle.lookahead.specs.Order.{keep}
 use Rattle.lookahead.specs.Outcomes.{passes, onward, stepConfigs}
 use Rattle.configurations.specs.declared.config.Packed.{Packed}

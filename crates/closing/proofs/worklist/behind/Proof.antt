@@ -41,7 +41,7 @@ calls-requires c κs =
     let at-size = c .before .before in
     let at-entry = at-size .before .before .before in
     let small = within _ (at-entry .pre .0 .ready) (at-size .size .ensures) (c .loop-test .taken) in
-    (at-entry .pre .0 .ready .fits .long, omega arith, at-entry .pre .1 .small)
+    record { long = at-entry .pre .0 .ready .fits .long; within = omega arith; small = at-entry .pre .1 .small }
 
 at-requires : tie.Need-at-requires Inv-loop μ-loop
 at-requires c κs =

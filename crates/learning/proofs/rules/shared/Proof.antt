@@ -1,10 +1,9 @@
 -- `learning::rules::shared` meets its contract: each pair is compared once, and a pair that conflicts does so both ways.
 use borrow.Author.Needs.{needs}
 use mathlib.Core.Path.{_≡_, refl, _∙_}
-use mathlib.Core.Bool.{false, _||_}
+use mathlib.Core.Bool.{false}
 use Prim.Native.Nat.{_-_, _≤_}
 use native.Mathlib.Omega.{arith}
-use Rattle.base.specs.Rounds.{anyOf}
 use Rattle.lookahead.specs.Outcomes.{conflicts, shared}
 use Rattle.configurations.specs.Packing.{configOf, Exact}
 use Rattle.configurations.specs.Held.{held}
