@@ -40,13 +40,15 @@ pub entering-none : (t : List ℕ) (c : Config) (k e : ℕ) → e ≤ k → ente
 unfolding entering
 entering-none t c k e h = let z : slice k e t ≡ [] = drop-of-length-le (take e t) {i = k} (omega (arith, length-take e t)) in rw z
 
-pub entering-all : (t : List ℕ) (ready : Ready t) (a : ℕ) (h : a < nonterminalsIn t) (c : Config) {s e : ℕ} → s ≡ ruleAt t a → e ≡ ruleAt t (a + 1)
+pub entering-all : (t : List ℕ) (ready : Ready t) (a : ℕ) (h : a < nonterminalsIn t) (c : Config) {s e : ℕ} → s ≡ ruleAt t a → e
+    ≡ ruleAt t (a + 1)
     → entering t c s e ≡ entered (grammarIn t) c a
 unfolding entering entered
 entering-all t ready a h c p q = ap (map (into c)) (sym (rules-are t ready a h p q))
 
 -- a first place is one of the tables'
-pub first-small : (t : List ℕ) (ready : Ready t) (a : ℕ) (h : a < nonterminalsIn t) {s e : ℕ} → s ≡ ruleAt t a → e ≡ ruleAt t (a + 1) → (k : ℕ) {f : ℕ} → s ≤ k → k < e → f ≡ getD t k 0 → f ≤ endPlace
+pub first-small : (t : List ℕ) (ready : Ready t) (a : ℕ) (h : a < nonterminalsIn t) {s e : ℕ} → s ≡ ruleAt t a → e ≡ ruleAt t (a + 1)
+    → (k : ℕ) {f : ℕ} → s ≤ k → k < e → f ≡ getD t k 0 → f ≤ endPlace
 first-small t ready a h p q k m l d = omega (arith, first-in t ready a h p q k m l d, ready-size t ready)
 
 -- ---- occurrences
@@ -96,15 +98,19 @@ module _ (t : List ℕ) (ready : Ready t) (b a : ℕ) where
   unfolding grammarIn
   places-long = omega (arith, length-map (take placeWords t) placeOf, length-take placeWords t, ready .fits .long)
 
-  behind-cons : (p : ℕ) → p < placeWords → behindFrom a p (drop p (grammarIn t .places)) ≡ cond (calls? a (facing (grammarIn t) p)) (suc p ∷ behindFrom a (suc p) (drop (suc p) (grammarIn t .places))) (behindFrom a (suc p) (drop (suc p) (grammarIn t .places)))
+  behind-cons : (p : ℕ) → p < placeWords → behindFrom a p (drop p (grammarIn t .places))
+      ≡ cond (calls? a (facing (grammarIn t) p)) (suc p ∷ behindFrom a (suc p) (drop (suc p) (grammarIn t .places)))
+      (behindFrom a (suc p) (drop (suc p) (grammarIn t .places)))
   unfolding behindFrom facing
   behind-cons p h = ap (behindFrom a p) (drop-cons (grammarIn t .places) p nowhere (omega (arith, places-long)))
 
-  pub behinds-hit : (p : ℕ) {r : Bool} → p < placeWords → r ≡ calls? a (facing (grammarIn t) p) → r ≡ true → behinds t b a p ≡ config (p + 1) b [] ∷ behinds t b a (p + 1)
+  pub behinds-hit : (p : ℕ) {r : Bool} → p < placeWords → r ≡ calls? a (facing (grammarIn t) p) → r ≡ true → behinds t b a p
+      ≡ config (p + 1) b [] ∷ behinds t b a (p + 1)
   unfolding behinds
   behinds-hit p h e f = rw (behind-cons p h, sym e ∙ f, add-one)
 
-  pub behinds-miss : (p : ℕ) {r : Bool} → p < placeWords → r ≡ calls? a (facing (grammarIn t) p) → r ≡ false → behinds t b a p ≡ behinds t b a (p + 1)
+  pub behinds-miss : (p : ℕ) {r : Bool} → p < placeWords → r ≡ calls? a (facing (grammarIn t) p) → r ≡ false → behinds t b a p
+      ≡ behinds t b a (p + 1)
   unfolding behinds
   behinds-miss p h e f = rw (behind-cons p h, sym e ∙ f, add-one)
 

@@ -37,7 +37,8 @@ empty-stack [] e z = refl
 empty-stack (x ∷ s) e z = absurd (omega arith)
 
 -- with no entries the caller is unknown
-pub unknown-is : (t : List ℕ) (c : Packed) {n a : ℕ} → n ≡ length (configOf c .stack) → n ≡ 0 → a ≡ owner (grammarIn t) (configOf c .place) → Unknown c a
+pub unknown-is : (t : List ℕ) (c : Packed) {n a : ℕ} → n ≡ length (configOf c .stack) → n ≡ 0 → a ≡ owner (grammarIn t) (configOf c .place)
+    → Unknown c a
 unknown-is t c e z own = record { empty = empty-stack (configOf c .stack) e z; small = owner-small t (configOf c .place) own }
 
 module _ (g : Grammar) (c : Config) (ms : List Config) where
@@ -53,7 +54,8 @@ module _ (g : Grammar) (c : Config) (ms : List Config) where
   ends a = map (λ (q : ℕ). config q (c .alternative) []) (cond (eqb a 0) (endPlace ∷ []) [])
 
   module _ {a : ℕ} (empty : c .stack ≡ []) (own : a ≡ owner g (c .place)) where
-    back-empty : then (addAll ms (map (λ (q : ℕ). config q (c .alternative) []) (behindFrom a 0 (g .places)))) (λ m. addAll m (ends a)) ≡ addAll ms (returned g c (c .stack))
+    back-empty : then (addAll ms (map (λ (q : ℕ). config q (c .alternative) []) (behindFrom a 0 (g .places)))) (λ m. addAll m (ends a))
+        ≡ addAll ms (returned g c (c .stack))
     unfolding returned follows ends
     back-empty =
         rw (empty, ← own)
@@ -65,7 +67,8 @@ module _ (g : Grammar) (c : Config) (ms : List Config) where
       back-full e = then-stop A (λ m. addAll m (ends a)) back-empty e
 
       module _ (k : ℕ) (e : r ≡ Count k) where
-        pub back-start : a ≡ 0 → {d : Config} → d ≡ config endPlace (c .alternative) (c .stack) → add (held ws 0 k) d ≡ addAll ms (returned g c (c .stack))
+        pub back-start : a ≡ 0 → {d : Config} → d ≡ config endPlace (c .alternative) (c .stack) → add (held ws 0 k) d
+            ≡ addAll ms (returned g c (c .stack))
         unfolding ends
         back-start z q =
             let w : ends a ≡ config endPlace (c .alternative) [] ∷ [] = rw (eq-eqb a 0 z) in
@@ -76,7 +79,8 @@ module _ (g : Grammar) (c : Config) (ms : List Config) where
         unfolding ends
         back-other n =
             let w : ends a ≡ [] = rw (ne-eqb a 0 n) in
-            grow-count ws k (grow-room A k e) (sym (addAll-none (held ws 0 k)) ∙ ap (addAll (held ws 0 k)) (sym w) ∙ then-on A (λ m. addAll m (ends a)) back-empty k e)
+            grow-count ws k (grow-room A k e)
+            (sym (addAll-none (held ws 0 k)) ∙ ap (addAll (held ws 0 k)) (sym w) ∙ then-on A (λ m. addAll m (ends a)) back-empty k e)
 
 pub back-pop : (g : Grammar) (ms : List Config) {c d : Packed} → Pops c d → add ms (configOf d) ≡ addAll ms (returned g (configOf c) (configOf c .stack))
 back-pop g ms {c} {d} p = pop-is g (configOf c) ms (configOf d) (p .stack) (p .alternative)
@@ -114,15 +118,21 @@ module _ (g : Grammar) where
   close-none k (suc n) ms h = go (getElem? ms k) refl
     where
       go : (o : Option Config) → getElem? ms k ≡ o
-          → (elim o as (λ _. Option (List Config)) [ none ↦ some ms | some c ↦ elim (addAll ms (moves g c)) as (λ _. Option (List Config)) [ none ↦ none | some ms′ ↦ closeFrom g n (suc k) ms′ ] ]) ≡ some ms
+          → (elim o as (λ _. Option (List Config)) [
+            | none ↦ some ms
+            | some c ↦ elim (addAll ms (moves g c)) as (λ _. Option (List Config))
+                [ none ↦ none | some ms′ ↦ closeFrom g n (suc k) ms′ ]
+          ]) ≡ some ms
       go none e = refl
       go (some c) e = absurd (omega (arith, get-below ms k e))
 
-  close-some : (k n : ℕ) (ms : List Config) (c : Config) → getElem? ms k ≡ some c → closeFrom g (suc n) k ms ≡ then (addAll ms (moves g c)) (λ m. closeFrom g n (suc k) m)
+  close-some : (k n : ℕ) (ms : List Config) (c : Config) → getElem? ms k ≡ some c → closeFrom g (suc n) k ms
+      ≡ then (addAll ms (moves g c)) (λ m. closeFrom g n (suc k) m)
   unfolding closeFrom
   close-some k n ms c e = rw (e, closeFrom) (go (addAll ms (moves g c)))
     where
-      go : (o : Option (List Config)) → (elim o as (λ _. Option (List Config)) [ none ↦ none | some m ↦ closeFrom g n (suc k) m ]) ≡ then o (λ m. closeFrom g n (suc k) m)
+      go : (o : Option (List Config)) → (elim o as (λ _. Option (List Config)) [ none ↦ none | some m ↦ closeFrom g n (suc k) m ])
+          ≡ then o (λ m. closeFrom g n (suc k) m)
       go none = refl
       go (some m) = refl
 

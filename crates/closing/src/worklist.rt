@@ -28,10 +28,8 @@ fn push(members: &mut [u32], n: usize, c: Packed, f: usize) -> Added
 // Before nonterminal a: into all its productions.
 fn enter(tables: &[u16], members: &mut [u32], from: usize, c: Packed, a: usize) -> Added
     requires { ⌜ Movable (now tables) (now members) from c × Calling (now tables) c a ⌝ }
-    ensures {
-        λ r. ⌜ Grows r (now (members .exit))
-            (addAll (held (now (members .entry)) 0 from) (entered (grammarIn (now (tables .entry))) (configOf c) a)) ⌝
-    }
+    ensures { λ r. ⌜ Grows r (now (members .exit))
+        (addAll (held (now (members .entry)) 0 from) (entered (grammarIn (now (tables .entry))) (configOf c) a)) ⌝ }
 {
     let start = grammar::rule_at(tables, a);
     let end = grammar::rule_at(tables, a + 1);
@@ -59,10 +57,8 @@ fn calls(tables: &[u16], p: usize, a: usize) -> bool
 // On an empty stack, behind a production of nonterminal a: behind every occurrence of it.
 fn behind(tables: &[u16], members: &mut [u32], from: usize, c: Packed, a: usize) -> Added
     requires { ⌜ Movable (now tables) (now members) from c × Unknown c a ⌝ }
-    ensures {
-        λ r. ⌜ Grows r (now (members .exit)) (addAll (held (now (members .entry)) 0 from)
-            (map (λ (q : ℕ). config q (configOf c .alternative) []) (behindFrom a 0 (grammarIn (now (tables .entry)) .places)))) ⌝
-    }
+    ensures { λ r. ⌜ Grows r (now (members .exit)) (addAll (held (now (members .entry)) 0 from)
+        (map (λ (q : ℕ). config q (configOf c .alternative) []) (behindFrom a 0 (grammarIn (now (tables .entry)) .places)))) ⌝ }
 {
     let size = grammar::size(tables);
     let mut n = from;
@@ -84,10 +80,8 @@ fn behind(tables: &[u16], members: &mut [u32], from: usize, c: Packed, a: usize)
 // place.
 fn back(tables: &[u16], members: &mut [u32], n: usize, c: Packed, a: usize) -> Added
     requires { ⌜ Movable (now tables) (now members) n c × (a ≡ owner (grammarIn (now tables)) (configOf c .place)) ⌝ }
-    ensures {
-        λ r. ⌜ Grows r (now (members .exit)) (addAll (held (now (members .entry)) 0 n)
-            (returned (grammarIn (now (tables .entry))) (configOf c) (configOf c .stack))) ⌝
-    }
+    ensures { λ r. ⌜ Grows r (now (members .exit)) (addAll (held (now (members .entry)) 0 n)
+        (returned (grammarIn (now (tables .entry))) (configOf c) (configOf c .stack))) ⌝ }
 {
     if c.entries() != 0 {
         return configurations::add(members, n, c.popped());
@@ -104,10 +98,8 @@ fn back(tables: &[u16], members: &mut [u32], n: usize, c: Packed, a: usize) -> A
 // The moves of c.
 fn follow(tables: &[u16], members: &mut [u32], n: usize, c: Packed) -> Added
     requires { ⌜ Movable (now tables) (now members) n c ⌝ }
-    ensures {
-        λ r. ⌜ Grows r (now (members .exit))
-            (addAll (held (now (members .entry)) 0 n) (moves (grammarIn (now (tables .entry))) (configOf c))) ⌝
-    }
+    ensures { λ r. ⌜ Grows r (now (members .exit))
+        (addAll (held (now (members .entry)) 0 n) (moves (grammarIn (now (tables .entry))) (configOf c))) ⌝ }
 {
     let place = grammar::place_at(tables, c.place());
     let owner = place.owner;
@@ -122,10 +114,8 @@ fn follow(tables: &[u16], members: &mut [u32], n: usize, c: Packed) -> Added
 // The first members, closed.
 pub fn close(tables: &[u16], members: &mut [u32], from: usize) -> Added
     requires { ⌜ Ready (now tables) × Room (now members) from ⌝ }
-    ensures {
-        λ r. ⌜ Grows r (now (members .exit))
-            (closeFrom (grammarIn (now (tables .entry))) maxMembers 0 (held (now (members .entry)) 0 from)) ⌝
-    }
+    ensures { λ r. ⌜ Grows r (now (members .exit))
+        (closeFrom (grammarIn (now (tables .entry))) maxMembers 0 (held (now (members .entry)) 0 from)) ⌝ }
 {
     let mut n = from;
     let mut k = 0;

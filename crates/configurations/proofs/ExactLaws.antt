@@ -77,7 +77,8 @@ module _ (c : Packed) where
 
 -- ---- exact ones
 -- the words of a configuration that fits and is not too deep
-pub exact-of : (k : Config) → Packable k → length (k .stack) ≤ maxEntries → {c : Packed} → c .head ≡ headKey k → c .stack ≡ stackKey (k .stack) → Packs c k
+pub exact-of : (k : Config) → Packable k → length (k .stack) ≤ maxEntries → {c : Packed} → c .head ≡ headKey k → c .stack
+    ≡ stackKey (k .stack) → Packs c k
 unfolding configOf
 exact-of k h s {c} p q =
     let e : configOf c ≡ k = (λ i. unpack (p i) (q i)) ∙ unpack-key k h in
@@ -112,7 +113,8 @@ module _ (c : Packed) (e : Exact c) where
       = pow-mono {i = returnBits * length (k .stack)} {j = returnBits * (maxEntries - 1)} (omega arith) in
       omega (arith, exact-low, b)
 
-  pub at-is : (p : ℕ) → p ≤ endPlace → {d : Packed} → d .head ≡ c .head / placeRadix * placeRadix + p → d .stack ≡ c .stack → Packs d (config p (k .alternative) (k .stack))
+  pub at-is : (p : ℕ) → p ≤ endPlace → {d : Packed} → d .head ≡ c .head / placeRadix * placeRadix + p → d .stack ≡ c .stack
+      → Packs d (config p (k .alternative) (k .stack))
   unfolding headKey
   at-is p l q s =
       let h = packed-fits c in
@@ -122,13 +124,20 @@ module _ (c : Packed) (e : Exact c) where
       (omega (arith, q, exact-rest))
       (s ∙ sym (e .stack))
 
-  pub entered-is : (f : ℕ) → Enters c f → length (k .stack) < maxEntries → {d : Packed} → d .head ≡ (c .head / placeRadix + alternativeRadix) * placeRadix + f
+  pub entered-is : (f : ℕ) → Enters c f → length (k .stack) < maxEntries → {d : Packed} → d .head
+      ≡ (c .head / placeRadix + alternativeRadix) * placeRadix + f
       → d .stack ≡ c .stack * returnRadix + (c .head % placeRadix + 1) → Packs d (into k f)
   unfolding headKey stackKey
   entered-is f w d q r =
       let h = packed-fits c in
       exact-of (into k f)
-      (record { place = omega (arith, w .begins); alternative = h .alternative; entries = omega arith; returns = λ s i. in-cons s (List·Memᴰ·cases-cons i) })
+      (record {
+        place = omega (arith, w .begins);
+        alternative = h .alternative;
+        entries = omega arith;
+        returns =
+            λ s i. in-cons s (List·Memᴰ·cases-cons i);
+      })
       (omega arith)
       (omega (arith, q, exact-rest))
       (omega (arith, r, place-is c, e .stack))
@@ -182,10 +191,12 @@ module _ (c : Packed) (e : Exact c) where
             alternative = ap (λ (y : Config). y .alternative) (w .is);
           }
 
-pub begun-is : (f b : ℕ) → f ≤ endPlace → b ≤ maxProductions → {c : Packed} → c .head ≡ b * placeRadix + f → c .stack ≡ 0 → Packs c (config f b [])
+pub begun-is : (f b : ℕ) → f ≤ endPlace → b ≤ maxProductions → {c : Packed} → c .head ≡ b * placeRadix + f → c .stack ≡ 0
+    → Packs c (config f b [])
 unfolding headKey stackKey
 begun-is f b h l q s =
-    exact-of (config f b []) (record { place = omega arith; alternative = omega arith; entries = omega arith; returns = λ r m. absurd (List·Memᴰ·not-nil m) })
+    exact-of (config f b []) (record
+    { place = omega arith; alternative = omega arith; entries = omega arith; returns = λ r m. absurd (List·Memᴰ·not-nil m) })
     (omega arith)
     (omega (arith, q))
     s
@@ -193,7 +204,8 @@ begun-is f b h l q s =
 -- ---- one place on
 -- the digits of a head, one place on
 onward-head : (u : ℕ) → u % placeRadix ≤ endPlace
-    → u % headRadix + 1 ≡ suc (u % placeRadix) + placeRadix * (u / placeRadix % alternativeRadix + alternativeRadix * (u / (placeRadix * alternativeRadix) % entriesRadix))
+    → u % headRadix + 1 ≡ suc (u % placeRadix) + placeRadix *
+    (u / placeRadix % alternativeRadix + alternativeRadix * (u / (placeRadix * alternativeRadix) % entriesRadix))
 onward-head u h = omega arith
 
 pub onward-is : (c : Packed) → configOf c .place ≤ endPlace → length (configOf c .stack) ≤ maxEntries → {n : ℕ} → n ≡ length (configOf c .stack)

@@ -65,7 +65,8 @@ addAll-one ms d = addAll-cons ms d [] ∙ go (add ms d)
 
 pub addAll-append : (ds es ms : List Config) → addAll ms (ds ++ es) ≡ then (addAll ms ds) (λ m. addAll m es)
 addAll-append [] es ms = ap (λ (o : Option (List Config)). then o (λ m. addAll m es)) (sym (addAll-none ms))
-addAll-append (d ∷ ds) es ms = addAll-cons ms d (ds ++ es) ∙ go (add ms d) (λ m. addAll-append ds es m) ∙ ap (λ (o : Option (List Config)). then o (λ m. addAll m es)) (sym (addAll-cons ms d ds))
+addAll-append (d ∷ ds) es ms = addAll-cons ms d (ds ++ es) ∙ go (add ms d) (λ m. addAll-append ds es m)
+    ∙ ap (λ (o : Option (List Config)). then o (λ m. addAll m es)) (sym (addAll-cons ms d ds))
   where
     go : (o : Option (List Config)) → ((m : List Config) → addAll m (ds ++ es) ≡ then (addAll m ds) (λ m. addAll m es))
         → then o (λ m. addAll m (ds ++ es)) ≡ then (then o (λ m. addAll m ds)) (λ m. addAll m es)
@@ -73,7 +74,8 @@ addAll-append (d ∷ ds) es ms = addAll-cons ms d (ds ++ es) ∙ go (add ms d) (
     go (some m) rec = rec m
 
 -- a packed configuration added is the one that it packs
-pub grow-packs : {r : Added} {ws : List ℕ} {c : Packed} {d : Config} (ms : List Config) → Packs c d → Grows r ws (add ms (configOf c)) → Grows r ws (add ms d)
+pub grow-packs : {r : Added} {ws : List ℕ} {c : Packed} {d : Config} (ms : List Config) → Packs c d → Grows r ws (add ms (configOf c))
+    → Grows r ws (add ms d)
 grow-packs ms p g = grow-cast (ap (add ms) (p .is)) g
 
 -- ---- a loop over configurations

@@ -107,7 +107,8 @@ module _ {ws : List ℕ} {n : ℕ} (room : Room ws n) where
   exact-at k l e = rw e (room .exact k l)
 
 -- ---- other words
-pub held-same : (ws ws′ : List ℕ) (k n : ℕ) → ((j : ℕ) → k ≤ j → j < k + n → heldAt ws j ≡ heldAt ws′ j) → held ws k n ≡ held ws′ k n
+pub held-same : (ws ws′ : List ℕ) (k n : ℕ) → ((j : ℕ) → k ≤ j → j < k + n → heldAt ws j ≡ heldAt ws′ j) → held ws k n
+    ≡ held ws′ k n
 unfolding held
 held-same ws ws′ k zero h = refl
 held-same ws ws′ k (suc n) h =
@@ -133,7 +134,8 @@ module _ (ws : List ℕ) (i : ℕ) (c : Packed) where
   held-above k n h = held-same (putAt ws i c) ws k n (λ j a b. unstored j (λ e. omega arith))
 
   -- the members stay, if i was one or is the next
-  pub room-put : {n m : ℕ} → Room ws n → Exact c → m ≤ maxMembers → i < maxMembers → ((k : ℕ) → k < m → (k ≡ i → ⊥) → k < n) → Room (putAt ws i c) m
+  pub room-put : {n m : ℕ} → Room ws n → Exact c → m ≤ maxMembers → i < maxMembers → ((k : ℕ) → k < m → (k ≡ i → ⊥) → k < n)
+      → Room (putAt ws i c) m
   room-put {n} {m} room e few here others = record { few = few; long = length-put ws i c ∙ room .long; exact = λ k l. go k l (same? k i) }
     where
       go : (k : ℕ) → k < m → (k ≡ i) ⊎ (k ≡ i → ⊥) → Exact (packedAt (putAt ws i c) k)

@@ -26,7 +26,8 @@ module _ (ws : List ℕ) (k : ℕ) (c : Packed) where
       ∙ length-set ws (configWords * k) (c .head)
 
   -- a word that the store does not touch
-  kept-word : (i : ℕ) → (i ≡ configWords * k → ⊥) → (i ≡ configWords * k + 1 → ⊥) → (i ≡ configWords * k + 2 → ⊥) → getD (putAt ws k c) i 0 ≡ getD ws i 0
+  kept-word : (i : ℕ) → (i ≡ configWords * k → ⊥) → (i ≡ configWords * k + 1 → ⊥) → (i ≡ configWords * k + 2 → ⊥)
+      → getD (putAt ws k c) i 0 ≡ getD ws i 0
   unfolding putAt
   kept-word i a b d =
       getD-set-other two (configWords * k + 2) i (c .stack / wordRadix) 0 d ∙ getD-set-other one (configWords * k + 1) i (c .stack % wordRadix) 0 b
@@ -77,11 +78,13 @@ module _ (ws : List ℕ) (k : ℕ) (c : Packed) where
         let d : configWords * k + 1 ≡ suc (configWords * k) = omega arith in
         let m = length-set ws (configWords * k) (c .head) in
         let l = length-set one (configWords * k + 1) (c .stack % wordRadix) in
-        let p : take (suc (configWords * k + 2)) (set two (configWords * k + 2) (c .stack / wordRadix)) ≡ take (configWords * k + 2) two ++ (c .stack / wordRadix ∷ [])
+        let p : take (suc (configWords * k + 2)) (set two (configWords * k + 2) (c .stack / wordRadix))
+        ≡ take (configWords * k + 2) two ++ (c .stack / wordRadix ∷ [])
         = take-suc-set two (configWords * k + 2) (c .stack / wordRadix) (omega (arith, l, m)) in
         let q : take (suc (configWords * k + 1)) two ≡ take (configWords * k + 1) one ++ (c .stack % wordRadix ∷ [])
         = take-suc-set one (configWords * k + 1) (c .stack % wordRadix) (omega (arith, m)) in
-        let r : take (suc (configWords * k)) one ≡ take (configWords * k) ws ++ (c .head ∷ []) = take-suc-set ws (configWords * k) (c .head) (omega arith) in
+        let r : take (suc (configWords * k)) one ≡ take (configWords * k) ws ++ (c .head ∷ []) =
+        take-suc-set ws (configWords * k) (c .head) (omega arith) in
         let v : take (configWords * k + 2) two ≡ take (configWords * k) ws ++ (c .head ∷ c .stack % wordRadix ∷ [])
         = ap (λ (n : ℕ). take n two) b ∙ q
         ∙ ap (λ (l : List ℕ). l ++ (c .stack % wordRadix ∷ [])) (ap (λ (n : ℕ). take n one) d ∙ r)

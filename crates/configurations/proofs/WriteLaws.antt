@@ -24,7 +24,8 @@ module _ {ms : List ℕ} (f m j : ℕ) (ws : List ℕ) (room : Room ms (f + m)) 
   written-more {c} is has p =
       let e = exact-at room (f + j) (omega arith) is in
       let s : held ms f (j + 1) ≡ held ms f j ++ (configOf c ∷ [])
-      = held-add ms f j 1 ∙ ap (λ (k : List Config). held ms f j ++ k) (held-one ms (f + j) ∙ ap (λ (d : Config). d ∷ []) (sym (said-at ms (f + j) is))) in
+      = held-add ms f j 1 ∙ ap (λ (k : List Config). held ms f j ++ k)
+      (held-one ms (f + j) ∙ ap (λ (d : Config). d ∷ []) (sym (said-at ms (f + j) is))) in
       let z : configWords * (j + 1) ≡ configWords * suc j = omega arith in
       ap (take (configWords * (j + 1))) p ∙ ap (λ (n : ℕ). take n (putAt ws j c)) z ∙ take-put ws j c has e
       ∙ ap (λ (k : List ℕ). k ++ pack (configOf c)) h ∙ sym (ap packAll s ∙ packAll-snoc (held ms f j) (configOf c))

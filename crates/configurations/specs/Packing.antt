@@ -1,4 +1,5 @@
--- Configurations in words: which configuration a packed one is, and how it lies in a row of words. Besides this file, only the code of `config` and `words` and the
+-- Configurations in words: which configuration a packed one is, and how it lies in a row of words. Besides this file, only the code of `config` and `words` and
+-- the
 -- laws in PackLaws, WordLaws, ExactLaws and CompareLaws know how wide anything is.
 use mathlib.Core.Path.{_≡_}
 use mathlib.Core.List.{List, [], _∷_, _++_}

@@ -52,7 +52,8 @@ pairs-in (k ∷ l) c d m n t = go (List·Memᴰ·cases-cons m) (List·Memᴰ·ca
     go (inr a) (inr b) rec = T-or-r (anyOf (conflicts k) l) (pairs l) (rec a b t)
 
 pub shared-pairs : (ks : List Config) → pairs ks ≡ shared ks
-shared-pairs ks = same (pairs ks) (shared ks) (λ t. let h = pairs-out ks t in shared-in ks (h .0) (h .1) (h .2) (h .3) (h .4)) (λ t. let h = shared-out ks t in pairs-in ks (h .0) (h .1) (h .2) (h .3) (h .4))
+shared-pairs ks = same (pairs ks) (shared ks) (λ t. let h = pairs-out ks t in shared-in ks (h .0) (h .1) (h .2) (h .3) (h .4))
+    (λ t. let h = shared-out ks t in pairs-in ks (h .0) (h .1) (h .2) (h .3) (h .4))
 
 -- the pairs of c with those from j on, and those of all from i on, are left to compare
 pub record Paired (ws : List ℕ) (f n i : ℕ) (c : Config) (j : ℕ) : Type 0 where
@@ -89,7 +90,8 @@ module _ (ws : List ℕ) where
 
       pub agreed-next : a ≡ b → agreed b (held ws (k + 1) (n - (k + 1))) ≡ v
       unfolding agreed other
-      agreed-next z = back (anyOf (λ (c : Config). not (eqb (c .alternative) b)) (held ws (k + 1) (n - (k + 1)))) (any-next ws other k n asked l (test-at ws other k is refl (ap not (eq-eqb (configOf c .alternative) b (sym e ∙ z)))))
+      agreed-next z = back (anyOf (λ (c : Config). not (eqb (c .alternative) b)) (held ws (k + 1) (n - (k + 1))))
+          (any-next ws other k n asked l (test-at ws other k is refl (ap not (eq-eqb (configOf c .alternative) b (sym e ∙ z)))))
 
     pub agreed-end : n ≤ k → true ≡ v
     agreed-end l = back false (any-end ws other k n asked l)
@@ -109,7 +111,8 @@ module _ (ws : List ℕ) where
       alone-not z = turn-back true v (any-hit ws (rivals c) k n (turn (anyOf (rivals c) (held ws k (n - k))) h) l (test-at ws (rivals c) k is e z))
 
       pub alone-next : r ≡ false → not (anyOf (rivals c) (held ws (k + 1) (n - (k + 1)))) ≡ v
-      alone-next z = turn-back (anyOf (rivals c) (held ws (k + 1) (n - (k + 1)))) v (any-next ws (rivals c) k n (turn (anyOf (rivals c) (held ws k (n - k))) h) l (test-at ws (rivals c) k is e z))
+      alone-next z = turn-back (anyOf (rivals c) (held ws (k + 1) (n - (k + 1)))) v
+          (any-next ws (rivals c) k n (turn (anyOf (rivals c) (held ws k (n - k))) h) l (test-at ws (rivals c) k is e z))
 
     pub alone-end : n ≤ k → true ≡ v
     alone-end l = turn-back false v (any-end ws (rivals c) k n (turn (anyOf (rivals c) (held ws k (n - k))) h) l)
@@ -152,10 +155,12 @@ module _ (ws : List ℕ) where
   module _ (c : Config) (j n : ℕ) (w : Bool) {v : Bool} (h : (anyOf (conflicts c) (held ws j (n - j)) || w) ≡ v) where
     module _ (l : j < n) {d : Packed} {r : Bool} (is : d ≡ packedAt ws j) (e : r ≡ conflicts c (configOf d)) where
       pub pair-hit : r ≡ true → true ≡ v
-      pair-hit z = let y : true ≡ anyOf (conflicts c) (held ws j (n - j)) = any-hit ws (conflicts c) j n refl l (test-at ws (conflicts c) j is e z) in ap (λ (b : Bool). b || w) y ∙ h
+      pair-hit z = let y : true ≡ anyOf (conflicts c) (held ws j (n - j)) = any-hit ws (conflicts c) j n refl l (test-at ws (conflicts c) j is e z) in
+          ap (λ (b : Bool). b || w) y ∙ h
 
       pub pair-next : r ≡ false → (anyOf (conflicts c) (held ws (j + 1) (n - (j + 1))) || w) ≡ v
-      pair-next z = let y : anyOf (conflicts c) (held ws (j + 1) (n - (j + 1))) ≡ anyOf (conflicts c) (held ws j (n - j)) = any-next ws (conflicts c) j n refl l (test-at ws (conflicts c) j is e z) in ap (λ (b : Bool). b || w) y ∙ h
+      pair-next z = let y : anyOf (conflicts c) (held ws (j + 1) (n - (j + 1))) ≡ anyOf (conflicts c) (held ws j (n - j)) =
+          any-next ws (conflicts c) j n refl l (test-at ws (conflicts c) j is e z) in ap (λ (b : Bool). b || w) y ∙ h
 
     pub pair-end : n ≤ j → w ≡ v
     pair-end l = let y : false ≡ anyOf (conflicts c) (held ws j (n - j)) = any-end ws (conflicts c) j n refl l in ap (λ (b : Bool). b || w) y ∙ h
@@ -169,7 +174,8 @@ module _ (ws : List ℕ) where
     unfolding Judges judged
     judge-none l = rw (held-none ws f n l)
 
-    module _ (l : f < n) {c : Packed} {a : ℕ} (at : c ≡ packedAt ws f) (e : a ≡ configOf c .alternative) {r : Bool} (d : r ≡ agreed a (held ws (f + 1) (n - (f + 1)))) where
+    module _ (l : f < n) {c : Packed} {a : ℕ} (at : c ≡ packedAt ws f) (e : a ≡ configOf c .alternative) {r : Bool}
+        (d : r ≡ agreed a (held ws (f + 1) (n - (f + 1)))) where
       is : heldAt ws f .alternative ≡ a
       is = ap (λ (k : Config). k .alternative) (sym (said-at ws f at)) ∙ sym e
 
@@ -177,7 +183,8 @@ module _ (ws : List ℕ) where
       unfolding judged
       split =
           let s = held-first ws f n l in
-          let z : judged (heldAt ws f ∷ held ws (f + 1) (n - (f + 1))) ≡ cond r (alternative a) (resolved (heldAt ws f ∷ held ws (f + 1) (n - (f + 1)))) = rw (is, ← d) in
+          let z : judged (heldAt ws f ∷ held ws (f + 1) (n - (f + 1)))
+          ≡ cond r (alternative a) (resolved (heldAt ws f ∷ held ws (f + 1) (n - (f + 1)))) = rw (is, ← d) in
           ap judged s ∙ z ∙ ap (λ (m : List Config). cond r (alternative a) (resolved m)) (sym s)
 
       pub judge-agreed : r ≡ true → Judges (Alternative a) ks (judged ks)

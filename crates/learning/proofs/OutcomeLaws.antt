@@ -23,7 +23,8 @@ use Rattle.learning.specs.Told.{Tells, Judges, outcomeOf}
 
 -- ---- the outcome as a whole
 -- the close gave nothing
-pub finish-over : {r : Added} {ms : List ℕ} {o : Option (List Config)} (g : Grammar) → Grows r ms o → r ≡ Full → (ws : List ℕ) → Tells tells.Full ws (outcomeOf g o)
+pub finish-over : {r : Added} {ms : List ℕ} {o : Option (List Config)} (g : Grammar) → Grows r ms o → r ≡ Full → (ws : List ℕ)
+    → Tells tells.Full ws (outcomeOf g o)
 unfolding Tells outcomeOf heldAfter
 finish-over {r} {ms} {o} g a e ws =
     let q : none ≡ o = subst (λ (y : Added). heldAfter y ms ≡ o) e (a .is) in
@@ -94,7 +95,8 @@ module _ (g : Grammar) (start : List Config) where
   outcome-is = go (addAll [] start)
     where
       go : (o : Option (List Config))
-          → (elim (elim o as (λ _. Option (List Config)) [ none ↦ none | some ms ↦ closeFrom g maxMembers 0 ms ]) as (λ _. Outcome) [ none ↦ full | some ms ↦ limited (kept g ms) ]) ≡ outcomeOf g (then o (λ ms. closeFrom g maxMembers 0 ms))
+          → (elim (elim o as (λ _. Option (List Config)) [ none ↦ none | some ms ↦ closeFrom g maxMembers 0 ms ]) as (λ _. Outcome)
+          [ none ↦ full | some ms ↦ limited (kept g ms) ]) ≡ outcomeOf g (then o (λ ms. closeFrom g maxMembers 0 ms))
       go none = refl
       go (some ms) = inner (closeFrom g maxMembers 0 ms)
         where
@@ -109,9 +111,11 @@ module _ (g : Grammar) (start : List Config) where
         let q : none ≡ addAll [] start = subst (λ (y : Added). heldAfter y ms ≡ addAll [] start) e (a .is) in
         outcome-is ∙ ap (λ (o : Option (List Config)). outcomeOf g (then o (λ ms. closeFrom g maxMembers 0 ms))) (sym q)
 
-    learn-on : (n : ℕ) → r ≡ Count n → (x : told.Outcome) (ws : List ℕ) → Tells x ws (outcomeOf g (closeFrom g maxMembers 0 (held ms 0 n))) → Tells x ws (outcome g start)
+    learn-on : (n : ℕ) → r ≡ Count n → (x : told.Outcome) (ws : List ℕ) → Tells x ws (outcomeOf g (closeFrom g maxMembers 0 (held ms 0 n)))
+        → Tells x ws (outcome g start)
     learn-on n e x ws t =
-        let q : closeFrom g maxMembers 0 (held ms 0 n) ≡ then (addAll [] start) (λ ms. closeFrom g maxMembers 0 ms) = then-on a (λ ms. closeFrom g maxMembers 0 ms) refl n e in
+        let q : closeFrom g maxMembers 0 (held ms 0 n) ≡ then (addAll [] start) (λ ms. closeFrom g maxMembers 0 ms) =
+        then-on a (λ ms. closeFrom g maxMembers 0 ms) refl n e in
         subst (Tells x ws) (ap (outcomeOf g) q ∙ sym outcome-is) t
 
 module _ (g : Grammar) (a : ℕ) {r : Added} {ms : List ℕ} (A : Grows r ms (addAll [] (startConfigs g a))) where
@@ -119,7 +123,8 @@ module _ (g : Grammar) (a : ℕ) {r : Added} {ms : List ℕ} (A : Grows r ms (ad
   unfolding startOutcome
   start-full e ws = learn-full g (startConfigs g a) A e ws
 
-  pub start-on : (n : ℕ) → r ≡ Count n → (x : told.Outcome) (ws : List ℕ) → Tells x ws (outcomeOf g (closeFrom g maxMembers 0 (held ms 0 n))) → Tells x ws (startOutcome g a)
+  pub start-on : (n : ℕ) → r ≡ Count n → (x : told.Outcome) (ws : List ℕ) → Tells x ws (outcomeOf g (closeFrom g maxMembers 0 (held ms 0 n)))
+      → Tells x ws (startOutcome g a)
   unfolding startOutcome
   start-on n e x ws t = learn-on g (startConfigs g a) A n e x ws t
 
@@ -128,6 +133,7 @@ module _ (g : Grammar) (t : ℕ) (ks : List Config) {r : Added} {ms : List ℕ} 
   unfolding stepOutcome
   step-full e ws = learn-full g (stepConfigs g t ks) A e ws
 
-  pub step-on : (n : ℕ) → r ≡ Count n → (x : told.Outcome) (ws : List ℕ) → Tells x ws (outcomeOf g (closeFrom g maxMembers 0 (held ms 0 n))) → Tells x ws (stepOutcome g t ks)
+  pub step-on : (n : ℕ) → r ≡ Count n → (x : told.Outcome) (ws : List ℕ) → Tells x ws (outcomeOf g (closeFrom g maxMembers 0 (held ms 0 n)))
+      → Tells x ws (stepOutcome g t ks)
   unfolding stepOutcome
   step-on n e x ws t′ = learn-on g (stepConfigs g t ks) A n e x ws t′

@@ -21,10 +21,8 @@ ghost use Rattle.learning.specs.Told.{Tells, outcomeOf, Begins, Finishes
 // The outcome of the first members.
 fn finish(tables: &[u16], members: &mut [u32], from: usize, kept: &mut [u32]) -> Outcome
     requires { ⌜ Finishes (now tables) (now members) from (now kept) ⌝ }
-    ensures {
-        λ r. ⌜ Tells r (now (kept .exit)) (outcomeOf (grammarIn (now (tables .entry)))
-            (closeFrom (grammarIn (now (tables .entry))) maxMembers 0 (held (now (members .entry)) 0 from))) ⌝
-    }
+    ensures { λ r. ⌜ Tells r (now (kept .exit)) (outcomeOf (grammarIn (now (tables .entry)))
+        (closeFrom (grammarIn (now (tables .entry))) maxMembers 0 (held (now (members .entry)) 0 from))) ⌝ }
 {
     let Added::Count(n) = closing::close(tables, members, from) else {
         return Outcome::Full;
@@ -46,9 +44,7 @@ fn finish(tables: &[u16], members: &mut [u32], from: usize, kept: &mut [u32]) ->
 // The first place of each production of nonterminal a; alternatives count from 1.
 fn begin(tables: &[u16], members: &mut [u32], a: usize) -> Added
     requires { ⌜ Begins (now tables) (now members) a ⌝ }
-    ensures {
-        λ r. ⌜ Grows r (now (members .exit)) (addAll [] (startConfigs (grammarIn (now (tables .entry))) a)) ⌝
-    }
+    ensures { λ r. ⌜ Grows r (now (members .exit)) (addAll [] (startConfigs (grammarIn (now (tables .entry))) a)) ⌝ }
 {
     let start = grammar::rule_at(tables, a);
     let end = grammar::rule_at(tables, a + 1);
@@ -69,9 +65,7 @@ fn begin(tables: &[u16], members: &mut [u32], a: usize) -> Added
 // Whether token t may stand where c is.
 fn passes(tables: &[u16], t: usize, c: Packed) -> bool
     requires { ⌜ length (now tables) ≡ tableWords ⌝ }
-    ensures {
-        λ r. ⌜ r ≡ passes (grammarIn (now (tables .entry))) t (facing (grammarIn (now (tables .entry))) (configOf c .place)) ⌝
-    }
+    ensures { λ r. ⌜ r ≡ passes (grammarIn (now (tables .entry))) t (facing (grammarIn (now (tables .entry))) (configOf c .place)) ⌝ }
 {
     let place = grammar::place_at(tables, c.place());
     let symbol = place.symbol;
@@ -96,10 +90,8 @@ fn pass(members: &mut [u32], n: usize, c: Packed) -> Added
 // The configurations of a state that face token t, one place on.
 fn advance(tables: &[u16], t: usize, configs: &[u32], members: &mut [u32]) -> Added
     requires { ⌜ Ready (now tables) × (length (now members) ≡ memberWords) ⌝ }
-    ensures {
-        λ r. ⌜ Grows r (now (members .exit))
-            (addAll [] (stepConfigs (grammarIn (now (tables .entry))) t (unpackAll (now (configs .entry))))) ⌝
-    }
+    ensures { λ r. ⌜ Grows r (now (members .exit))
+        (addAll [] (stepConfigs (grammarIn (now (tables .entry))) t (unpackAll (now (configs .entry))))) ⌝ }
 {
     let count = configs.len() / configurations::CONFIG_WORDS;
     let mut n = 0;
@@ -132,9 +124,7 @@ pub fn start(tables: &[u16], a: usize, kept: &mut [u32]) -> Outcome
 // The outcome of a step over token t from the state whose words are `configs`. Any words say configurations.
 pub fn step(tables: &[u16], t: usize, configs: &[u32], kept: &mut [u32]) -> Outcome
     requires { ⌜ Ready (now tables) × (length (now configs) ≤ keptWords) × (length (now kept) ≡ keptWords) ⌝ }
-    ensures {
-        λ r. ⌜ Tells r (now (kept .exit)) (stepOutcome (grammarIn (now (tables .entry))) t (unpackAll (now (configs .entry)))) ⌝
-    }
+    ensures { λ r. ⌜ Tells r (now (kept .exit)) (stepOutcome (grammarIn (now (tables .entry))) t (unpackAll (now (configs .entry)))) ⌝ }
 {
     let mut members = [0u32; configurations::MEMBER_WORDS];
     let Added::Count(n) = advance(tables, t, configs, &mut members) else {

@@ -90,9 +90,7 @@ fn settled(members: &[u32], first: usize, n: usize) -> bool
 // Rules 2 to 5, in order.
 pub fn judge(members: &[u32], first: usize, n: usize) -> Outcome
     requires { ⌜ Room (now members) n × (first ≤ n) ⌝ }
-    ensures {
-        λ r. ⌜ Judges r (held (now (members .entry)) first (n - first)) (judged (held (now (members .entry)) first (n - first))) ⌝
-    }
+    ensures { λ r. ⌜ Judges r (held (now (members .entry)) first (n - first)) (judged (held (now (members .entry)) first (n - first))) ⌝ }
 {
     if first == n {
         return Outcome::Full;

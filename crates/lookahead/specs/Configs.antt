@@ -37,7 +37,8 @@ pub data Moves (g : Grammar) (c : Config) : Config → Type 0 where
   -- at a production's end: pop
   pop : {r : ℕ} {s : List ℕ} → facing g (c .place) ≡ End → c .stack ≡ r ∷ s → Moves g c (config r (c .alternative) s)
   -- with an empty stack: go behind any occurrence of that nonterminal in the grammar
-  behind : {q : ℕ} → facing g (c .place) ≡ End → c .stack ≡ [] → facing g q ≡ Nonterminal (owner g (c .place)) → Moves g c (config (suc q) (c .alternative) [])
+  behind : {q : ℕ} → facing g (c .place) ≡ End → c .stack ≡ [] → facing g q ≡ Nonterminal (owner g (c .place))
+      → Moves g c (config (suc q) (c .alternative) [])
   -- and, for the start symbol, to the end place
   end : facing g (c .place) ≡ End → c .stack ≡ [] → owner g (c .place) ≡ 0 → Moves g c (config endPlace (c .alternative) [])
 

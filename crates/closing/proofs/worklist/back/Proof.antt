@@ -76,7 +76,8 @@ returns-3 c =
     let at-entries = at-behind .before .before .before in
     let at-entry = at-entries .before .before .before in
     let caller = unknown-is _ _ (at-entries .entries .ensures) (omega arith) (at-entry .pre .1) in
-    grow-cast (back-start _ _ _ (caller .empty) (at-entry .pre .1) (at-behind .behind .ensures) _ (at-k .k .given .1) (at-if2 .if2 .taken) (at-at .at .ensures .is)) (at-add2 .add2 .ensures)
+    grow-cast (back-start _ _ _ (caller .empty) (at-entry .pre .1) (at-behind .behind .ensures) _ (at-k .k .given .1) (at-if2 .if2 .taken)
+    (at-at .at .ensures .is)) (at-add2 .add2 .ensures)
 
 same-length-4 : tie.Need-same-length-4
 same-length-4 c = search needs

@@ -1,6 +1,6 @@
 -- `closing::worklist::behind` meets its contract: the occurrences from place p on are left to go behind.
 use borrow.Author.Needs.{needs}
-use mathlib.Core.Path.{ap, sym}
+use mathlib.Core.Path.{ap}
 use mathlib.Core.List.{[], map}
 use Prim.Native.Nat.{ℕ, _≤_, _-_}
 use native.Mathlib.Omega.{arith}
@@ -77,7 +77,8 @@ returns c =
     let at-entry = at-size .before .before .before in
     let small = within _ (at-entry .pre .0 .ready) (at-size .size .ensures) (in-loop .loop-test .taken) in
     let hit = behinds-hit _ (at-entry .pre .0 .ready) _ _ _ (omega arith) (at-calls .calls .ensures) (at-if1 .if1 .taken) in
-    left-stop (at-loop .loop .inv .1) hit (grow-packs _ (at-empty (at-entry .args .c) (at-entry .pre .1 .empty) (at-at .at .ensures)) (at-add .add .ensures)) (c .enum-told .given .1)
+    left-stop (at-loop .loop .inv .1) hit (grow-packs _ (at-empty (at-entry .args .c) (at-entry .pre .1 .empty) (at-at .at .ensures)) (at-add .add .ensures))
+    (c .enum-told .given .1)
 
 loop-less : tie.Need-loop-less Inv-loop μ-loop
 loop-less c = search needs
@@ -94,8 +95,11 @@ loop-again c =
     let at-size = at-loop .before in
     let at-entry = at-size .before .before .before in
     let small = within _ (at-entry .pre .0 .ready) (at-size .size .ensures) (in-loop .loop-test .taken) in
-    let hit = behinds-hit _ (at-entry .pre .0 .ready) _ _ _ (omega arith) (at-calls .calls .ensures) (at-if1 .if1 .taken) in
-    (omega arith, left-on (at-loop .loop .inv .1) hit (grow-packs _ (at-empty (at-entry .args .c) (at-entry .pre .1 .empty) (at-at .at .ensures)) (at-add .add .ensures)) _ (at-m .m .given .1))
+    let hit = behinds-hit _ (at-entry .pre .0 .ready) _ _ _ (omega arith) (at-calls .calls .ensures) (at-if1 .if1 .taken) in (
+      omega arith,
+      left-on (at-loop .loop .inv .1) hit
+          (grow-packs _ (at-empty (at-entry .args .c) (at-entry .pre .1 .empty) (at-at .at .ensures)) (at-add .add .ensures)) _ (at-m .m .given .1),
+    )
 
 loop-less-2 : tie.Need-loop-less-2 Inv-loop μ-loop
 loop-less-2 c = search needs
@@ -119,7 +123,8 @@ returns-2 c =
     let at-size = at-loop .before in
     let at-entry = at-size .before .before .before in
     let few = ready-size _ (at-entry .pre .0 .ready) in
-    left-none (at-loop .loop .inv .1) (behinds-none _ (at-entry .pre .0 .ready) _ _ _ (omega (arith, at-size .size .ensures)) (omega (arith, at-size .size .ensures, c .loop-test .left)))
+    left-none (at-loop .loop .inv .1)
+    (behinds-none _ (at-entry .pre .0 .ready) _ _ _ (omega (arith, at-size .size .ensures)) (omega (arith, at-size .size .ensures, c .loop-test .left)))
 
 pub behind-spec : {M : Type 1} → statement M
 behind-spec =

@@ -13,7 +13,8 @@ use Rattle.closing.proofs.worklist.close.Statement.{statement}
 use Rattle.closing.proofs.worklist.close.Tie as tie
 
 abbrev Inv-loop : tie.InvT-loop
-Inv-loop tables members₀ from n₀ k₀ members n k = Room members n × (closeFrom (grammarIn tables) (maxMembers - k) k (held members 0 n) ≡ closeFrom (grammarIn tables) maxMembers 0 (held members₀ 0 from))
+Inv-loop tables members₀ from n₀ k₀ members n k = Room members n
+    × (closeFrom (grammarIn tables) (maxMembers - k) k (held members 0 n) ≡ closeFrom (grammarIn tables) maxMembers 0 (held members₀ 0 from))
 
 abbrev μ-loop : tie.MeasureT-loop
 μ-loop tables members₀ from n₀ k₀ members n k = maxMembers - k
@@ -52,7 +53,8 @@ returns c =
     let at-member = at-follow .before .before in
     let in-loop = at-member .before .before in
     let at-loop = in-loop .before in
-    close-stop _ _ _ _ (at-loop .loop .inv .1) (in-loop .loop-test .taken) (at-loop .loop .inv .0 .few) (at-member .member .ensures) (at-follow .follow .ensures) (c .enum-told .given .1)
+    close-stop _ _ _ _ (at-loop .loop .inv .1) (in-loop .loop-test .taken) (at-loop .loop .inv .0 .few) (at-member .member .ensures)
+    (at-follow .follow .ensures) (c .enum-told .given .1)
 
 add-k : tie.Need-add-k Inv-loop μ-loop
 add-k c =
@@ -72,7 +74,8 @@ loop-again c =
     let in-loop = at-member .before .before in
     let at-loop = in-loop .before in
     let grown = at-follow .follow .ensures in
-    let next = close-on _ _ _ _ (at-loop .loop .inv .1) (in-loop .loop-test .taken) (at-loop .loop .inv .0 .few) (at-member .member .ensures) grown _ (at-m .m .given .1) in
+    let next = close-on _ _ _ _ (at-loop .loop .inv .1) (in-loop .loop-test .taken) (at-loop .loop .inv .0 .few) (at-member .member .ensures) grown _
+    (at-m .m .given .1) in
     (grow-room grown _ (at-m .m .given .1), next)
 
 same-length-2 : tie.Need-same-length-2 Inv-loop μ-loop

@@ -15,7 +15,8 @@ use Rattle.closing.proofs.worklist.enter.Statement.{statement}
 use Rattle.closing.proofs.worklist.enter.Tie as tie
 
 abbrev Inv-loop : tie.InvT-loop
-Inv-loop tables members₀ from c a start end n₀ k₀ members n k = (start ≤ k) × Left members n (entering tables (configOf c) k end) (addAll (held members₀ 0 from) (entered (grammarIn tables) (configOf c) a))
+Inv-loop tables members₀ from c a start end n₀ k₀ members n k = (start ≤ k)
+    × Left members n (entering tables (configOf c) k end) (addAll (held members₀ 0 from) (entered (grammarIn tables) (configOf c) a))
 
 abbrev μ-loop : tie.MeasureT-loop
 μ-loop tables members₀ from c a start end n₀ k₀ members n k = end - k
@@ -38,8 +39,14 @@ rule-at-requires-2 c κs =
 loop-holds : tie.Need-loop-holds Inv-loop μ-loop
 loop-holds c =
     let at-rule-at = c .before in
-    let at-entry = at-rule-at .before .before .before in
-    (omega arith, record { room = at-entry .pre .0 .room; same = ap (addAll _) (entering-all _ (at-entry .pre .0 .ready) _ (at-entry .pre .1 .named) _ (at-rule-at .rule-at .ensures) (c .rule-at2 .ensures)) })
+    let at-entry = at-rule-at .before .before .before in (
+      omega arith,
+      record {
+        room = at-entry .pre .0 .room;
+        same =
+            ap (addAll _) (entering-all _ (at-entry .pre .0 .ready) _ (at-entry .pre .1 .named) _ (at-rule-at .rule-at .ensures) (c .rule-at2 .ensures));
+      },
+    )
 
 first-place-requires : tie.Need-first-place-requires Inv-loop μ-loop
 first-place-requires c κs =
@@ -57,7 +64,8 @@ push-requires c κs =
     let at-rule-at2 = at-loop .before in
     let at-rule-at = at-rule-at2 .before in
     let at-entry = at-rule-at .before .before .before in
-    let small = first-small _ (at-entry .pre .0 .ready) _ (at-entry .pre .1 .named) (at-rule-at .rule-at .ensures) (at-rule-at2 .rule-at2 .ensures) _ (at-loop .loop .inv .0) (in-loop .loop-test .taken) (at-first-place .first-place .ensures) in
+    let small = first-small _ (at-entry .pre .0 .ready) _ (at-entry .pre .1 .named) (at-rule-at .rule-at .ensures) (at-rule-at2 .rule-at2 .ensures) _
+    (at-loop .loop .inv .0) (in-loop .loop-test .taken) (at-first-place .first-place .ensures) in
     (at-loop .loop .inv .1 .room, record { exact = at-entry .pre .0 .exact; before = at-entry .pre .1 .before; begins = small })
 
 enum-known-m : tie.Need-enum-known-m Inv-loop μ-loop

@@ -49,8 +49,11 @@ loop-again c =
     let at-equals = c .before in
     let at-member = at-equals .before in
     let in-loop = at-member .before in
-    let at-loop = in-loop .before in
-    (omega arith, find-next _ _ _ _ (at-loop .loop .inv .1) (at-member .member .ensures) (at-equals .equals .ensures) (in-loop .loop-test .taken) (c .if1 .left))
+    let at-loop = in-loop .before in (
+      omega arith,
+      find-next _ _ _ _ (at-loop .loop .inv .1) (at-member .member .ensures) (at-equals .equals .ensures) (in-loop .loop-test .taken)
+          (c .if1 .left),
+    )
 
 returns-2 : tie.Need-returns-2 Inv-loop μ-loop
 returns-2 c =

@@ -52,8 +52,12 @@ loop-again c =
     let at-member = at-put .before in
     let in-loop = at-member .before .before in
     let at-loop = in-loop .before in
-    let at-entry = at-loop .before .before .before in
-    (omega arith, ap length (at-put .put .ensures) ∙ length-put _ _ _ ∙ at-loop .loop .inv .1, written-more _ _ _ _ (at-entry .pre .0) (in-loop .loop-test .taken) (at-loop .loop .inv .2) (at-member .member .ensures) (omega (arith, at-entry .pre .1, at-loop .loop .inv .1)) (at-put .put .ensures))
+    let at-entry = at-loop .before .before .before in (
+      omega arith,
+      ap length (at-put .put .ensures) ∙ length-put _ _ _ ∙ at-loop .loop .inv .1,
+      written-more _ _ _ _ (at-entry .pre .0) (in-loop .loop-test .taken) (at-loop .loop .inv .2) (at-member .member .ensures)
+          (omega (arith, at-entry .pre .1, at-loop .loop .inv .1)) (at-put .put .ensures),
+    )
 
 same-length : tie.Need-same-length Inv-loop μ-loop
 same-length c = search needs

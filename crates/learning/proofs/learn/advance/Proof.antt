@@ -15,7 +15,8 @@ use Rattle.learning.proofs.learn.advance.Statement.{statement}
 use Rattle.learning.proofs.learn.advance.Tie as tie
 
 abbrev Inv-loop : tie.InvT-loop
-Inv-loop tables t configs members₀ count n₀ j₀ members n j = (j ≤ count) × Left members n (stepping tables t configs j) (addAll [] (stepConfigs (grammarIn tables) t (unpackAll configs)))
+Inv-loop tables t configs members₀ count n₀ j₀ members n j = (j ≤ count)
+    × Left members n (stepping tables t configs j) (addAll [] (stepConfigs (grammarIn tables) t (unpackAll configs)))
 
 abbrev μ-loop : tie.MeasureT-loop
 μ-loop tables t configs members₀ count n₀ j₀ members n j = count - j
@@ -88,8 +89,11 @@ loop-again-2 c =
     let at-passes = c .before in
     let at-member = at-passes .before in
     let in-loop = at-member .before in
-    let at-loop = in-loop .before in
-    (omega arith, left-by (at-loop .loop .inv .1) (stepping-by _ _ _ _ refl (in-loop .loop-test .taken) (at-member .member .ensures) (at-passes .passes .ensures) (c .if1 .left)))
+    let at-loop = in-loop .before in (
+      omega arith,
+      left-by (at-loop .loop .inv .1)
+          (stepping-by _ _ _ _ refl (in-loop .loop-test .taken) (at-member .member .ensures) (at-passes .passes .ensures) (c .if1 .left)),
+    )
 
 same-length-2 : tie.Need-same-length-2 Inv-loop μ-loop
 same-length-2 c = search needs

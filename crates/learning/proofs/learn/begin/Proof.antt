@@ -14,7 +14,8 @@ use Rattle.learning.proofs.learn.begin.Statement.{statement}
 use Rattle.learning.proofs.learn.begin.Tie as tie
 
 abbrev Inv-loop : tie.InvT-loop
-Inv-loop tables members₀ a start end n₀ k₀ members n k = (start ≤ k) × Left members n (starting tables start k end) (addAll [] (startConfigs (grammarIn tables) a))
+Inv-loop tables members₀ a start end n₀ k₀ members n k = (start ≤ k)
+    × Left members n (starting tables start k end) (addAll [] (startConfigs (grammarIn tables) a))
 
 abbrev μ-loop : tie.MeasureT-loop
 μ-loop tables members₀ a start end n₀ k₀ members n k = end - k
@@ -37,8 +38,11 @@ rule-at-requires-2 c κs =
 loop-holds : tie.Need-loop-holds Inv-loop μ-loop
 loop-holds c =
     let at-rule-at = c .before in
-    let at-entry = at-rule-at .before .before .before in
-    (omega arith, blank-left _ (at-entry .pre .long) (starting-all _ (at-entry .pre .ready) _ (at-entry .pre .named) (at-rule-at .rule-at .ensures) (c .rule-at2 .ensures)))
+    let at-entry = at-rule-at .before .before .before in (
+      omega arith,
+      blank-left _ (at-entry .pre .long)
+          (starting-all _ (at-entry .pre .ready) _ (at-entry .pre .named) (at-rule-at .rule-at .ensures) (c .rule-at2 .ensures)),
+    )
 
 first-place-requires : tie.Need-first-place-requires Inv-loop μ-loop
 first-place-requires c κs =
@@ -58,7 +62,11 @@ add-begun c =
     let at-rule-at2 = at-loop .before in
     let at-rule-at = at-rule-at2 .before in
     let at-entry = at-rule-at .before .before .before in
-    omega (arith, number-small _ (at-entry .pre .ready) _ (at-entry .pre .named) (at-rule-at .rule-at .ensures) (at-rule-at2 .rule-at2 .ensures) _ (at-loop .loop .inv .0) (in-loop .loop-test .taken))
+    omega (
+      arith,
+      number-small _ (at-entry .pre .ready) _ (at-entry .pre .named) (at-rule-at .rule-at .ensures) (at-rule-at2 .rule-at2 .ensures) _
+          (at-loop .loop .inv .0) (in-loop .loop-test .taken),
+    )
 
 begun-requires : tie.Need-begun-requires Inv-loop μ-loop
 begun-requires c κs =
@@ -67,8 +75,10 @@ begun-requires c κs =
     let at-rule-at2 = at-loop .before in
     let at-rule-at = at-rule-at2 .before in
     let at-entry = at-rule-at .before .before .before in
-    let first = first-small _ (at-entry .pre .ready) _ (at-entry .pre .named) (at-rule-at .rule-at .ensures) (at-rule-at2 .rule-at2 .ensures) _ (at-loop .loop .inv .0) (in-loop .loop-test .taken) (c .first-place .ensures) in
-    let few = number-small _ (at-entry .pre .ready) _ (at-entry .pre .named) (at-rule-at .rule-at .ensures) (at-rule-at2 .rule-at2 .ensures) _ (at-loop .loop .inv .0) (in-loop .loop-test .taken) in
+    let first = first-small _ (at-entry .pre .ready) _ (at-entry .pre .named) (at-rule-at .rule-at .ensures) (at-rule-at2 .rule-at2 .ensures) _
+    (at-loop .loop .inv .0) (in-loop .loop-test .taken) (c .first-place .ensures) in
+    let few = number-small _ (at-entry .pre .ready) _ (at-entry .pre .named) (at-rule-at .rule-at .ensures) (at-rule-at2 .rule-at2 .ensures) _
+    (at-loop .loop .inv .0) (in-loop .loop-test .taken) in
     (first, few)
 
 add-requires : tie.Need-add-requires Inv-loop μ-loop

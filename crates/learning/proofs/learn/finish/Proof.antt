@@ -75,8 +75,10 @@ write-requires c κs =
     let at-n = at-sort .before .before .before in
     let at-close = at-n .before .before .before .before in
     let at-entry = at-close .before .before .before .before .before in
-    let few = state-few _ (at-close .close .ensures) _ (at-n .n .given .1) _ (at-sort .sort .ensures) _ (at-first .first .given .1) (at-judge .judge .ensures) _ (at-outcome2 .outcome2 .given .1) in
-    let room = state-room _ (at-close .close .ensures) _ (at-n .n .given .1) _ (at-sort .sort .ensures) _ (at-first .first .given .1) (at-judge .judge .ensures) _ (at-outcome2 .outcome2 .given .1) in
+    let few = state-few _ (at-close .close .ensures) _ (at-n .n .given .1) _ (at-sort .sort .ensures) _ (at-first .first .given .1) (at-judge .judge .ensures)
+    _ (at-outcome2 .outcome2 .given .1) in
+    let room = state-room _ (at-close .close .ensures) _ (at-n .n .given .1) _ (at-sort .sort .ensures) _ (at-first .first .given .1)
+    (at-judge .judge .ensures) _ (at-outcome2 .outcome2 .given .1) in
     (room, omega (arith, at-entry .pre .long, few))
 
 same-length-3 : tie.Need-same-length-3
@@ -89,7 +91,8 @@ returns-3 c =
     let at-sort = at-first .before .before .before .before in
     let at-n = at-sort .before .before .before in
     let at-close = at-n .before .before .before .before in
-    finish-full _ (at-close .close .ensures) _ (at-n .n .given .1) _ (at-sort .sort .ensures) _ (at-first .first .given .1) (at-judge .judge .ensures) (c .enum-told3 .given .1) _
+    finish-full _ (at-close .close .ensures) _ (at-n .n .given .1) _ (at-sort .sort .ensures) _ (at-first .first .given .1) (at-judge .judge .ensures)
+    (c .enum-told3 .given .1) _
 
 same-length-4 : tie.Need-same-length-4
 same-length-4 c = search needs
@@ -102,7 +105,8 @@ returns-4 c =
     let at-sort = at-first .before .before .before .before in
     let at-n = at-sort .before .before .before in
     let at-close = at-n .before .before .before .before in
-    finish-alternative _ (at-close .close .ensures) _ (at-n .n .given .1) _ (at-sort .sort .ensures) _ (at-first .first .given .1) (at-judge .judge .ensures) _ (at-outcome .outcome .given .1) _
+    finish-alternative _ (at-close .close .ensures) _ (at-n .n .given .1) _ (at-sort .sort .ensures) _ (at-first .first .given .1) (at-judge .judge .ensures)
+    _ (at-outcome .outcome .given .1) _
 
 same-length-5 : tie.Need-same-length-5
 same-length-5 c = search needs
@@ -119,7 +123,8 @@ returns-5 c =
     let at-sort = at-first .before .before .before .before in
     let at-n = at-sort .before .before .before in
     let at-close = at-n .before .before .before .before in
-    finish-state _ (at-close .close .ensures) _ (at-n .n .given .1) _ (at-sort .sort .ensures) _ (at-first .first .given .1) (at-judge .judge .ensures) _ (at-outcome2 .outcome2 .given .1) _ (at-write .write .ensures)
+    finish-state _ (at-close .close .ensures) _ (at-n .n .given .1) _ (at-sort .sort .ensures) _ (at-first .first .given .1) (at-judge .judge .ensures) _
+    (at-outcome2 .outcome2 .given .1) _ (at-write .write .ensures)
 
 pub finish-spec : {M : Type 1} → statement M
 finish-spec =

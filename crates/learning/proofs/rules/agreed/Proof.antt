@@ -46,8 +46,11 @@ loop-again c =
     let at-alternative = c .before in
     let at-member = at-alternative .before in
     let in-loop = at-member .before in
-    let at-loop = in-loop .before in
-    (omega arith, agreed-next _ _ _ _ (at-loop .loop .inv .1) (in-loop .loop-test .taken) (at-member .member .ensures) (at-alternative .alternative .ensures) (omega arith))
+    let at-loop = in-loop .before in (
+      omega arith,
+      agreed-next _ _ _ _ (at-loop .loop .inv .1) (in-loop .loop-test .taken) (at-member .member .ensures) (at-alternative .alternative .ensures)
+          (omega arith),
+    )
 
 returns-2 : tie.Need-returns-2 Inv-loop μ-loop
 returns-2 c =

@@ -14,7 +14,8 @@ use Rattle.learning.proofs.rules.alone.Statement.{statement}
 use Rattle.learning.proofs.rules.alone.Tie as tie
 
 abbrev Inv-loop : tie.InvT-loop
-Inv-loop members first n c k₀ k = (k ≤ n) × (not (anyOf (rivals (configOf c)) (held members k (n - k))) ≡ not (anyOf (rivals (configOf c)) (held members first (n - first))))
+Inv-loop members first n c k₀ k = (k ≤ n)
+    × (not (anyOf (rivals (configOf c)) (held members k (n - k))) ≡ not (anyOf (rivals (configOf c)) (held members first (n - first))))
 
 abbrev μ-loop : tie.MeasureT-loop
 μ-loop members first n c k₀ k = n - k
@@ -49,8 +50,11 @@ loop-again c =
     let at-rivals = c .before in
     let at-member = at-rivals .before in
     let in-loop = at-member .before in
-    let at-loop = in-loop .before in
-    (omega arith, alone-next _ _ _ _ (at-loop .loop .inv .1) (in-loop .loop-test .taken) (at-member .member .ensures) (at-rivals .rivals .ensures) (c .if1 .left))
+    let at-loop = in-loop .before in (
+      omega arith,
+      alone-next _ _ _ _ (at-loop .loop .inv .1) (in-loop .loop-test .taken) (at-member .member .ensures) (at-rivals .rivals .ensures)
+          (c .if1 .left),
+    )
 
 returns-2 : tie.Need-returns-2 Inv-loop μ-loop
 returns-2 c =

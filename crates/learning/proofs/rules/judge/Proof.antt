@@ -44,7 +44,8 @@ returns-3 c =
     let at-agreed = at-if2 .before in
     let at-alternative = at-agreed .before in
     let at-member = at-alternative .before in
-    judge-apart _ _ _ (omega arith) (at-member .member .ensures) (at-alternative .alternative .ensures) (at-agreed .agreed .ensures) (at-if2 .if2 .left) (at-shared .shared .ensures) (not-true _ (c .if3 .taken))
+    judge-apart _ _ _ (omega arith) (at-member .member .ensures) (at-alternative .alternative .ensures) (at-agreed .agreed .ensures) (at-if2 .if2 .left)
+    (at-shared .shared .ensures) (not-true _ (c .if3 .taken))
 
 settled-requires : tie.Need-settled-requires
 settled-requires c κs = search needs
@@ -61,7 +62,8 @@ returns-4 c =
     let at-agreed = at-if2 .before in
     let at-alternative = at-agreed .before in
     let at-member = at-alternative .before in
-    judge-settled _ _ _ (omega arith) (at-member .member .ensures) (at-alternative .alternative .ensures) (at-agreed .agreed .ensures) (at-if2 .if2 .left) (at-shared .shared .ensures) (not-false _ (at-if3 .if3 .left)) (at-settled .settled .ensures) (c .if4 .taken)
+    judge-settled _ _ _ (omega arith) (at-member .member .ensures) (at-alternative .alternative .ensures) (at-agreed .agreed .ensures) (at-if2 .if2 .left)
+    (at-shared .shared .ensures) (not-false _ (at-if3 .if3 .left)) (at-settled .settled .ensures) (c .if4 .taken)
 
 returns-5 : tie.Need-returns-5
 returns-5 c =
@@ -72,7 +74,8 @@ returns-5 c =
     let at-agreed = at-if2 .before in
     let at-alternative = at-agreed .before in
     let at-member = at-alternative .before in
-    judge-conflict _ _ _ (omega arith) (at-member .member .ensures) (at-alternative .alternative .ensures) (at-agreed .agreed .ensures) (at-if2 .if2 .left) (at-shared .shared .ensures) (not-false _ (at-if3 .if3 .left)) (at-settled .settled .ensures) (c .if4 .left)
+    judge-conflict _ _ _ (omega arith) (at-member .member .ensures) (at-alternative .alternative .ensures) (at-agreed .agreed .ensures) (at-if2 .if2 .left)
+    (at-shared .shared .ensures) (not-false _ (at-if3 .if3 .left)) (at-settled .settled .ensures) (c .if4 .left)
 
 pub judge-spec : {M : Type 1} → statement M
 judge-spec =

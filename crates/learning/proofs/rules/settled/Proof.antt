@@ -14,7 +14,8 @@ use Rattle.learning.proofs.rules.settled.Statement.{statement}
 use Rattle.learning.proofs.rules.settled.Tie as tie
 
 abbrev Inv-loop : tie.InvT-loop
-Inv-loop members first n k₀ k = (k ≤ n) × (anyOf (λ (c : Config). not (anyOf (rivals c) (held members first (n - first)))) (held members k (n - k)) ≡ settled (held members first (n - first)))
+Inv-loop members first n k₀ k = (k ≤ n)
+    × (anyOf (λ (c : Config). not (anyOf (rivals c) (held members first (n - first)))) (held members k (n - k)) ≡ settled (held members first (n - first)))
 
 abbrev μ-loop : tie.MeasureT-loop
 μ-loop members first n k₀ k = n - k
@@ -49,8 +50,11 @@ loop-again c =
     let at-alone = c .before in
     let at-member = at-alone .before in
     let in-loop = at-member .before in
-    let at-loop = in-loop .before in
-    (omega arith, settled-next _ _ _ _ (at-loop .loop .inv .1) (in-loop .loop-test .taken) (at-member .member .ensures) (at-alone .alone .ensures) (c .if1 .left))
+    let at-loop = in-loop .before in (
+      omega arith,
+      settled-next _ _ _ _ (at-loop .loop .inv .1) (in-loop .loop-test .taken) (at-member .member .ensures) (at-alone .alone .ensures)
+          (c .if1 .left),
+    )
 
 returns-2 : tie.Need-returns-2 Inv-loop μ-loop
 returns-2 c =

@@ -19,7 +19,8 @@ abbrev μ-loop : tie.MeasureT-loop
 μ-loop members first n found₀ i c j₀ found j = n - j
 
 abbrev Inv-search : tie.InvT-search
-Inv-search members first n found₀ i₀ found i = (i ≤ n) × (found ≡ false) × (pairs (held members i (n - i)) ≡ shared (held members first (n - first)))
+Inv-search members first n found₀ i₀ found i = (i ≤ n) × (found ≡ false)
+    × (pairs (held members i (n - i)) ≡ shared (held members first (n - first)))
 
 abbrev μ-search : tie.MeasureT-search
 μ-search members first n found₀ i₀ found i = n - i
@@ -42,8 +43,11 @@ loop-holds c =
     let at-search-test = c .before in
     let at-search = at-search-test .before in
     let at-entry = at-search .before .before in
-    let pairs-left = pairs-first _ _ _ (at-search .search .inv .2) (at-search-test .search-test .taken) (c .member .ensures) in
-    (record { outer = omega arith; inner = omega arith; same = pairs-left }, at-search .search .inv .1, exact-at (at-entry .pre .0) _ (at-search-test .search-test .taken) (c .member .ensures))
+    let pairs-left = pairs-first _ _ _ (at-search .search .inv .2) (at-search-test .search-test .taken) (c .member .ensures) in (
+      record { outer = omega arith; inner = omega arith; same = pairs-left },
+      at-search .search .inv .1,
+      exact-at (at-entry .pre .0) _ (at-search-test .search-test .taken) (c .member .ensures),
+    )
 
 search-less : tie.Need-search-less Inv-loop μ-loop Inv-search μ-search
 search-less c = search needs
@@ -77,7 +81,8 @@ loop-again c =
     let at-member2 = at-conflicts .before in
     let in-loop = at-member2 .before in
     let at-loop = in-loop .before in
-    let pairs-left = pair-next _ _ _ _ _ (at-loop .loop .inv .0 .same) (in-loop .loop-test .taken) (at-member2 .member2 .ensures) (at-conflicts .conflicts .ensures) (c .if1 .left) in
+    let pairs-left = pair-next _ _ _ _ _ (at-loop .loop .inv .0 .same) (in-loop .loop-test .taken) (at-member2 .member2 .ensures)
+    (at-conflicts .conflicts .ensures) (c .if1 .left) in
     (record { outer = at-loop .loop .inv .0 .outer; inner = omega arith; same = pairs-left }, at-loop .loop .inv .1, at-loop .loop .inv .2)
 
 returns : tie.Need-returns Inv-loop μ-loop Inv-search μ-search
@@ -91,7 +96,8 @@ returns-2 c =
     let at-member2 = at-conflicts .before in
     let in-loop = at-member2 .before in
     let at-loop = in-loop .before in
-    pair-hit _ _ _ _ _ (at-loop .loop .inv .0 .same) (in-loop .loop-test .taken) (at-member2 .member2 .ensures) (at-conflicts .conflicts .ensures) (c .if1 .taken)
+    pair-hit _ _ _ _ _ (at-loop .loop .inv .0 .same) (in-loop .loop-test .taken) (at-member2 .member2 .ensures) (at-conflicts .conflicts .ensures)
+    (c .if1 .taken)
 
 pub shared-spec : {M : Type 1} → statement M
 shared-spec =
