@@ -11,7 +11,8 @@ use Rattle.lookahead.specs.Configs.{Config}
 use Rattle.lookahead.specs.Closing.{maxKept}
 use Rattle.configurations.specs.Packing.{packAll, unpackAll}
 use Rattle.lookahead.specs.Outcomes.{Outcome, state, startOutcome, stepOutcome}
-use Rattle.learning.specs.Told.{keptWords, Tells}
+use Rattle.configurations.specs.Packing.{keptWords}
+use Rattle.learning.specs.Told.{Tells}
 use Rattle.learning.specs.declared.rules.Outcome as told
 use Rattle.learning.specs.declared.rules.Outcome.the-variants.{Full, Alternative, State}
 use Rattle.configurations.proofs.PackLaws.{length-packAll}

@@ -22,15 +22,17 @@ use Rattle.grammar.proofs.WordLaws.{code-end, code-token, code-nonterminal, pla
 use Rattle.derivation.specs.Ready.{Ready}
 use Rattle.derivation.proofs.FirstLaws.{rules-are, first-in}
 use Rattle.derivation.proofs.ReadyLaws.{ready-size, ready-call}
-use Rattle.lookahead.specs.Configs.{Config, config, calls?, behindFrom, entered}
+use Rattle.configurations.specs.declared.config.Packed.{Packed}
+use Rattle.configurations.specs.Packing.{configOf, Packs}
+use Rattle.lookahead.specs.Configs.{Config, config, into, calls?, behindFrom, entered}
 
 -- ---- the productions of a nonterminal
 -- into the productions whose words stand from k up to e in the tables
 unfoldable pub entering : List ℕ → Config → ℕ → ℕ → List Config
-entering t c k e = map (λ (f : ℕ). config f (c .alternative) (suc (c .place) ∷ c .stack)) (slice k e t)
+entering t c k e = map (into c) (slice k e t)
 
 pub entering-first : (t : List ℕ) (c : Config) (k e : ℕ) {f : ℕ} → k < e → e ≤ length t → f ≡ getD t k 0
-    → entering t c k e ≡ config f (c .alternative) (suc (c .place) ∷ c .stack) ∷ entering t c (k + 1) e
+    → entering t c k e ≡ into c f ∷ entering t c (k + 1) e
 unfolding entering
 entering-first t c k e h l q = rw (slice-cons k e t 0 h l, q, add-one)
 
@@ -38,16 +40,27 @@ pub entering-none : (t : List ℕ) (c : Config) (k e : ℕ) → e ≤ k → ente
 unfolding entering
 entering-none t c k e h = let z : slice k e t ≡ [] = drop-of-length-le (take e t) {i = k} (omega (arith, length-take e t)) in rw z
 
-pub entering-all : (t : List ℕ) (ready : Ready t) (a : ℕ) (h : a < nonterminalsIn t) (c : Config) {s e : ℕ} → s ≡ ruleAt t a → e ≡ ruleAt t (a + 1)
+pub entering-all : (t : List ℕ) (ready : Ready t) (a : ℕ) (h : a < nonterminalsIn t) (c : Config) {s e : ℕ} → s ≡ ruleAt t a → e
+    ≡ ruleAt t (a + 1)
     → entering t c s e ≡ entered (grammarIn t) c a
 unfolding entering entered
-entering-all t ready a h c p q = ap (map (λ (f : ℕ). config f (c .alternative) (suc (c .place) ∷ c .stack))) (sym (rules-are t ready a h p q))
+entering-all t ready a h c p q = ap (map (into c)) (sym (rules-are t ready a h p q))
 
--- a first place fits a head
-pub first-small : (t : List ℕ) (ready : Ready t) (a : ℕ) (h : a < nonterminalsIn t) {s e : ℕ} → s ≡ ruleAt t a → e ≡ ruleAt t (a + 1) → (k : ℕ) {f : ℕ} → s ≤ k → k < e → f ≡ getD t k 0 → f < 512
+-- a first place is one of the tables'
+pub first-small : (t : List ℕ) (ready : Ready t) (a : ℕ) (h : a < nonterminalsIn t) {s e : ℕ} → s ≡ ruleAt t a → e ≡ ruleAt t (a + 1)
+    → (k : ℕ) {f : ℕ} → s ≤ k → k < e → f ≡ getD t k 0 → f ≤ endPlace
 first-small t ready a h p q k m l d = omega (arith, first-in t ready a h p q k m l d, ready-size t ready)
 
 -- ---- occurrences
+-- a place of the grammar is one of the tables'
+pub within : (t : List ℕ) (ready : Ready t) {n p : ℕ} → n ≡ grammarIn t .size → p < n → p < endPlace
+within t ready e l = omega (arith, e, ready-size t ready)
+
+-- on an empty stack, at place p
+pub at-empty : (c : Packed) {d : Packed} {p : ℕ} → configOf c .stack ≡ [] → Packs d (config p (configOf c .alternative) (configOf c .stack))
+    → Packs d (config p (configOf c .alternative) [])
+at-empty c e h = rw e at h
+
 code-calls : (a c : ℕ) → eqb c (2 * a + 2) ≡ calls? a (symbolOf c)
 code-calls a c = go (same? c 0) (same? (c % 2) 1)
   where
@@ -56,7 +69,8 @@ code-calls a c = go (same? c 0) (same? (c % 2) 1)
     go (inr n) (inl o) = rw (← code-token c n o) (ne-eqb c (2 * a + 2) (λ e. omega arith))
     go (inr n) (inr o) = rw (← code-nonterminal c n o) (eqb-iff c (2 * a + 2) (c / 2 - 1) a (λ e. omega arith) (λ e. omega arith))
 
-pub calls-is : (t : List ℕ) (p a : ℕ) {w : ℕ} → p < 256 → w ≡ getD t p 0 → eqb (w % 256) (2 * a + 2) ≡ calls? a (facing (grammarIn t) p)
+pub calls-is : (t : List ℕ) (p a : ℕ) {w : ℕ} → p ≤ endPlace → w ≡ getD t p 0
+    → eqb (w % 256) (2 * a + 2) ≡ calls? a (facing (grammarIn t) p)
 unfolding facing placeOf
 calls-is t p a {w} h e =
     let q : placeOf w ≡ placeAt (grammarIn t) p = place-in t p (omega arith) (ap placeOf e) in
@@ -84,15 +98,19 @@ module _ (t : List ℕ) (ready : Ready t) (b a : ℕ) where
   unfolding grammarIn
   places-long = omega (arith, length-map (take placeWords t) placeOf, length-take placeWords t, ready .fits .long)
 
-  behind-cons : (p : ℕ) → p < placeWords → behindFrom a p (drop p (grammarIn t .places)) ≡ cond (calls? a (facing (grammarIn t) p)) (suc p ∷ behindFrom a (suc p) (drop (suc p) (grammarIn t .places))) (behindFrom a (suc p) (drop (suc p) (grammarIn t .places)))
+  behind-cons : (p : ℕ) → p < placeWords → behindFrom a p (drop p (grammarIn t .places))
+      ≡ cond (calls? a (facing (grammarIn t) p)) (suc p ∷ behindFrom a (suc p) (drop (suc p) (grammarIn t .places)))
+      (behindFrom a (suc p) (drop (suc p) (grammarIn t .places)))
   unfolding behindFrom facing
   behind-cons p h = ap (behindFrom a p) (drop-cons (grammarIn t .places) p nowhere (omega (arith, places-long)))
 
-  pub behinds-hit : (p : ℕ) {r : Bool} → p < placeWords → r ≡ calls? a (facing (grammarIn t) p) → r ≡ true → behinds t b a p ≡ config (p + 1) b [] ∷ behinds t b a (p + 1)
+  pub behinds-hit : (p : ℕ) {r : Bool} → p < placeWords → r ≡ calls? a (facing (grammarIn t) p) → r ≡ true → behinds t b a p
+      ≡ config (p + 1) b [] ∷ behinds t b a (p + 1)
   unfolding behinds
   behinds-hit p h e f = rw (behind-cons p h, sym e ∙ f, add-one)
 
-  pub behinds-miss : (p : ℕ) {r : Bool} → p < placeWords → r ≡ calls? a (facing (grammarIn t) p) → r ≡ false → behinds t b a p ≡ behinds t b a (p + 1)
+  pub behinds-miss : (p : ℕ) {r : Bool} → p < placeWords → r ≡ calls? a (facing (grammarIn t) p) → r ≡ false → behinds t b a p
+      ≡ behinds t b a (p + 1)
   unfolding behinds
   behinds-miss p h e f = rw (behind-cons p h, sym e ∙ f, add-one)
 

@@ -1,4 +1,4 @@
--- Members added in the arrays: the code's ways through `add`, and from one addition to a list of them.
+-- Members added to the words: the code's ways through `add`.
 use mathlib.Core.Path.{_≡_, refl, sym, ap, _∙_}
 use mathlib.Core.Bool.{Bool, true, false, _&&_, cond}
 use mathlib.Core.Option.{none, some}
@@ -6,81 +6,74 @@ use mathlib.Core.List.{List, [], _∷_, _++_}
 use Prim.Native.Nat.{ℕ, _+_, _<_}
 use native.Mathlib.Omega.{arith}
 use lib.Dec.{leb, ltb}
-use lib.ListN.{length, set, length-set}
+use lib.ListN.{length}
 use borrow.Author.Tests.{lt-ltb, le-ltb, le-leb, lt-leb}
 use Rattle.base.proofs.Booleans.{true→T}
-use Rattle.configurations.specs.declared.members.Added.the-variants.{Count, Full}
 use Rattle.lookahead.specs.Configs.{Config, In}
 use Rattle.lookahead.specs.Closing.{maxMembers, maxEntries, member?, shallow, add}
-use Rattle.configurations.specs.Packing.{unpack}
-use Rattle.configurations.specs.Held.{Exact, heldAt, held, Room, heldAfter, RoomAfter, Grows}
 use Rattle.lookahead.proofs.ListLaws.{in-get, get-below}
 use Rattle.lookahead.proofs.AddLaws.{member-in}
-use Rattle.configurations.proofs.HeldLaws.{length-held, held-add, held-one, get-held, stored, held-below, exact-stored}
+use Rattle.configurations.specs.declared.config.Packed.{Packed}
+use Rattle.configurations.specs.declared.members.Added.the-variants.{Count, Full}
+use Rattle.configurations.specs.Packing.{configOf, Exact, putAt}
+use Rattle.configurations.specs.Held.{heldAt, held, Room, heldAfter, RoomAfter, Grows}
+use Rattle.configurations.proofs.HeldLaws.{length-held, held-add, held-one, get-held, room-has, stored, held-below, room-put}
 
--- ---- the ways through `add`
-module _ (hs ss : List ℕ) (n : ℕ) (room : Room hs ss n) where
+module _ (ws : List ℕ) (n : ℕ) (room : Room ws n) where
   abbrev ms : List Config
-  ms = held hs ss 0 n
+  ms = held ws 0 n
 
   -- one that is a member
-  pub add-member : (d : Config) {r : Bool} → r ≡ member? d ms → r ≡ true → Grows (Count n) hs ss (add ms d)
+  pub add-member : (d : Config) {r : Bool} → r ≡ member? d ms → r ≡ true → Grows (Count n) ws (add ms d)
   unfolding add heldAfter RoomAfter
   add-member d e f = record { is = rw (sym e ∙ f); room = room }
 
-  module _ {u x : ℕ} (exact : Exact u x) where
+  module _ (c : Packed) (exact : Exact c) {r : Bool} (e : r ≡ member? (configOf c) ms) (f : r ≡ false) where
     abbrev d : Config
-    d = unpack u x
+    d = configOf c
 
     shallow-is : shallow d ≡ true
     unfolding shallow
     shallow-is = le-leb (length (d .stack)) maxEntries (exact .shallow)
 
-    pub add-full : {r : Bool} → r ≡ member? d ms → r ≡ false → n ≡ maxMembers → {hs′ ss′ : List ℕ} → Grows Full hs′ ss′ (add ms d)
+    pub add-full : n ≡ maxMembers → {ws′ : List ℕ} → Grows Full ws′ (add ms d)
     unfolding add heldAfter RoomAfter
-    add-full e f q = record { is = rw (sym e ∙ f, shallow-is, le-ltb (length ms) maxMembers (omega (arith, length-held hs ss 0 n))); room = tt }
+    add-full q = record { is = rw (sym e ∙ f, shallow-is, le-ltb (length ms) maxMembers (omega (arith, length-held ws 0 n))); room = tt }
 
-    pub add-new : {r : Bool} → r ≡ member? d ms → r ≡ false → (n ≡ maxMembers → ⊥) → {hs′ ss′ : List ℕ} → hs′ ≡ set hs n u → ss′ ≡ set ss n x
-        → Grows (Count (n + 1)) hs′ ss′ (add ms d)
+    pub add-new : (n ≡ maxMembers → ⊥) → {ws′ : List ℕ} → ws′ ≡ putAt ws n c → Grows (Count (n + 1)) ws′ (add ms d)
     unfolding add heldAfter RoomAfter
-    add-new e f q {hs′} {ss′} p o =
-        rw (p, o) (record {
-          is = ap some snoc ∙ sym (rw (sym e ∙ f, shallow-is, lt-ltb (length ms) maxMembers (omega (arith, length-held hs ss 0 n, room .few))));
-          room = record {
-            few = omega (arith, room .few);
-            heads = length-set hs n u ∙ room .heads;
-            stacks = length-set ss n x ∙ room .stacks;
-            exact = λ k l. exact-stored hs ss n u x h s exact k (λ z. room .exact k (omega arith));
-          };
+    add-new q p =
+        rw p (record {
+          is = ap some snoc ∙ sym (rw (sym e ∙ f, shallow-is, lt-ltb (length ms) maxMembers (omega (arith, length-held ws 0 n, room .few))));
+          room = room-put ws n c room exact (omega (arith, room .few)) here (λ k l z. omega arith);
         })
       where
-        h : n < length hs
-        h = omega (arith, room .few, room .heads)
+        here : n < maxMembers
+        here = omega (arith, room .few)
 
-        s : n < length ss
-        s = omega (arith, room .few, room .stacks)
-
-        snoc : held (set hs n u) (set ss n x) 0 (n + 1) ≡ ms ++ (d ∷ [])
+        snoc : held (putAt ws n c) 0 (n + 1) ≡ ms ++ (d ∷ [])
         snoc =
             let z : 0 + n ≡ n = omega arith in
-            let a = held-below hs ss n u x 0 n (omega arith) in
-            let b : held (set hs n u) (set ss n x) (0 + n) 1 ≡ d ∷ [] = rw z (held-one (set hs n u) (set ss n x) n ∙ ap (λ (c : Config). c ∷ []) (stored hs ss n u x h s)) in
-            held-add (set hs n u) (set ss n x) 0 n 1 ∙ (λ i. a i ++ b i)
+            let a = held-below ws n c 0 n (omega arith) in
+            let b : held (putAt ws n c) (0 + n) 1 ≡ d ∷ []
+            = rw z (held-one (putAt ws n c) n ∙ ap (λ (k : Config). k ∷ []) (stored ws n c (room-has room n here))) in
+            held-add (putAt ws n c) 0 n 1 ∙ (λ i. a i ++ b i)
 
   -- one that is too deep is no member
-  pub add-deep : (d : Config) → maxEntries < length (d .stack) → {hs′ ss′ : List ℕ} → Grows Full hs′ ss′ (add ms d)
+  pub add-deep : (d : Config) → maxEntries < length (d .stack) → {ws′ : List ℕ} → Grows Full ws′ (add ms d)
   unfolding add shallow heldAfter RoomAfter heldAt
   add-deep d h = record { is = go (member? d ms) refl; room = tt }
     where
       shallow-in : In d ms → ⊥
       shallow-in m =
           let (j, e) = in-get m in
-          let l : j < n = omega (arith, get-below ms j e, length-held hs ss 0 n) in
+          let l : j < n = omega (arith, get-below ms j e, length-held ws 0 n) in
           let z : 0 + j ≡ j = omega arith in
-          let q : d ≡ heldAt hs ss j = let y = get-held hs ss 0 n j l in let w = rw z at y in cc in
-          let k : length (d .stack) ≡ length (heldAt hs ss j .stack) = ap (λ (c : Config). length (c .stack)) q in
+          let q : d ≡ heldAt ws j = let y = get-held ws 0 n j l in let w = rw z at y in cc in
+          let k : length (d .stack) ≡ length (heldAt ws j .stack) = ap (λ (c : Config). length (c .stack)) q in
           omega (arith, k, room .exact j l .shallow)
 
-      go : (b : Bool) → member? d ms ≡ b → none ≡ cond b (some ms) (cond (leb (length (d .stack)) maxEntries && ltb (length ms) maxMembers) (some (ms ++ (d ∷ []))) none)
+      go : (b : Bool) → member? d ms ≡ b
+          → none ≡ cond b (some ms) (cond (leb (length (d .stack)) maxEntries && ltb (length ms) maxMembers) (some (ms ++ (d ∷ []))) none)
       go true e = absurd (shallow-in (member-in d ms (true→T (member? d ms) e)))
       go false e = rw (lt-leb (length (d .stack)) maxEntries h)

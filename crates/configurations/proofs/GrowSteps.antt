@@ -3,10 +3,12 @@ use mathlib.Core.Path.{_≡_, refl, sym, subst, ap, _∙_}
 use mathlib.Core.Option.{Option, none, some}
 use mathlib.Core.List.{List, [], _∷_, _++_}
 use Prim.Native.Nat.{ℕ}
+use Rattle.configurations.specs.declared.config.Packed.{Packed}
 use Rattle.configurations.specs.declared.members.Added.{Added}
 use Rattle.configurations.specs.declared.members.Added.the-variants.{Count, Full}
 use Rattle.lookahead.specs.Configs.{Config}
 use Rattle.lookahead.specs.Closing.{add, addAll}
+use Rattle.configurations.specs.Packing.{configOf, Packs}
 use Rattle.configurations.specs.Held.{held, Room, heldAfter, RoomAfter, Grows}
 
 -- what follows an answer
@@ -15,29 +17,30 @@ then none k = none
 then (some ms) k = k ms
 
 -- ---- answers
-pub grow-room : {r : Added} {hs ss : List ℕ} {o : Option (List Config)} → Grows r hs ss o → (m : ℕ) → r ≡ Count m → Room hs ss m
+pub grow-room : {r : Added} {ws : List ℕ} {o : Option (List Config)} → Grows r ws o → (m : ℕ) → r ≡ Count m → Room ws m
 unfolding RoomAfter
-grow-room {r} {hs} {ss} g m e = subst (λ (y : Added). RoomAfter y hs ss) e (g .room)
+grow-room {r} {ws} g m e = subst (λ (y : Added). RoomAfter y ws) e (g .room)
 
-pub grow-cast : {r : Added} {hs ss : List ℕ} {o p : Option (List Config)} → o ≡ p → Grows r hs ss o → Grows r hs ss p
+pub grow-cast : {r : Added} {ws : List ℕ} {o p : Option (List Config)} → o ≡ p → Grows r ws o → Grows r ws p
 grow-cast e g = record { is = g .is ∙ e; room = g .room }
 
-pub grow-count : (hs ss : List ℕ) (n : ℕ) {o : Option (List Config)} → Room hs ss n → some (held hs ss 0 n) ≡ o → Grows (Count n) hs ss o
+pub grow-count : (ws : List ℕ) (n : ℕ) {o : Option (List Config)} → Room ws n → some (held ws 0 n) ≡ o → Grows (Count n) ws o
 unfolding heldAfter RoomAfter
-grow-count hs ss n room e = record { is = e; room = room }
+grow-count ws n room e = record { is = e; room = room }
 
 -- the answer is taken, and k follows
-module _ {r : Added} {hs ss : List ℕ} {o : Option (List Config)} (g : Grows r hs ss o) (k : List Config → Option (List Config)) {end : Option (List Config)} (h : then o k ≡ end) where
-  pub then-on : (m : ℕ) → r ≡ Count m → k (held hs ss 0 m) ≡ end
+module _ {r : Added} {ws : List ℕ} {o : Option (List Config)} (g : Grows r ws o)
+    (k : List Config → Option (List Config)) {end : Option (List Config)} (h : then o k ≡ end) where
+  pub then-on : (m : ℕ) → r ≡ Count m → k (held ws 0 m) ≡ end
   unfolding heldAfter
   then-on m e =
-      let q : some (held hs ss 0 m) ≡ o = subst (λ (y : Added). heldAfter y hs ss ≡ o) e (g .is) in
+      let q : some (held ws 0 m) ≡ o = subst (λ (y : Added). heldAfter y ws ≡ o) e (g .is) in
       ap (λ (x : Option (List Config)). then x k) q ∙ h
 
-  pub then-stop : r ≡ Full → {hs′ ss′ : List ℕ} → Grows Full hs′ ss′ end
+  pub then-stop : r ≡ Full → {ws′ : List ℕ} → Grows Full ws′ end
   unfolding heldAfter RoomAfter
   then-stop e =
-      let q : none ≡ o = subst (λ (y : Added). heldAfter y hs ss ≡ o) e (g .is) in
+      let q : none ≡ o = subst (λ (y : Added). heldAfter y ws ≡ o) e (g .is) in
       record { is = ap (λ (x : Option (List Config)). then x k) q ∙ h; room = tt }
 
 -- ---- a list of additions
@@ -62,24 +65,39 @@ addAll-one ms d = addAll-cons ms d [] ∙ go (add ms d)
 
 pub addAll-append : (ds es ms : List Config) → addAll ms (ds ++ es) ≡ then (addAll ms ds) (λ m. addAll m es)
 addAll-append [] es ms = ap (λ (o : Option (List Config)). then o (λ m. addAll m es)) (sym (addAll-none ms))
-addAll-append (d ∷ ds) es ms = addAll-cons ms d (ds ++ es) ∙ go (add ms d) (λ m. addAll-append ds es m) ∙ ap (λ (o : Option (List Config)). then o (λ m. addAll m es)) (sym (addAll-cons ms d ds))
+addAll-append (d ∷ ds) es ms = addAll-cons ms d (ds ++ es) ∙ go (add ms d) (λ m. addAll-append ds es m)
+    ∙ ap (λ (o : Option (List Config)). then o (λ m. addAll m es)) (sym (addAll-cons ms d ds))
   where
     go : (o : Option (List Config)) → ((m : List Config) → addAll m (ds ++ es) ≡ then (addAll m ds) (λ m. addAll m es))
         → then o (λ m. addAll m (ds ++ es)) ≡ then (then o (λ m. addAll m ds)) (λ m. addAll m es)
     go none rec = refl
     go (some m) rec = rec m
 
--- ---- a loop over configurations: those that are left give the same end
-module _ (hs ss : List ℕ) (n : ℕ) {l : List Config} {end : Option (List Config)} (h : addAll (held hs ss 0 n) l ≡ end) where
-  module _ {d : Config} {ds : List Config} (e : l ≡ d ∷ ds) {r : Added} {hs′ ss′ : List ℕ} (g : Grows r hs′ ss′ (add (held hs ss 0 n) d)) where
-    opened : then (add (held hs ss 0 n) d) (λ m. addAll m ds) ≡ end
-    opened = sym (addAll-cons (held hs ss 0 n) d ds) ∙ ap (addAll (held hs ss 0 n)) (sym e) ∙ h
+-- a packed configuration added is the one that it packs
+pub grow-packs : {r : Added} {ws : List ℕ} {c : Packed} {d : Config} (ms : List Config) → Packs c d → Grows r ws (add ms (configOf c))
+    → Grows r ws (add ms d)
+grow-packs ms p g = grow-cast (ap (add ms) (p .is)) g
 
-    pub left-on : (m : ℕ) → r ≡ Count m → addAll (held hs′ ss′ 0 m) ds ≡ end
-    left-on m q = then-on g (λ m. addAll m ds) opened m q
+-- ---- a loop over configurations
+-- with the first n members, those that are left give the same end
+pub record Left (ws : List ℕ) (n : ℕ) (l : List Config) (end : Option (List Config)) : Type 0 where
+  pub room : Room ws n
+  pub same : addAll (held ws 0 n) l ≡ end
 
-    pub left-stop : r ≡ Full → {hs″ ss″ : List ℕ} → Grows Full hs″ ss″ end
+module _ {ws : List ℕ} {n : ℕ} {l : List Config} {end : Option (List Config)} (h : Left ws n l end) where
+  pub left-by : {m : List Config} → l ≡ m → Left ws n m end
+  left-by e = record { room = h .room; same = ap (addAll (held ws 0 n)) (sym e) ∙ h .same }
+
+  pub left-none : l ≡ [] → Grows (Count n) ws end
+  left-none e = grow-count ws n (h .room) (sym (addAll-none (held ws 0 n)) ∙ ap (addAll (held ws 0 n)) (sym e) ∙ h .same)
+
+  -- the first of them is added
+  module _ {d : Config} {ds : List Config} (e : l ≡ d ∷ ds) {r : Added} {ws′ : List ℕ} (g : Grows r ws′ (add (held ws 0 n) d)) where
+    opened : then (add (held ws 0 n) d) (λ m. addAll m ds) ≡ end
+    opened = sym (addAll-cons (held ws 0 n) d ds) ∙ ap (addAll (held ws 0 n)) (sym e) ∙ h .same
+
+    pub left-on : (m : ℕ) → r ≡ Count m → Left ws′ m ds end
+    left-on m q = record { room = grow-room g m q; same = then-on g (λ m. addAll m ds) opened m q }
+
+    pub left-stop : r ≡ Full → {ws″ : List ℕ} → Grows Full ws″ end
     left-stop q = then-stop g (λ m. addAll m ds) opened q
-
-  pub left-none : Room hs ss n → l ≡ [] → Grows (Count n) hs ss end
-  left-none room e = grow-count hs ss n room (sym (addAll-none (held hs ss 0 n)) ∙ ap (addAll (held hs ss 0 n)) (sym e) ∙ h)

@@ -1,9 +1,12 @@
--- Laws on configurations in words and in arrays, one subject a file.
+-- Laws on configurations in words, one subject a file.
 pub mod PackLaws
+pub mod WordLaws
 pub mod ExactLaws
 pub mod CompareLaws
 pub mod HeldLaws
 pub mod GrowLaws
 pub mod GrowSteps
 pub mod FacingLaws
+pub mod InsertLaws
 pub mod SortLaws
+pub mod WriteLaws

@@ -1,12 +1,12 @@
 -- Packed words say the configurations that they were packed from.
 use mathlib.Core.Path.{_≡_, refl, sym, ap, _∙_}
 use mathlib.Core.List.{List, [], _∷_, List·Memᴰ·head, List·Memᴰ·tail}
-use Prim.Native.Nat.{ℕ, _+_, _*_, _/_, _%_, _^_, _<_}
+use Prim.Native.Nat.{ℕ, _+_, _*_, _/_, _%_, _<_}
 use native.Mathlib.Omega.{arith}
 use lib.ListN.{length}
 use Rattle.lookahead.specs.Configs.{Config}
 use Rattle.lookahead.specs.Order.{placeRadix, alternativeRadix, entriesRadix, returnRadix, stackKey, headKey, Packable}
-use Rattle.configurations.specs.Packing.{digits, unpack, pack, packAll, unpackAll}
+use Rattle.configurations.specs.Packing.{digits, unpack, configWords, wordRadix, pack, packAll, unpackAll}
 use Rattle.lookahead.specs.Rules.{Each}
 
 -- the lowest digit and the others
@@ -63,7 +63,7 @@ unpack-key c h =
     λ i. record { place = p i; alternative = a i; stack = s i }
 
 -- a number in two words
-pub joined : (x : ℕ) → x % 2 ^ 32 + 2 ^ 32 * (x / 2 ^ 32) ≡ x
+pub joined : (x : ℕ) → x % wordRadix + wordRadix * (x / wordRadix) ≡ x
 joined x = omega arith
 
 pub unpack-all : (ks : List Config) → Each Packable ks → unpackAll (packAll ks) ≡ ks
@@ -74,7 +74,7 @@ unpack-all (c ∷ ks) h =
     let q = unpack-all ks (λ x m. h x (List·Memᴰ·tail m)) in
     λ i. p i ∷ q i
 
-pub length-packAll : (ks : List Config) → length (packAll ks) ≡ 3 * length ks
+pub length-packAll : (ks : List Config) → length (packAll ks) ≡ configWords * length ks
 unfolding packAll pack
 length-packAll [] = refl
 length-packAll (c ∷ ks) = let h = length-packAll ks in omega arith

@@ -1,74 +1,67 @@
--- What the code's arrays hold: a configuration in a head and a stack key, the members of a closed set side by side.
+-- What the code's words hold: the members of a closed set side by side, the kept ones of them in order.
 use mathlib.Core.Path.{_≡_}
 use mathlib.Core.Option.{Option, none, some}
 use mathlib.Core.List.{List, [], _∷_}
 use Prim.Native.Nat.{ℕ, zero, suc, _+_, _-_, _≤_, _<_}
-use lib.ListN.{length, getD}
+use lib.ListN.{length}
+use Rattle.lookahead.specs.Configs.{Config}
+use Rattle.lookahead.specs.Closing.{maxMembers, maxKept}
+use Rattle.lookahead.specs.Order.{insert}
 use Rattle.configurations.specs.declared.members.Added.{Added}
 use Rattle.configurations.specs.declared.members.Added.the-variants.{Count, Full}
-use Rattle.lookahead.specs.Configs.{Config}
-use Rattle.lookahead.specs.Closing.{maxMembers, maxEntries, maxKept}
-use Rattle.lookahead.specs.Order.{stackKey, headKey, insert}
-use Rattle.configurations.specs.Packing.{unpack}
-
--- a head and a stack key with no digit too many, so that equal words are equal configurations; and the stack is not too deep
-pub record Exact (u x : ℕ) : Type 0 where
-  pub head : headKey (unpack u x) ≡ u
-  pub stack : stackKey (unpack u x .stack) ≡ x
-  pub shallow : length (unpack u x .stack) ≤ maxEntries
+use Rattle.configurations.specs.Packing.{configOf, Exact, memberWords, packedAt}
 
 -- the configuration at k
-unfoldable pub heldAt : List ℕ → List ℕ → ℕ → Config
-unfolding unpack
-heldAt hs ss k = unpack (getD hs k 0) (getD ss k 0)
+unfoldable pub heldAt : List ℕ → ℕ → Config
+unfolding configOf packedAt
+heldAt ws k = configOf (packedAt ws k)
 
 -- the configurations from k on, n of them
-unfoldable pub held : List ℕ → List ℕ → ℕ → ℕ → List Config
+unfoldable pub held : List ℕ → ℕ → ℕ → List Config
 unfolding heldAt
-held hs ss k zero = []
-held hs ss k (suc n) = heldAt hs ss k ∷ held hs ss (suc k) n
+held ws k zero = []
+held ws k (suc n) = heldAt ws k ∷ held ws (suc k) n
 
--- arrays whose first n words hold members
-pub record Room (hs ss : List ℕ) (n : ℕ) : Type 0 where
+-- words the first n configurations of which are members
+pub record Room (ws : List ℕ) (n : ℕ) : Type 0 where
   pub few : n ≤ maxMembers
-  pub heads : length hs ≡ maxMembers
-  pub stacks : length ss ≡ maxMembers
-  pub exact : (k : ℕ) → k < n → Exact (getD hs k 0) (getD ss k 0)
-
--- arrays of the right lengths
-pub record Blank (hs ss : List ℕ) : Type 0 where
-  pub heads : length hs ≡ maxMembers
-  pub stacks : length ss ≡ maxMembers
+  pub long : length ws ≡ memberWords
+  pub exact : (k : ℕ) → k < n → Exact (packedAt ws k)
 
 -- the members after an answer
-unfoldable pub heldAfter : Added → List ℕ → List ℕ → Option (List Config)
+unfoldable pub heldAfter : Added → List ℕ → Option (List Config)
 unfolding held
-heldAfter (Count n) hs ss = some (held hs ss 0 n)
-heldAfter Full hs ss = none
+heldAfter (Count n) ws = some (held ws 0 n)
+heldAfter Full ws = none
 
-unfoldable pub RoomAfter : Added → List ℕ → List ℕ → Type 0
-RoomAfter (Count n) hs ss = Room hs ss n
-RoomAfter Full hs ss = Unit {0}
+unfoldable pub RoomAfter : Added → List ℕ → Type 0
+RoomAfter (Count n) ws = Room ws n
+RoomAfter Full ws = Unit {0}
 
--- the arrays hold these members, or there are none
-pub record Grows (r : Added) (hs ss : List ℕ) (ms : Option (List Config)) : Type 0 where
-  pub is : heldAfter r hs ss ≡ ms
-  pub room : RoomAfter r hs ss
+-- the words hold these members, or there are none
+pub record Grows (r : Added) (ws : List ℕ) (ms : Option (List Config)) : Type 0 where
+  pub is : heldAfter r ws ≡ ms
+  pub room : RoomAfter r ws
+
+-- room for one more at f, before those that stand behind it up to n
+pub record Inserts (ws : List ℕ) (f n : ℕ) : Type 0 where
+  pub room : Room ws n
+  pub free : f < n
 
 -- c among those behind f and up to n, by its packed value; what stands before f stays
-pub record Inserted (hs ss hs′ ss′ : List ℕ) (f n : ℕ) (c : Config) : Type 0 where
-  pub room : Room hs′ ss′ n
-  pub before : (k : ℕ) → k < f → heldAt hs′ ss′ k ≡ heldAt hs ss k
-  pub are : held hs′ ss′ f (n - f) ≡ insert c (held hs ss (f + 1) (n - (f + 1)))
+pub record Inserted (ws ws′ : List ℕ) (f n : ℕ) (c : Config) : Type 0 where
+  pub room : Room ws′ n
+  pub before : (k : ℕ) → k < f → heldAt ws′ k ≡ heldAt ws k
+  pub are : held ws′ f (n - f) ≡ insert c (held ws (f + 1) (n - (f + 1)))
 
 -- these configurations stand from f on up to n
-pub record Stands (hs ss : List ℕ) (f n : ℕ) (ks : List Config) : Type 0 where
+pub record Stands (ws : List ℕ) (f n : ℕ) (ks : List Config) : Type 0 where
   pub within : f ≤ n
-  pub room : Room hs ss n
-  pub are : held hs ss f (n - f) ≡ ks
+  pub room : Room ws n
+  pub are : held ws f (n - f) ≡ ks
   pub few : length ks ≤ maxKept
 
 -- they do from the answered number on, or are more than 64
-unfoldable pub Sorted : Added → List ℕ → List ℕ → ℕ → List Config → Type 0
-Sorted (Count f) hs ss n ks = Stands hs ss f n ks
-Sorted Full hs ss n ks = maxKept < length ks
+unfoldable pub Sorted : Added → List ℕ → ℕ → List Config → Type 0
+Sorted (Count f) ws n ks = Stands ws f n ks
+Sorted Full ws n ks = maxKept < length ks

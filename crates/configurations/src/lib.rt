@@ -1,14 +1,17 @@
-// Configurations in words, the members of a closed set in two arrays, and the kept ones of them in order.
+// Packed configurations, the members of a closed set in a row of words, and the kept ones of them in order.
 mod config;
 mod kept;
 mod members;
+mod words;
 
-pub use config::Config;
 pub use config::ENTRIES;
+pub use config::Packed;
 pub use config::begun;
-pub use config::narrow;
-pub use config::onward;
+pub use kept::KEPT_WORDS;
 pub use kept::sort;
 pub use members::Added;
+pub use members::MEMBER_WORDS;
 pub use members::add;
-pub use members::member;
+pub use words::CONFIG_WORDS;
+pub use words::member;
+pub use words::write;

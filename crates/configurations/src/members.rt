@@ -1,14 +1,15 @@
-// The members of a closed set: their heads in one array, their stacks in another, side by side in the order in which they came.
-use crate::config::Config;
+// The members of a closed set, side by side in the order in which they came.
+use crate::config::Packed;
 ghost use mathlib.Core.Path.{_≡_};
-ghost use Prim.Native.Nat.{_+_, _<_};
-ghost use lib.ListN.{length, getD, set};
 ghost use Rattle.lookahead.specs.Closing.{member?, add};
-ghost use Rattle.configurations.specs.Packing.{unpack};
-ghost use Rattle.configurations.specs.Held.{Exact, held, Room, Grows};
+ghost use Rattle.configurations.specs.Packing.{configOf, Exact};
+ghost use Rattle.configurations.specs.Held.{held, Room, Grows};
 
 // The members that a closed set may have.
 pub const MEMBERS: usize = 256;
+
+// Their words.
+pub const MEMBER_WORDS: usize = crate::words::CONFIG_WORDS * MEMBERS;
 
 // How many members there are now, or that there would be too many, or one too deep.
 pub enum Added {
@@ -16,34 +17,14 @@ pub enum Added {
     Full,
 }
 
-// Member k.
-pub fn member(heads: &[u32], stacks: &[u64], k: usize) -> Config
-    requires { ⌜ (k < length (now heads)) × (k < length (now stacks)) ⌝ }
-    ensures { λ r. ⌜ (r .head ≡ getD (now (heads .entry)) k 0) × (r .stack ≡ getD (now (stacks .entry)) k 0) ⌝ }
-{
-    Config {
-        head: heads[k],
-        stack: stacks[k],
-    }
-}
-
-// Member k is c.
-pub fn put(heads: &mut [u32], stacks: &mut [u64], k: usize, c: Config)
-    requires { ⌜ (k < length (now heads)) × (k < length (now stacks)) ⌝ }
-    ensures { λ _. ⌜ (now (heads .exit) ≡ set (now (heads .entry)) k (c .head)) × (now (stacks .exit) ≡ set (now (stacks .entry)) k (c .stack)) ⌝ }
-{
-    heads[k] = c.head;
-    stacks[k] = c.stack;
-}
-
 // Whether c is one of the first n.
-fn is_member(heads: &[u32], stacks: &[u64], n: usize, c: Config) -> bool
-    requires { ⌜ Room (now heads) (now stacks) n × Exact (c .head) (c .stack) ⌝ }
-    ensures { λ r. ⌜ r ≡ member? (unpack (c .head) (c .stack)) (held (now (heads .entry)) (now (stacks .entry)) 0 n) ⌝ }
+fn is_member(members: &[u32], n: usize, c: Packed) -> bool
+    requires { ⌜ Room (now members) n × Exact c ⌝ }
+    ensures { λ r. ⌜ r ≡ member? (configOf c) (held (now (members .entry)) 0 n) ⌝ }
 {
     let mut k = 0;
     while k < n {
-        if c.equals(member(heads, stacks, k)) {
+        if c.equals(crate::words::member(members, k)) {
             return true;
         }
         k += 1;
@@ -52,16 +33,16 @@ fn is_member(heads: &[u32], stacks: &[u64], n: usize, c: Config) -> bool
 }
 
 // c behind the first n, unless it is one of them.
-pub fn add(heads: &mut [u32], stacks: &mut [u64], n: usize, c: Config) -> Added
-    requires { ⌜ Room (now heads) (now stacks) n × Exact (c .head) (c .stack) ⌝ }
-    ensures { λ r. ⌜ Grows r (now (heads .exit)) (now (stacks .exit)) (add (held (now (heads .entry)) (now (stacks .entry)) 0 n) (unpack (c .head) (c .stack))) ⌝ }
+pub fn add(members: &mut [u32], n: usize, c: Packed) -> Added
+    requires { ⌜ Room (now members) n × Exact c ⌝ }
+    ensures { λ r. ⌜ Grows r (now (members .exit)) (add (held (now (members .entry)) 0 n) (configOf c)) ⌝ }
 {
-    if is_member(heads, stacks, n, c) {
+    if is_member(members, n, c) {
         return Added::Count(n);
     }
     if n == MEMBERS {
         return Added::Full;
     }
-    put(heads, stacks, n, c);
+    crate::words::put(members, n, c);
     Added::Count(n + 1)
 }

@@ -5,18 +5,18 @@ use mathlib.Core.Bool.{Bool, true, false, _||_, not, cond}
 use mathlib.Core.List.{List, [], _∷_, List·Memᴰ·head, List·Memᴰ·tail, List·Memᴰ·not-nil, List·Memᴰ·cases-cons}
 use Prim.Native.Nat.{ℕ, _+_, _-_, _≤_, _<_}
 use lib.Dec.{T, eqb}
-use lib.ListN.{getD}
 use borrow.Author.Tests.{eq-eqb, ne-eqb}
 use Rattle.base.specs.Rounds.{anyOf}
 use Rattle.base.proofs.Booleans.{same, or-T, T-or-l, T-or-r}
 use Rattle.learning.specs.declared.rules.Outcome.the-variants.{Full, Alternative, State}
 use Rattle.lookahead.specs.Configs.{Config, In}
-use Rattle.configurations.specs.Packing.{unpack}
+use Rattle.configurations.specs.declared.config.Packed.{Packed}
+use Rattle.configurations.specs.Packing.{configOf, packedAt}
 use Rattle.lookahead.specs.Outcomes.{alternative, rivals, conflicts, agreed, shared, settled, resolved, judged}
 use Rattle.configurations.specs.Held.{heldAt, held}
 use Rattle.learning.specs.Told.{Judges}
 use Rattle.lookahead.proofs.TestLaws.{rivals-right, conflicts-right, shared-out, shared-in, any-out, any-in}
-use Rattle.configurations.proofs.HeldLaws.{length-held, held-first, held-none, test-at, any-hit, any-next, any-end}
+use Rattle.configurations.proofs.HeldLaws.{length-held, held-first, held-none, said-at, test-at, any-hit, any-next, any-end}
 
 -- ---- each pair once
 unfoldable pub pairs : List Config → Bool
@@ -52,12 +52,19 @@ pairs-in (k ∷ l) c d m n t = go (List·Memᴰ·cases-cons m) (List·Memᴰ·ca
     go (inr a) (inr b) rec = T-or-r (anyOf (conflicts k) l) (pairs l) (rec a b t)
 
 pub shared-pairs : (ks : List Config) → pairs ks ≡ shared ks
-shared-pairs ks = same (pairs ks) (shared ks) (λ t. let h = pairs-out ks t in shared-in ks (h .0) (h .1) (h .2) (h .3) (h .4)) (λ t. let h = shared-out ks t in pairs-in ks (h .0) (h .1) (h .2) (h .3) (h .4))
+shared-pairs ks = same (pairs ks) (shared ks) (λ t. let h = pairs-out ks t in shared-in ks (h .0) (h .1) (h .2) (h .3) (h .4))
+    (λ t. let h = shared-out ks t in pairs-in ks (h .0) (h .1) (h .2) (h .3) (h .4))
 
--- ---- searches in the arrays
-module _ (hs ss : List ℕ) where
+-- the pairs of c with those from j on, and those of all from i on, are left to compare
+pub record Paired (ws : List ℕ) (f n i : ℕ) (c : Config) (j : ℕ) : Type 0 where
+  pub outer : i ≤ n
+  pub inner : j ≤ n
+  pub same : (anyOf (conflicts c) (held ws j (n - j)) || pairs (held ws i (n - i))) ≡ shared (held ws f (n - f))
+
+-- ---- searches among the members
+module _ (ws : List ℕ) where
   -- all have alternative b
-  module _ (b k n : ℕ) {v : Bool} (h : agreed b (held hs ss k (n - k)) ≡ v) where
+  module _ (b k n : ℕ) {v : Bool} (h : agreed b (held ws k (n - k)) ≡ v) where
     other : Config → Bool
     other c = not (eqb (c .alternative) b)
 
@@ -72,24 +79,25 @@ module _ (hs ss : List ℕ) where
         twice true = refl
         twice false = refl
 
-    asked : anyOf other (held hs ss k (n - k)) ≡ not v
+    asked : anyOf other (held ws k (n - k)) ≡ not v
     unfolding agreed other
-    asked = flip (anyOf (λ (c : Config). not (eqb (c .alternative) b)) (held hs ss k (n - k))) h
+    asked = flip (anyOf (λ (c : Config). not (eqb (c .alternative) b)) (held ws k (n - k))) h
 
-    module _ (l : k < n) {u x a : ℕ} (p : u ≡ getD hs k 0) (q : x ≡ getD ss k 0) (e : a ≡ unpack u x .alternative) where
+    module _ (l : k < n) {c : Packed} {a : ℕ} (is : c ≡ packedAt ws k) (e : a ≡ configOf c .alternative) where
       pub agreed-not : (a ≡ b → ⊥) → false ≡ v
       unfolding other
-      agreed-not z = back true (any-hit hs ss other k n asked l (test-at hs ss other k p q refl (ap not (ne-eqb (unpack u x .alternative) b (λ y. z (e ∙ y))))))
+      agreed-not z = back true (any-hit ws other k n asked l (test-at ws other k is refl (ap not (ne-eqb (configOf c .alternative) b (λ y. z (e ∙ y))))))
 
-      pub agreed-next : a ≡ b → agreed b (held hs ss (k + 1) (n - (k + 1))) ≡ v
+      pub agreed-next : a ≡ b → agreed b (held ws (k + 1) (n - (k + 1))) ≡ v
       unfolding agreed other
-      agreed-next z = back (anyOf (λ (c : Config). not (eqb (c .alternative) b)) (held hs ss (k + 1) (n - (k + 1)))) (any-next hs ss other k n asked l (test-at hs ss other k p q refl (ap not (eq-eqb (unpack u x .alternative) b (sym e ∙ z)))))
+      agreed-next z = back (anyOf (λ (c : Config). not (eqb (c .alternative) b)) (held ws (k + 1) (n - (k + 1))))
+          (any-next ws other k n asked l (test-at ws other k is refl (ap not (eq-eqb (configOf c .alternative) b (sym e ∙ z)))))
 
     pub agreed-end : n ≤ k → true ≡ v
-    agreed-end l = back false (any-end hs ss other k n asked l)
+    agreed-end l = back false (any-end ws other k n asked l)
 
   -- no rival of c
-  module _ (c : Config) (k n : ℕ) {v : Bool} (h : not (anyOf (rivals c) (held hs ss k (n - k))) ≡ v) where
+  module _ (c : Config) (k n : ℕ) {v : Bool} (h : not (anyOf (rivals c) (held ws k (n - k))) ≡ v) where
     turn : (w : Bool) → not w ≡ v → w ≡ not v
     turn true e = ap not e
     turn false e = ap not e
@@ -98,78 +106,85 @@ module _ (hs ss : List ℕ) where
     turn-back w true e = ap not e
     turn-back w false e = ap not e
 
-    module _ (l : k < n) {u x : ℕ} {r : Bool} (p : u ≡ getD hs k 0) (q : x ≡ getD ss k 0) (e : r ≡ rivals c (unpack u x)) where
+    module _ (l : k < n) {d : Packed} {r : Bool} (is : d ≡ packedAt ws k) (e : r ≡ rivals c (configOf d)) where
       pub alone-not : r ≡ true → false ≡ v
-      alone-not z = turn-back true v (any-hit hs ss (rivals c) k n (turn (anyOf (rivals c) (held hs ss k (n - k))) h) l (test-at hs ss (rivals c) k p q e z))
+      alone-not z = turn-back true v (any-hit ws (rivals c) k n (turn (anyOf (rivals c) (held ws k (n - k))) h) l (test-at ws (rivals c) k is e z))
 
-      pub alone-next : r ≡ false → not (anyOf (rivals c) (held hs ss (k + 1) (n - (k + 1)))) ≡ v
-      alone-next z = turn-back (anyOf (rivals c) (held hs ss (k + 1) (n - (k + 1)))) v (any-next hs ss (rivals c) k n (turn (anyOf (rivals c) (held hs ss k (n - k))) h) l (test-at hs ss (rivals c) k p q e z))
+      pub alone-next : r ≡ false → not (anyOf (rivals c) (held ws (k + 1) (n - (k + 1)))) ≡ v
+      alone-next z = turn-back (anyOf (rivals c) (held ws (k + 1) (n - (k + 1)))) v
+          (any-next ws (rivals c) k n (turn (anyOf (rivals c) (held ws k (n - k))) h) l (test-at ws (rivals c) k is e z))
 
     pub alone-end : n ≤ k → true ≡ v
-    alone-end l = turn-back false v (any-end hs ss (rivals c) k n (turn (anyOf (rivals c) (held hs ss k (n - k))) h) l)
+    alone-end l = turn-back false v (any-end ws (rivals c) k n (turn (anyOf (rivals c) (held ws k (n - k))) h) l)
 
   -- some place of one alternative only, among ks
-  module _ (ks : List Config) (k n : ℕ) {v : Bool} (h : anyOf (λ (c : Config). not (anyOf (rivals c) ks)) (held hs ss k (n - k)) ≡ v) where
+  module _ (ks : List Config) (k n : ℕ) {v : Bool} (h : anyOf (λ (c : Config). not (anyOf (rivals c) ks)) (held ws k (n - k)) ≡ v) where
     lone : Config → Bool
     lone c = not (anyOf (rivals c) ks)
 
-    module _ (l : k < n) {u x : ℕ} {r : Bool} (p : u ≡ getD hs k 0) (q : x ≡ getD ss k 0) (e : r ≡ not (anyOf (rivals (unpack u x)) ks)) where
+    module _ (l : k < n) {c : Packed} {r : Bool} (is : c ≡ packedAt ws k) (e : r ≡ not (anyOf (rivals (configOf c)) ks)) where
       pub settled-hit : r ≡ true → true ≡ v
       unfolding lone
-      settled-hit z = any-hit hs ss lone k n h l (test-at hs ss lone k p q e z)
+      settled-hit z = any-hit ws lone k n h l (test-at ws lone k is e z)
 
-      pub settled-next : r ≡ false → anyOf (λ (c : Config). not (anyOf (rivals c) ks)) (held hs ss (k + 1) (n - (k + 1))) ≡ v
+      pub settled-next : r ≡ false → anyOf (λ (c : Config). not (anyOf (rivals c) ks)) (held ws (k + 1) (n - (k + 1))) ≡ v
       unfolding lone
-      settled-next z = any-next hs ss lone k n h l (test-at hs ss lone k p q e z)
+      settled-next z = any-next ws lone k n h l (test-at ws lone k is e z)
 
     pub settled-end : n ≤ k → false ≡ v
     unfolding lone
-    settled-end l = any-end hs ss lone k n h l
+    settled-end l = any-end ws lone k n h l
 
-  pub settled-whole : (f n : ℕ) → anyOf (λ (c : Config). not (anyOf (rivals c) (held hs ss f (n - f)))) (held hs ss f (n - f)) ≡ settled (held hs ss f (n - f))
+  pub settled-whole : (f n : ℕ) → anyOf (λ (c : Config). not (anyOf (rivals c) (held ws f (n - f)))) (held ws f (n - f)) ≡ settled (held ws f (n - f))
   unfolding settled
   settled-whole f n = refl
 
   -- pairs from i on
-  module _ (i n : ℕ) {v : Bool} (h : pairs (held hs ss i (n - i)) ≡ v) where
-    pub pairs-first : i < n → {u x : ℕ} → u ≡ getD hs i 0 → x ≡ getD ss i 0 → (anyOf (conflicts (unpack u x)) (held hs ss (i + 1) (n - (i + 1))) || pairs (held hs ss (i + 1) (n - (i + 1)))) ≡ v
-    unfolding pairs heldAt
-    pairs-first l p q = (λ k. anyOf (conflicts (unpack (p k) (q k))) (held hs ss (i + 1) (n - (i + 1))) || pairs (held hs ss (i + 1) (n - (i + 1)))) ∙ ap pairs (sym (held-first hs ss i n l)) ∙ h
+  module _ (i n : ℕ) {v : Bool} (h : pairs (held ws i (n - i)) ≡ v) where
+    pub pairs-first : i < n → {c : Packed} → c ≡ packedAt ws i
+        → (anyOf (conflicts (configOf c)) (held ws (i + 1) (n - (i + 1))) || pairs (held ws (i + 1) (n - (i + 1)))) ≡ v
+    unfolding pairs
+    pairs-first l e =
+        ap (λ (k : Config). anyOf (conflicts k) (held ws (i + 1) (n - (i + 1))) || pairs (held ws (i + 1) (n - (i + 1)))) (said-at ws i e)
+        ∙ ap pairs (sym (held-first ws i n l)) ∙ h
 
     pub pairs-none : n ≤ i → false ≡ v
     unfolding pairs
-    pairs-none l = ap pairs (sym (held-none hs ss i n l)) ∙ h
+    pairs-none l = ap pairs (sym (held-none ws i n l)) ∙ h
 
-  module _ (c : Config) (j n : ℕ) (w : Bool) {v : Bool} (h : (anyOf (conflicts c) (held hs ss j (n - j)) || w) ≡ v) where
-    module _ (l : j < n) {u x : ℕ} {r : Bool} (p : u ≡ getD hs j 0) (q : x ≡ getD ss j 0) (e : r ≡ conflicts c (unpack u x)) where
+  module _ (c : Config) (j n : ℕ) (w : Bool) {v : Bool} (h : (anyOf (conflicts c) (held ws j (n - j)) || w) ≡ v) where
+    module _ (l : j < n) {d : Packed} {r : Bool} (is : d ≡ packedAt ws j) (e : r ≡ conflicts c (configOf d)) where
       pub pair-hit : r ≡ true → true ≡ v
-      pair-hit z = let y : true ≡ anyOf (conflicts c) (held hs ss j (n - j)) = any-hit hs ss (conflicts c) j n refl l (test-at hs ss (conflicts c) j p q e z) in ap (λ (b : Bool). b || w) y ∙ h
+      pair-hit z = let y : true ≡ anyOf (conflicts c) (held ws j (n - j)) = any-hit ws (conflicts c) j n refl l (test-at ws (conflicts c) j is e z) in
+          ap (λ (b : Bool). b || w) y ∙ h
 
-      pub pair-next : r ≡ false → (anyOf (conflicts c) (held hs ss (j + 1) (n - (j + 1))) || w) ≡ v
-      pair-next z = let y : anyOf (conflicts c) (held hs ss (j + 1) (n - (j + 1))) ≡ anyOf (conflicts c) (held hs ss j (n - j)) = any-next hs ss (conflicts c) j n refl l (test-at hs ss (conflicts c) j p q e z) in ap (λ (b : Bool). b || w) y ∙ h
+      pub pair-next : r ≡ false → (anyOf (conflicts c) (held ws (j + 1) (n - (j + 1))) || w) ≡ v
+      pair-next z = let y : anyOf (conflicts c) (held ws (j + 1) (n - (j + 1))) ≡ anyOf (conflicts c) (held ws j (n - j)) =
+          any-next ws (conflicts c) j n refl l (test-at ws (conflicts c) j is e z) in ap (λ (b : Bool). b || w) y ∙ h
 
     pub pair-end : n ≤ j → w ≡ v
-    pair-end l = let y : false ≡ anyOf (conflicts c) (held hs ss j (n - j)) = any-end hs ss (conflicts c) j n refl l in ap (λ (b : Bool). b || w) y ∙ h
+    pair-end l = let y : false ≡ anyOf (conflicts c) (held ws j (n - j)) = any-end ws (conflicts c) j n refl l in ap (λ (b : Bool). b || w) y ∙ h
 
   -- ---- the rules in order, on those from f up to n
   module _ (f n : ℕ) where
     abbrev ks : List Config
-    ks = held hs ss f (n - f)
+    ks = held ws f (n - f)
 
     pub judge-none : n ≤ f → Judges Full ks (judged ks)
     unfolding Judges judged
-    judge-none l = rw (held-none hs ss f n l)
+    judge-none l = rw (held-none ws f n l)
 
-    module _ (l : f < n) {u x a : ℕ} (p : u ≡ getD hs f 0) (q : x ≡ getD ss f 0) (e : a ≡ unpack u x .alternative) {r : Bool} (d : r ≡ agreed a (held hs ss (f + 1) (n - (f + 1)))) where
-      is : heldAt hs ss f .alternative ≡ a
-      unfolding heldAt
-      is = (λ i. unpack (sym p i) (sym q i) .alternative) ∙ sym e
+    module _ (l : f < n) {c : Packed} {a : ℕ} (at : c ≡ packedAt ws f) (e : a ≡ configOf c .alternative) {r : Bool}
+        (d : r ≡ agreed a (held ws (f + 1) (n - (f + 1)))) where
+      is : heldAt ws f .alternative ≡ a
+      is = ap (λ (k : Config). k .alternative) (sym (said-at ws f at)) ∙ sym e
 
       split : judged ks ≡ cond r (alternative a) (resolved ks)
       unfolding judged
       split =
-          let s = held-first hs ss f n l in
-          let z : judged (heldAt hs ss f ∷ held hs ss (f + 1) (n - (f + 1))) ≡ cond r (alternative a) (resolved (heldAt hs ss f ∷ held hs ss (f + 1) (n - (f + 1)))) = rw (is, ← d) in
+          let s = held-first ws f n l in
+          let z : judged (heldAt ws f ∷ held ws (f + 1) (n - (f + 1)))
+          ≡ cond r (alternative a) (resolved (heldAt ws f ∷ held ws (f + 1) (n - (f + 1)))) = rw (is, ← d) in
           ap judged s ∙ z ∙ ap (λ (m : List Config). cond r (alternative a) (resolved m)) (sym s)
 
       pub judge-agreed : r ≡ true → Judges (Alternative a) ks (judged ks)
@@ -179,7 +194,7 @@ module _ (hs ss : List ℕ) where
       module _ (o : r ≡ false) {s : Bool} (g : s ≡ shared ks) where
         pub judge-apart : s ≡ false → Judges (State (n - f)) ks (judged ks)
         unfolding Judges resolved
-        judge-apart z = (rw (split, o, ← g, z), length-held hs ss f (n - f))
+        judge-apart z = (rw (split, o, ← g, z), length-held ws f (n - f))
 
         pub judge-conflict : s ≡ true → {t : Bool} → t ≡ settled ks → t ≡ false → Judges Full ks (judged ks)
         unfolding Judges resolved
@@ -187,4 +202,4 @@ module _ (hs ss : List ℕ) where
 
         pub judge-settled : s ≡ true → {t : Bool} → t ≡ settled ks → t ≡ true → Judges (State (n - f)) ks (judged ks)
         unfolding Judges resolved
-        judge-settled z w y = (rw (split, o, ← g, z, ← w, y), length-held hs ss f (n - f))
+        judge-settled z w y = (rw (split, o, ← g, z, ← w, y), length-held ws f (n - f))

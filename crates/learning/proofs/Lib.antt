@@ -1,3 +1,5 @@
 -- Laws on the rules and the outcomes as the code works them out, one subject a file.
 pub mod JudgeLaws
-pub mod LearnLaws
+pub mod StartLaws
+pub mod AdvanceLaws
+pub mod OutcomeLaws

@@ -3,11 +3,11 @@ ghost use mathlib.Core.Path.{_≡_};
 ghost use mathlib.Core.Bool.{not};
 ghost use Prim.Native.Nat.{_-_, _≤_};
 ghost use Rattle.base.specs.Rounds.{anyOf};
-ghost use Rattle.configurations.specs.Packing.{unpack};
+ghost use Rattle.configurations.specs.Packing.{configOf};
 ghost use Rattle.lookahead.specs.Outcomes.{rivals, agreed, shared, settled, judged};
 ghost use Rattle.configurations.specs.Held.{held, Room};
 ghost use Rattle.learning.specs.Told.{Judges};
-use configurations::Config;
+use configurations::Packed;
 
 // FULL, an alternative, or a state with that many configurations.
 pub enum Outcome {
@@ -17,13 +17,13 @@ pub enum Outcome {
 }
 
 // Whether all from `from` on have alternative b.
-fn agreed(heads: &[u32], stacks: &[u64], from: usize, n: usize, b: u32) -> bool
-    requires { ⌜ Room (now heads) (now stacks) n × (from ≤ n) ⌝ }
-    ensures { λ r. ⌜ r ≡ agreed b (held (now (heads .entry)) (now (stacks .entry)) from (n - from)) ⌝ }
+fn agreed(members: &[u32], from: usize, n: usize, b: u32) -> bool
+    requires { ⌜ Room (now members) n × (from ≤ n) ⌝ }
+    ensures { λ r. ⌜ r ≡ agreed b (held (now (members .entry)) from (n - from)) ⌝ }
 {
     let mut k = from;
     while k < n {
-        let c = configurations::member(heads, stacks, k);
+        let c = configurations::member(members, k);
         if c.alternative() != b {
             return false;
         }
@@ -33,18 +33,18 @@ fn agreed(heads: &[u32], stacks: &[u64], from: usize, n: usize, b: u32) -> bool
 }
 
 // Whether two alternatives share a place and a stack. The search ends at the first such pair.
-fn shared(heads: &[u32], stacks: &[u64], first: usize, n: usize) -> bool
-    requires { ⌜ Room (now heads) (now stacks) n × (first ≤ n) ⌝ }
-    ensures { λ r. ⌜ r ≡ shared (held (now (heads .entry)) (now (stacks .entry)) first (n - first)) ⌝ }
+fn shared(members: &[u32], first: usize, n: usize) -> bool
+    requires { ⌜ Room (now members) n × (first ≤ n) ⌝ }
+    ensures { λ r. ⌜ r ≡ shared (held (now (members .entry)) first (n - first)) ⌝ }
 {
     let mut found = false;
     let mut i = first;
     'search: while i < n {
-        let c = configurations::member(heads, stacks, i);
+        let c = configurations::member(members, i);
         i += 1;
         let mut j = i;
         while j < n {
-            let d = configurations::member(heads, stacks, j);
+            let d = configurations::member(members, j);
             if c.conflicts(d) {
                 found = true;
                 break 'search;
@@ -56,13 +56,13 @@ fn shared(heads: &[u32], stacks: &[u64], first: usize, n: usize) -> bool
 }
 
 // Whether no other alternative stands at the place of c.
-fn alone(heads: &[u32], stacks: &[u64], first: usize, n: usize, c: Config) -> bool
-    requires { ⌜ Room (now heads) (now stacks) n × (first ≤ n) ⌝ }
-    ensures { λ r. ⌜ r ≡ not (anyOf (rivals (unpack (c .head) (c .stack))) (held (now (heads .entry)) (now (stacks .entry)) first (n - first))) ⌝ }
+fn alone(members: &[u32], first: usize, n: usize, c: Packed) -> bool
+    requires { ⌜ Room (now members) n × (first ≤ n) ⌝ }
+    ensures { λ r. ⌜ r ≡ not (anyOf (rivals (configOf c)) (held (now (members .entry)) first (n - first))) ⌝ }
 {
     let mut k = first;
     while k < n {
-        let d = configurations::member(heads, stacks, k);
+        let d = configurations::member(members, k);
         if c.rivals(d) {
             return false;
         }
@@ -72,14 +72,14 @@ fn alone(heads: &[u32], stacks: &[u64], first: usize, n: usize, c: Config) -> bo
 }
 
 // Whether some place belongs to one alternative only.
-fn settled(heads: &[u32], stacks: &[u64], first: usize, n: usize) -> bool
-    requires { ⌜ Room (now heads) (now stacks) n × (first ≤ n) ⌝ }
-    ensures { λ r. ⌜ r ≡ settled (held (now (heads .entry)) (now (stacks .entry)) first (n - first)) ⌝ }
+fn settled(members: &[u32], first: usize, n: usize) -> bool
+    requires { ⌜ Room (now members) n × (first ≤ n) ⌝ }
+    ensures { λ r. ⌜ r ≡ settled (held (now (members .entry)) first (n - first)) ⌝ }
 {
     let mut k = first;
     while k < n {
-        let c = configurations::member(heads, stacks, k);
-        if alone(heads, stacks, first, n, c) {
+        let c = configurations::member(members, k);
+        if alone(members, first, n, c) {
             return true;
         }
         k += 1;
@@ -88,22 +88,22 @@ fn settled(heads: &[u32], stacks: &[u64], first: usize, n: usize) -> bool
 }
 
 // Rules 2 to 5, in order.
-pub fn judge(heads: &[u32], stacks: &[u64], first: usize, n: usize) -> Outcome
-    requires { ⌜ Room (now heads) (now stacks) n × (first ≤ n) ⌝ }
-    ensures { λ r. ⌜ Judges r (held (now (heads .entry)) (now (stacks .entry)) first (n - first)) (judged (held (now (heads .entry)) (now (stacks .entry)) first (n - first))) ⌝ }
+pub fn judge(members: &[u32], first: usize, n: usize) -> Outcome
+    requires { ⌜ Room (now members) n × (first ≤ n) ⌝ }
+    ensures { λ r. ⌜ Judges r (held (now (members .entry)) first (n - first)) (judged (held (now (members .entry)) first (n - first))) ⌝ }
 {
     if first == n {
         return Outcome::Full;
     }
-    let c = configurations::member(heads, stacks, first);
+    let c = configurations::member(members, first);
     let b = c.alternative();
-    if agreed(heads, stacks, first + 1, n, b) {
+    if agreed(members, first + 1, n, b) {
         return Outcome::Alternative(b);
     }
-    if !shared(heads, stacks, first, n) {
+    if !shared(members, first, n) {
         return Outcome::State(n - first);
     }
-    if settled(heads, stacks, first, n) {
+    if settled(members, first, n) {
         return Outcome::State(n - first);
     }
     Outcome::Full

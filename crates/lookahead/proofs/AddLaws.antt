@@ -107,7 +107,8 @@ module _ (g : Grammar) (start : List Config) where
 
       go : (m s l : Bool) → member? d ms ≡ m → leb (length (d .stack)) maxEntries ≡ s → ltb (length ms) maxMembers ≡ l
           → Adds ms (d ∷ []) (cond m (some ms) (cond (s && l) (some (ms ++ (d ∷ []))) none))
-      go true s l em es el = went (record { others = []; grown = append-nil ms; work = w; new = one (λ (c : Config). In c ms) (member-in d ms (true→T (member? d ms) em)) })
+      go true s l em es el = went (record
+          { others = []; grown = append-nil ms; work = w; new = one (λ (c : Config). In c ms) (member-in d ms (true→T (member? d ms) em)) })
       go false false l em es el = stopped (deep d r (leb-false (length (d .stack)) maxEntries es))
       go false true false em es el =
           stopped (many (record {
@@ -123,7 +124,8 @@ module _ (g : Grammar) (start : List Config) where
         new = λ c m. Memᴰ·append-right ms m;
       })
 
-  join : {ms : List Config} {d : Config} {ds ms′ : List Config} {o : Option (List Config)} → Grown ms (d ∷ []) ms′ → Adds ms′ ds o → Adds ms (d ∷ ds) o
+  join : {ms : List Config} {d : Config} {ds ms′ : List Config} {o : Option (List Config)} → Grown ms (d ∷ []) ms′ → Adds ms′ ds o
+      → Adds ms (d ∷ ds) o
   join w (stopped x) = stopped x
   join {ms} {d} {ds} {ms′} w (went {ms′ = ms″} v) = went (record {
     others = w .others ++ v .others;
@@ -139,7 +141,8 @@ module _ (g : Grammar) (start : List Config) where
   pub addAll-right : (ds ms : List Config) → Work ms → Each (Closes g start) ds → Adds ms ds (addAll ms ds)
   unfolding addAll
   addAll-right [] ms w r = went (record { others = []; grown = append-nil ms; work = w; new = λ c m. absurd (List·Memᴰ·not-nil m) })
-  addAll-right (d ∷ ds) ms w r = go (add-right ms d w (r d (List·Memᴰ·head refl))) (λ ms′ v. addAll-right ds ms′ v (λ c m. r c (List·Memᴰ·tail m)))
+  addAll-right (d ∷ ds) ms w r = go (add-right ms d w (r d (List·Memᴰ·head refl)))
+      (λ ms′ v. addAll-right ds ms′ v (λ c m. r c (List·Memᴰ·tail m)))
     where
       go : {o : Option (List Config)} → Adds ms (d ∷ []) o → ((ms′ : List Config) → Work ms′ → Adds ms′ ds (addAll ms′ ds))
           → Adds ms (d ∷ ds) (elim o as (λ _. Option (List Config)) [ none ↦ none | some ms′ ↦ addAll ms′ ds ])

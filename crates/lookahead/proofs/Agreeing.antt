@@ -41,7 +41,8 @@ judged-alternative (k ∷ ks) {b} e c m = go (agreed (k .alternative) ks) refl e
     unresolved : ¬ (resolved (k ∷ ks) ≡ alternative b)
     unresolved q = settle (shared (k ∷ ks) && not (settled (k ∷ ks))) q
 
-    go : (x : Bool) → agreed (k .alternative) ks ≡ x → cond x (alternative (k .alternative)) (resolved (k ∷ ks)) ≡ alternative b → c .alternative ≡ b
+    go : (x : Bool) → agreed (k .alternative) ks ≡ x → cond x (alternative (k .alternative)) (resolved (k ∷ ks)) ≡ alternative b → c .alternative
+        ≡ b
     go true t q = let z : k .alternative ≡ b = cc in agreed-first k ks (true→T (agreed (k .alternative) ks) t) c m ∙ z
     go false t q = absurd (unresolved q)
 
@@ -54,11 +55,13 @@ limited-alternative ks {b} e = go (ltb maxKept (length ks)) e
     go false q = q
 
 module _ (g : Grammar) where
-  pub outcome-alternative : (start : List Config) {b : ℕ} → outcome g start ≡ alternative b → (c : Config) → Closes g start c → T (kept? g c) → c .alternative ≡ b
+  pub outcome-alternative : (start : List Config) {b : ℕ} → outcome g start ≡ alternative b → (c : Config) → Closes g start c → T (kept? g c)
+      → c .alternative ≡ b
   unfolding outcome
   outcome-alternative start {b} e c x t = go (close g start) refl e
     where
-      go : (o : Option (List Config)) → close g start ≡ o → (elim o as (λ _. Outcome) [ none ↦ full | some ms ↦ limited (kept g ms) ]) ≡ alternative b → c .alternative ≡ b
+      go : (o : Option (List Config)) → close g start ≡ o → (elim o as (λ _. Outcome) [ none ↦ full | some ms ↦ limited (kept g ms) ])
+          ≡ alternative b → c .alternative ≡ b
       go none q e = clash (cc)
       go (some ms) q e = judged-alternative (kept g ms) (limited-alternative (kept g ms) e) c (kept-right g ms c .1 (close-some g start ms q .exact c .1 x, t))
 
@@ -77,7 +80,8 @@ module _ (g : Grammar) (ordered : Ordered g) where
     over : {ks : List Config} → i ≡ length w → Allows b w i (state ks)
 
   -- AN OUTCOME AGREES with every derivation that has a token left
-  pub outcome-allows : (start : List Config) {b : ℕ} {w z r : List ℕ} {i : ℕ} → Run g w z i (length w) r → i < length w → Valid g z → Cover g ordered start b z → Allows b w i (outcome g start)
+  pub outcome-allows : (start : List Config) {b : ℕ} {w z r : List ℕ} {i : ℕ} → Run g w z i (length w) r → i < length w → Valid g z
+      → Cover g ordered start b z → Allows b w i (outcome g start)
   outcome-allows start {b} {w} {i = i} x l va v = go (outcome g start) refl (face g ordered x refl l va v)
     where
       waits : (f : Faced g ordered start b w i) → T (kept? g (f .member))
@@ -89,7 +93,8 @@ module _ (g : Grammar) (ordered : Ordered g) where
       go (state ks) e f = there (record { start = start; faced = f; held = state-exact g start ks e (f .member) .1 (f .closes, waits f) })
 
   -- a start agrees
-  pub start-allows : (a b f : ℕ) (S : List ℕ) {w r : List ℕ} {i : ℕ} → first g a b ≡ some f → Run g w (f ∷ S) i (length w) r → i < length w → Valid g (f ∷ S) → Allows b w i (startOutcome g a)
+  pub start-allows : (a b f : ℕ) (S : List ℕ) {w r : List ℕ} {i : ℕ} → first g a b ≡ some f → Run g w (f ∷ S) i (length w) r → i < length w
+      → Valid g (f ∷ S) → Allows b w i (startOutcome g a)
   unfolding startOutcome
   start-allows a b f S q x l va =
       outcome-allows (startConfigs g a) x l va
@@ -102,14 +107,16 @@ module _ (g : Grammar) (ordered : Ordered g) where
       })
 
   -- and a step from a state in which the alternative is followed, if a token is left behind it
-  pub step-allows : {ks : List Config} {b : ℕ} {w : List ℕ} {i : ℕ} (h : Followed ks b w i) → suc i < length w → Allows b w (suc i) (stepOutcome g (h .faced .token) ks)
+  pub step-allows : {ks : List Config} {b : ℕ} {w : List ℕ} {i : ℕ} (h : Followed ks b w i) → suc i < length w
+      → Allows b w (suc i) (stepOutcome g (h .faced .token) ks)
   unfolding stepOutcome
   step-allows {ks} h l =
       let f = h .faced in
       outcome-allows (stepConfigs g (f .token) ks) (f .onward) l (f .valid)
       (record {
         member = onward (f .member);
-        closes = from (step-exact g (f .token) ks (onward (f .member)) .1 (record { source = f .member; held = h .held; kind = f .kind; faces = f .faces; passes = f .passes; is = refl }));
+        closes = from (step-exact g (f .token) ks (onward (f .member)) .1
+            (record { source = f .member; held = h .held; kind = f .kind; faces = f .faces; passes = f .passes; is = refl }));
         same = f .same;
         rest = f .rest;
         covers = refl;
@@ -133,17 +140,20 @@ module _ (g : Grammar) (ordered : Ordered g) where
         place = bounded .end-only (f .member .place) (f .kind) (f .faces) (subst (λ (t : ℕ). T (admits g (f .kind) t)) e (f .passes))
 
         closes : Closes g (stepConfigs g (f .token) ks) (onward (f .member))
-        closes = from (step-exact g (f .token) ks (onward (f .member)) .1 (record { source = f .member; held = h .held; kind = f .kind; faces = f .faces; passes = f .passes; is = refl }))
+        closes = from (step-exact g (f .token) ks (onward (f .member)) .1
+            (record { source = f .member; held = h .held; kind = f .kind; faces = f .faces; passes = f .passes; is = refl }))
 
         go : (o : Outcome) → outcome g (stepConfigs g (f .token) ks) ≡ o → Allows b w (suc i) o
         go full q = any
         go (alternative b′) q =
-            let z : b′ ≡ b = sym (outcome-alternative g (stepConfigs g (f .token) ks) q (onward (f .member)) closes (waits-right g (onward (f .member)) .1 (Waits.past (ap suc place)))) ∙ f .same in
+            let z : b′ ≡ b = sym (outcome-alternative g (stepConfigs g (f .token) ks) q (onward (f .member)) closes
+            (waits-right g (onward (f .member)) .1 (Waits.past (ap suc place)))) ∙ f .same in
             rw z this
         go (state ls) q = over l
 
     -- and so a step agrees from every state in which the alternative is followed
-    pub step-agrees : {ks : List Config} {b : ℕ} {w : List ℕ} {i : ℕ} → Marked w → (h : Followed ks b w i) → Allows b w (suc i) (stepOutcome g (h .faced .token) ks)
+    pub step-agrees : {ks : List Config} {b : ℕ} {w : List ℕ} {i : ℕ} → Marked w → (h : Followed ks b w i)
+        → Allows b w (suc i) (stepOutcome g (h .faced .token) ks)
     step-agrees {ks} {b} {w} {i} m h = go (ltb (suc i) (length w)) refl
       where
         go : (x : Bool) → ltb (suc i) (length w) ≡ x → Allows b w (suc i) (stepOutcome g (h .faced .token) ks)

@@ -31,7 +31,8 @@ pub record Bounded (g : Grammar) : Type 0 where
   pub few : (a : ℕ) → length (alternatives g a) ≤ maxProductions
 
 -- ---- compiled rules
-starts-few : (t n o : ℕ) (l : List (List (List Symbol))) → AllOf (Alternatives t n) l → (a : ℕ) → length (getD (startsAll o l) a []) ≤ maxProductions
+starts-few : (t n o : ℕ) (l : List (List (List Symbol))) → AllOf (Alternatives t n) l → (a : ℕ)
+    → length (getD (startsAll o l) a []) ≤ maxProductions
 unfolding startsAll
 starts-few t n o [] h a = omega arith
 starts-few t n o (x ∷ l) h zero = let z = h .0 .1 in omega (arith, length-startsEach o x)
@@ -49,7 +50,8 @@ module _ (r : Rules) (limits : Limited r) where
   compile-tokens : (p k : ℕ) → facing (compile r) p ≡ Token k → (p < sizeAll (r .productions)) ⊎ (p ≡ endPlace)
   compile-tokens p k e = go (compile-faces r limits p) e
     where
-      go : {s : Symbol} → Faces (r .kinds) (length (r .productions)) (sizeAll (r .productions)) endPlace p s → s ≡ Token k → (p < sizeAll (r .productions)) ⊎ (p ≡ endPlace)
+      go : {s : Symbol} → Faces (r .kinds) (length (r .productions)) (sizeAll (r .productions)) endPlace p s → s ≡ Token k
+          → (p < sizeAll (r .productions)) ⊎ (p ≡ endPlace)
       go (Faces.end q) e = clash (cc)
       go (Faces.mark l q) e = inr l
       go (Faces.legal l q) e = inl l

@@ -43,10 +43,14 @@ module _ (g : Grammar) (start : List Config) where
     distinct = w .distinct;
     few = w .few;
     small = w .small;
-    exact = λ c. (λ m. w .reached c m, λ r. all-reached (λ d m. let t = in-get m in h (t .0) d (let b = get-below ms (t .0) (t .1) in omega arith) (t .1)) s r);
+    exact = λ c. (
+      λ m. w .reached c m,
+      λ r. all-reached (λ d m. let t = in-get m in h (t .0) d (let b = get-below ms (t .0) (t .1) in omega arith) (t .1)) s r,
+    );
   })
 
-  done-on : (k : ℕ) {c : Config} {ms ms′ : List Config} → getElem? ms k ≡ some c → Done k ms → Grown g start ms (moves g c) ms′ → Done (suc k) ms′
+  done-on : (k : ℕ) {c : Config} {ms ms′ : List Config} → getElem? ms k ≡ some c → Done k ms → Grown g start ms (moves g c) ms′
+      → Done (suc k) ms′
   done-on k {c} {ms} {ms′} e h w i d l q = go (decLt i k)
     where
       before : i < length ms → getElem? ms i ≡ some d
@@ -87,7 +91,13 @@ module _ (g : Grammar) (start : List Config) where
   close-right = go (addAll-right g start start [] nothing (λ c m. from m))
     where
       nothing : Work g start []
-      nothing = record { distinct = nil; reached = λ c m. absurd (List·Memᴰ·not-nil m); small = λ c m. absurd (List·Memᴰ·not-nil m); few = omega arith }
+      nothing = record {
+        distinct = nil;
+        reached = λ c m. absurd (List·Memᴰ·not-nil m);
+        small = λ c m. absurd (List·Memᴰ·not-nil m);
+        few =
+            omega arith;
+      }
 
       go : {o : Option (List Config)} → Adds g start [] start o
           → Closed g start (elim o as (λ _. Option (List Config)) [ none ↦ none | some ms ↦ closeFrom g maxMembers 0 ms ])

@@ -11,7 +11,8 @@ use Rattle.grammar.specs.Limits.{endPlace, endMark}
 use Rattle.grammar.specs.Grammar.{Grammar, owner}
 use Rattle.lookahead.specs.Configs.{Config, In, Moves, enter, pop, behind, end, Closes, from, move}
 use Rattle.lookahead.specs.Order.{pastEnd}
-use Rattle.lookahead.specs.Outcomes.{full, alternative, state, rivals, conflicts, agreed, shared, settled, resolved, judged, outcome, stepConfigs, stepOutcome}
+use Rattle.lookahead.specs.Outcomes.{full, alternative, state, rivals, conflicts, agreed, shared, settled, resolved, judged, outcome, stepConfigs}
+use Rattle.lookahead.specs.Outcomes.{stepOutcome}
 use Rattle.lookahead.specs.Rules.{Each}
 use Rattle.lookahead.proofs.Bounds.{Bounded}
 use Rattle.lookahead.proofs.Standing.{At, inside, last, past, Standing}
@@ -44,7 +45,8 @@ module _ (ks : List Config) (gone : Each Past ks) (k d : Config) (k-in : In k ks
   unfolding resolved
   conflict-full =
       rw (T→true (shared ks && not (settled ks))
-      (T-and (shared ks) (not (settled ks)) (shared-in ks d k d-in k-in (conflict d k (gone d d-in) (gone k k-in) apart)) (not-T (settled ks) (settled-in ks has-rival))))
+      (T-and (shared ks) (not (settled ks)) (shared-in ks d k d-in k-in (conflict d k (gone d d-in) (gone k k-in) apart))
+      (not-T (settled ks) (settled-in ks has-rival))))
 
 judged-past : (ks ls : List Config) → Each Past ks → ¬ (judged ks ≡ state ls)
 unfolding judged

@@ -44,7 +44,8 @@ module _ (g : Grammar) (ordered : Ordered g) where
   pub valid-token : (p k : ℕ) (S : List ℕ) → facing g p ≡ Token k → Valid g (p ∷ S) → Valid g (suc p ∷ S)
   valid-token p k S e v = valid-owner g p (suc p) S (ordered .token-on p k e) v
 
-  pub valid-call : (p a b f : ℕ) (S : List ℕ) → facing g p ≡ Nonterminal a → first g a b ≡ some f → Valid g (p ∷ S) → Valid g (f ∷ suc p ∷ S)
+  pub valid-call : (p a b f : ℕ) (S : List ℕ) → facing g p ≡ Nonterminal a → first g a b ≡ some f → Valid g (p ∷ S)
+      → Valid g (f ∷ suc p ∷ S)
   valid-call p a b f S e q v = (call {o = p} (rw (ordered .owns a b f q) e) refl, valid-owner g p (suc p) S (ordered .call-on p a e) v)
 
   -- ---- configurations along a derivation
@@ -56,7 +57,8 @@ module _ (g : Grammar) (ordered : Ordered g) where
     pub rest : List ℕ
     pub covers : z ≡ member .place ∷ (member .stack ++ rest)
 
-  cover-call : {start : List Config} {b p a f : ℕ} (b′ : ℕ) (S : List ℕ) → facing g p ≡ Nonterminal a → first g a b′ ≡ some f → Cover start b (p ∷ S) → Cover start b (f ∷ suc p ∷ S)
+  cover-call : {start : List Config} {b p a f : ℕ} (b′ : ℕ) (S : List ℕ) → facing g p ≡ Nonterminal a → first g a b′ ≡ some f
+      → Cover start b (p ∷ S) → Cover start b (f ∷ suc p ∷ S)
   cover-call {start} {b} {p} {a} {f} b′ S e q v =
       let c = v .member in
       let h = v .covers in
@@ -71,7 +73,8 @@ module _ (g : Grammar) (ordered : Ordered g) where
         covers = cc;
       }
 
-  cover-end : {start : List Config} {b p q : ℕ} (S : List ℕ) → facing g p ≡ End → Returns g p q → Cover start b (p ∷ q ∷ S) → Cover start b (q ∷ S)
+  cover-end : {start : List Config} {b p q : ℕ} (S : List ℕ) → facing g p ≡ End → Returns g p q → Cover start b (p ∷ q ∷ S)
+      → Cover start b (q ∷ S)
   cover-end {start} {b} {p} {q} S e r v = go (c .stack) refl r
     where
       c : Config
@@ -89,10 +92,24 @@ module _ (g : Grammar) (ordered : Ordered g) where
       go : (st : List ℕ) → c .stack ≡ st → Returns g p q → Cover start b (q ∷ S)
       go [] h (call {o = o} f z) =
           let f′ : facing g o ≡ Nonterminal (owner g (c .place)) = rw pe at f in
-          record { member = config (suc o) (c .alternative) []; closes = move (v .closes) (behind {q = o} fe h f′); same = v .same; rest = S; covers = ap (λ (x : ℕ). x ∷ S) z }
+          record {
+            member = config (suc o) (c .alternative) [];
+            closes = move (v .closes) (behind {q = o} fe h f′);
+            same = v .same;
+            rest = S;
+            covers =
+                ap (λ (x : ℕ). x ∷ S) z;
+          }
       go [] h (last y z) =
           let y′ : owner g (c .place) ≡ 0 = rw pe at y in
-          record { member = config endPlace (c .alternative) []; closes = move (v .closes) (end fe h y′); same = v .same; rest = S; covers = ap (λ (x : ℕ). x ∷ S) z }
+          record {
+            member = config endPlace (c .alternative) [];
+            closes = move (v .closes) (end fe h y′);
+            same = v .same;
+            rest = S;
+            covers =
+                ap (λ (x : ℕ). x ∷ S) z;
+          }
       go (x ∷ st) h r =
           record {
             member = config x (c .alternative) st;
@@ -102,7 +119,8 @@ module _ (g : Grammar) (ordered : Ordered g) where
             covers = se ∙ ap (λ (y : List ℕ). y ++ v .rest) h;
           }
 
-  cover-below : {start : List Config} {b p : ℕ} (S : List ℕ) → facing g p ≡ End → ¬ (S ≡ []) → Valid g (p ∷ S) → Cover start b (p ∷ S) → Cover start b S
+  cover-below : {start : List Config} {b p : ℕ} (S : List ℕ) → facing g p ≡ End → ¬ (S ≡ []) → Valid g (p ∷ S) → Cover start b (p ∷ S)
+      → Cover start b S
   cover-below [] e n va v = absurd (n refl)
   cover-below (q ∷ S) e n va v = cover-end S e (va .0) v
 
@@ -129,7 +147,8 @@ module _ (g : Grammar) (ordered : Ordered g) where
   open-run (Run.expand f d x) e h q = clash (cc)
 
   -- A DERIVATION IS FOLLOWED up to the next token
-  pub face : {start : List Config} {b : ℕ} {w z r : List ℕ} {i j : ℕ} → Run g w z i j r → j ≡ length w → i < length w → Valid g z → Cover start b z → Faced start b w i
+  pub face : {start : List Config} {b : ℕ} {w z r : List ℕ} {i j : ℕ} → Run g w z i j r → j ≡ length w → i < length w → Valid g z
+      → Cover start b z → Faced start b w i
   face (Run.done l) e h va v = absurd (omega arith)
   face {start} {b} {w} (Run.finish {p = p} {S = S} f x) e h va v = face x e h (valid-below g p S va) (cover-below S f (open-run x e h) va v)
   face (Run.expand {p = p} {a = a} {b = b′} {f = f} {S = S} d q x) e h va v = face x e h (valid-call p a b′ f S d q va) (cover-call b′ S d q v)

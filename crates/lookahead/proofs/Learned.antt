@@ -29,10 +29,12 @@ module _ (r : Rules) (limits : Limited r) where
   pub step-right : (a : ℕ) (ks : List Config) → States (compile r) a ks → (t : ℕ) (o : Outcome)
       → Gives (compile r) (stepConfigs (compile r) t ks) o ↔ (stepOutcome (compile r) t ks ≡ o)
   unfolding stepOutcome
-  step-right a ks s t o = outcome-right (compile r) (stepConfigs (compile r) t ks) bounded (step-standing (compile r) bounded t ks (states-standing (compile r) bounded s)) o
+  step-right a ks s t o = outcome-right (compile r) (stepConfigs (compile r) t ks) bounded
+      (step-standing (compile r) bounded t ks (states-standing (compile r) bounded s)) o
 
   -- two states are equal exactly if they hold the same configurations, whatever their decisions
-  pub states-equal : {a b : ℕ} (ks ls : List Config) → States (compile r) a ks → States (compile r) b ls → (ks ≡ ls) ↔ ((c : Config) → In c ks ↔ In c ls)
+  pub states-equal : {a b : ℕ} (ks ls : List Config) → States (compile r) a ks → States (compile r) b ls
+      → (ks ≡ ls) ↔ ((c : Config) → In c ks ↔ In c ls)
   states-equal ks ls s t = (
     λ e c. rw e (λ m. m, λ m. m),
     λ h. ascending-one (states-ascending (compile r) bounded s) (states-ascending (compile r) bounded t) (λ c m. h c .0 m) (λ c m. h c .1 m),

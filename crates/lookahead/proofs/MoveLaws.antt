@@ -4,7 +4,8 @@ use mathlib.Core.Logic.{_↔_, _⊎_, inl, inr}
 use mathlib.Core.Bool.{Bool, true, false, cond}
 use mathlib.Core.Option.{some}
 use mathlib.Core.List.{List, [], _∷_, List·Memᴰ·head, List·Memᴰ·tail, List·Memᴰ·not-nil}
-use mathlib.Core.List.{List·Memᴰ·cases-cons, List·Memᴰ·eq-of-singleton, List·Memᴰ·append-cases, Memᴰ·append-left, Memᴰ·append-right, Memᴰ·cast}
+use mathlib.Core.List.{List·Memᴰ·cases-cons, List·Memᴰ·eq-of-singleton, List·Memᴰ·append-cases, Memᴰ·append-left, Memᴰ·append-right}
+use mathlib.Core.List.{Memᴰ·cast}
 use Prim.Native.Nat.{ℕ, zero, suc, _+_}
 use native.Mathlib.Omega.{arith}
 use lib.Dec.{eqb}
@@ -58,7 +59,8 @@ behind-in a p (y ∷ l) zero e =
     rw (c, z) (List·Memᴰ·head refl)
 behind-in a p (y ∷ l) (suc q) e = go (calls? a (y .symbol)) (behind-in a (suc p) l q e)
   where
-    go : (b : Bool) → In (suc (suc p + q)) (behindFrom a (suc p) l) → In (suc (p + suc q)) (cond b (suc p ∷ behindFrom a (suc p) l) (behindFrom a (suc p) l))
+    go : (b : Bool) → In (suc (suc p + q)) (behindFrom a (suc p) l)
+        → In (suc (p + suc q)) (cond b (suc p ∷ behindFrom a (suc p) l) (behindFrom a (suc p) l))
     go true rec = let z : p + suc q ≡ suc p + q = omega arith in rw z (List·Memᴰ·tail rec)
     go false rec = let z : p + suc q ≡ suc p + q = omega arith in rw z rec
 
@@ -130,7 +132,8 @@ module _ (g : Grammar) where
   moves-in c d (pop {r = r} {s = s} e h) = at-end c (config r (c .alternative) s) (r ∷ s) e h (List·Memᴰ·head refl)
   moves-in c d (behind {q = q} e h f) =
       at-end c (config (suc q) (c .alternative) []) [] e h (map-in (λ (x : ℕ). config x (c .alternative) []) (follows-behind (owner g (c .place)) q f))
-  moves-in c d (end e h z) = at-end c (config endPlace (c .alternative) []) [] e h (map-in (λ (x : ℕ). config x (c .alternative) []) (follows-end (owner g (c .place)) z))
+  moves-in c d (end e h z) = at-end c (config endPlace (c .alternative) []) [] e h
+      (map-in (λ (x : ℕ). config x (c .alternative) []) (follows-end (owner g (c .place)) z))
 
   -- the computed list holds exactly the moves
   pub moves-right : (c d : Config) → In d (moves g c) ↔ Moves g c d

@@ -61,7 +61,8 @@ ascending-one none (next {c = y} b l) s t = absurd (List·Memᴰ·not-nil (t y (
 ascending-one (next {c = x} a k) none s t = absurd (List·Memᴰ·not-nil (s x (List·Memᴰ·head refl)))
 ascending-one (next {c = x} {l = k} a p) (next {c = y} {l = l} b q) s t =
     let e = heads (List·Memᴰ·cases-cons (s x (List·Memᴰ·head refl))) (List·Memᴰ·cases-cons (t y (List·Memᴰ·head refl))) in
-    let r = ascending-one p q (λ z m. left e z m (List·Memᴰ·cases-cons (s z (List·Memᴰ·tail m)))) (λ z m. right e z m (List·Memᴰ·cases-cons (t z (List·Memᴰ·tail m)))) in
+    let r = ascending-one p q (λ z m. left e z m (List·Memᴰ·cases-cons (s z (List·Memᴰ·tail m))))
+    (λ z m. right e z m (List·Memᴰ·cases-cons (t z (List·Memᴰ·tail m)))) in
     cc
   where
     heads : (x ≡ y) ⊎ In x l → (y ≡ x) ⊎ In y k → x ≡ y
@@ -152,7 +153,8 @@ unfolding sort
 sort-ascending nil h = none
 sort-ascending (also {x = c} {l = l} n d) h =
     insert-ascending c (sort-ascending d (λ x m. h x (List·Memᴰ·tail m)))
-    (λ x m e. let k = sort-out l x m in n (subst (λ (y : Config). In y l) (sym (key-one c x (h c (List·Memᴰ·head refl)) (h x (List·Memᴰ·tail k)) e)) k))
+    (λ x m e. let k = sort-out l x m in
+    n (subst (λ (y : Config). In y l) (sym (key-one c x (h c (List·Memᴰ·head refl)) (h x (List·Memᴰ·tail k)) e)) k))
 
 -- ---- the kept members of a closed set
 module _ (g : Grammar) where
@@ -172,8 +174,10 @@ module _ (g : Grammar) where
   kept-equal ms ns d e h k = (there, back)
     where
       there : kept g ms ≡ kept g ns → (c : Config) → T (kept? g c) → In c ms ↔ In c ns
-      there q c t =
-          (λ m. kept-right ns c .0 (subst (In c) q (kept-right ms c .1 (m, t))) .0, λ m. kept-right ms c .0 (subst (In c) (sym q) (kept-right ns c .1 (m, t))) .0)
+      there q c t = (
+        λ m. kept-right ns c .0 (subst (In c) q (kept-right ms c .1 (m, t))) .0,
+        λ m. kept-right ms c .0 (subst (In c) (sym q) (kept-right ns c .1 (m, t))) .0,
+      )
 
       back : ((c : Config) → T (kept? g c) → In c ms ↔ In c ns) → kept g ms ≡ kept g ns
       back s =

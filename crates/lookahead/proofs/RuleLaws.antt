@@ -15,14 +15,16 @@ use Rattle.lookahead.specs.Configs.{Config, In}
 use Rattle.lookahead.specs.Closing.{maxKept}
 use Rattle.lookahead.specs.Order.{kept, Ascending, none, next}
 use Rattle.lookahead.specs.Outcomes.{Outcome, full, alternative, state, rivals, agreed, shared, settled, resolved, judged, limited, outcome}
-use Rattle.lookahead.specs.Rules.{Distinct, nil, also, Each, Keeps, TooLarge, closed-over, kept-many, Nothing, Agreed, Rival, Conflict, Kept, Gives, rule1, rule2, rule3, rule4, rule5}
+use Rattle.lookahead.specs.Rules.{Distinct, nil, also, Each, Keeps, TooLarge, closed-over, kept-many, Nothing, Agreed, Rival, Conflict, Kept, Gives}
+use Rattle.lookahead.specs.Rules.{rule1, rule2, rule3, rule4, rule5}
 use Rattle.lookahead.proofs.ListLaws.{distinct-short}
 use Rattle.lookahead.proofs.CloseLaws.{Closure, Closed, over, whole, close-right, within}
 use Rattle.lookahead.proofs.OrderLaws.{ascending-one, kept-right, kept-ascending}
 use Rattle.lookahead.proofs.Bounds.{Bounded}
 use Rattle.lookahead.proofs.Standing.{Standing}
 use Rattle.lookahead.proofs.StateLaws.{members-packable}
-use Rattle.lookahead.proofs.TestLaws.{waits-right, rivals-right, conflicts-right, agreed-not, agreed-first, shared-out, shared-in, settled-out, settled-in}
+use Rattle.lookahead.proofs.TestLaws.{waits-right, rivals-right, conflicts-right, agreed-not, agreed-first, shared-out, shared-in, settled-out}
+use Rattle.lookahead.proofs.TestLaws.{settled-in}
 
 ascending-distinct : {l : List Config} → Ascending l → Distinct l
 ascending-distinct Ascending.none = nil
@@ -111,7 +113,8 @@ module _ (g : Grammar) (start : List Config) where
         one n = n k k-keeps
 
         go : (b : Bool) → agreed (k .alternative) ks ≡ b → Gives g start (cond b (alternative (k .alternative)) (resolved (k ∷ ks)))
-        go true e = rule3 small one (record { one = k; keeps = k-keeps; all = λ c y. agreed-first k ks (true→T (agreed (k .alternative) ks) e) c (h .exact c .1 y) })
+        go true e = rule3 small one (record
+            { one = k; keeps = k-keeps; all = λ c y. agreed-first k ks (true→T (agreed (k .alternative) ks) e) c (h .exact c .1 y) })
         go false e =
             let (d, m, n) = agreed-not (k .alternative) ks (false→¬T (agreed (k .alternative) ks) e) in
             resolved-gives (k ∷ ks) h one (λ b x. n (x .all d (h .exact d .0 (List·Memᴰ·tail m)) ∙ sym (x .all k k-keeps)))
@@ -129,7 +132,8 @@ module _ (g : Grammar) (start : List Config) where
 
     fits : (ms : List Config) → Closure g start ms → length (kept g ms) ≤ maxKept → ¬ TooLarge g start
     fits ms x l (closed-over y) = within g start x y
-    fits ms x l (kept-many y) = let k = distinct-short (y .distinct) (kept g ms) (λ c m. whole-kept ms x .exact c .1 (y .each c m)) in absurd (omega (arith, y .more))
+    fits ms x l (kept-many y) = let k = distinct-short (y .distinct) (kept g ms) (λ c m. whole-kept ms x .exact c .1 (y .each c m)) in
+        absurd (omega (arith, y .more))
 
     limited-gives : (ms : List Config) → Closure g start ms → Gives g start (limited (kept g ms))
     unfolding limited

@@ -47,7 +47,13 @@ module _ (g : Grammar) (bounded : Bounded g) where
         returns = λ x m. s .returns x (subst (In x) (sym q) (List·Memᴰ·tail m));
       }
   moved {c} s (behind {q = q} e z f) =
-      record { stands = inside (bounded .goes-on q (bounded .calls q _ f) (λ x. clash (cc))); least = s .least; most = s .most; returns = λ x m. absurd (List·Memᴰ·not-nil m) }
+      record {
+        stands = inside (bounded .goes-on q (bounded .calls q _ f) (λ x. clash (cc)));
+        least = s .least;
+        most = s .most;
+        returns =
+            λ x m. absurd (List·Memᴰ·not-nil m);
+      }
   moved {c} s (end e z o) = record { stands = last refl refl; least = s .least; most = s .most; returns = λ x m. absurd (List·Memᴰ·not-nil m) }
 
   pub closes-standing : {start : List Config} → Each (Standing g) start → {c : Config} → Closes g start c → Standing g c
@@ -69,20 +75,24 @@ module _ (g : Grammar) (bounded : Bounded g) where
       go (past h _) = omega arith
 
   -- ---- starts
-  numbered-standing : (l : List ℕ) (b : ℕ) → 1 ≤ b → b + length l ≤ suc maxProductions → Each (λ (f : ℕ). f < g .size) l → Each (Standing g) (numbered b l)
+  numbered-standing : (l : List ℕ) (b : ℕ) → 1 ≤ b → b + length l ≤ suc maxProductions → Each (λ (f : ℕ). f < g .size) l
+      → Each (Standing g) (numbered b l)
   unfolding numbered
   numbered-standing [] b h k i c m = absurd (List·Memᴰ·not-nil m)
-  numbered-standing (f ∷ l) b h k i c m = pick (List·Memᴰ·cases-cons m) (numbered-standing l (suc b) (omega arith) (omega arith) (λ x n. i x (List·Memᴰ·tail n)))
+  numbered-standing (f ∷ l) b h k i c m =
+      pick (List·Memᴰ·cases-cons m) (numbered-standing l (suc b) (omega arith) (omega arith) (λ x n. i x (List·Memᴰ·tail n)))
     where
       pick : (c ≡ config f b []) ⊎ In c (numbered (suc b) l) → Each (Standing g) (numbered (suc b) l) → Standing g c
       pick (inl e) rec =
-          let here : Standing g (config f b []) = record { stands = inside (i f (List·Memᴰ·head refl)); least = h; most = omega arith; returns = λ x n. absurd (List·Memᴰ·not-nil n) } in
+          let here : Standing g (config f b []) =
+          record { stands = inside (i f (List·Memᴰ·head refl)); least = h; most = omega arith; returns = λ x n. absurd (List·Memᴰ·not-nil n) } in
           subst (Standing g) (sym e) here
       pick (inr n) rec = rec c n
 
   pub start-standing : (a : ℕ) → Each (Standing g) (startConfigs g a)
   unfolding startConfigs
-  start-standing a = numbered-standing (alternatives g a) 1 (omega arith) (omega (arith, bounded .few a)) (λ f m. let t = in-get m in bounded .begins a (suc (t .0)) f (t .1))
+  start-standing a = numbered-standing (alternatives g a) 1 (omega arith) (omega (arith, bounded .few a))
+      (λ f m. let t = in-get m in bounded .begins a (suc (t .0)) f (t .1))
 
   -- ---- steps
   pub onward-standing : (c : Config) (k : ℕ) → Standing g c → facing g (c .place) ≡ Token k → Standing g (onward c)

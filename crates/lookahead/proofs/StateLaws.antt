@@ -43,7 +43,8 @@ limited-state : (ks : List Config) {ls : List Config} → limited ks ≡ state l
 unfolding limited
 limited-state ks {ls} e = go (ltb maxKept (length ks)) refl e
   where
-    go : (b : Bool) → ltb maxKept (length ks) ≡ b → cond b full (judged ks) ≡ state ls → (ks ≡ ls) × (length ks ≤ maxKept) × (judged ls ≡ state ls)
+    go : (b : Bool) → ltb maxKept (length ks) ≡ b → cond b full (judged ks) ≡ state ls → (ks ≡ ls) × (length ks ≤ maxKept)
+        × (judged ls ≡ state ls)
     go true h e = clash (cc)
     go false h e = let q = judged-state ks e in (q, ltb-false maxKept (length ks) h, subst (λ (l : List Config). judged l ≡ state ls) q e)
 
@@ -60,11 +61,18 @@ module _ (g : Grammar) where
   unfolding outcome
   outcome-state start ks e = go (close g start) refl e
     where
-      go : (o : Option (List Config)) → close g start ≡ o → (elim o as (λ _. Outcome) [ none ↦ full | some ms ↦ limited (kept g ms) ]) ≡ state ks → Holds g start ks
+      go : (o : Option (List Config)) → close g start ≡ o → (elim o as (λ _. Outcome) [ none ↦ full | some ms ↦ limited (kept g ms) ]) ≡ state ks
+          → Holds g start ks
       go none q e = clash (cc)
       go (some ms) q e =
           let h = limited-state (kept g ms) e in
-          record { members = ms; closure = close-some g start ms q; same = h .0; few = subst (λ (l : List Config). length l ≤ maxKept) (h .0) (h .1); rules = h .2 }
+          record {
+            members = ms;
+            closure = close-some g start ms q;
+            same = h .0;
+            few = subst (λ (l : List Config). length l ≤ maxKept) (h .0) (h .1);
+            rules = h .2;
+          }
 
   -- a state holds exactly what is kept of all that the moves reach
   pub state-exact : (start ks : List Config) → outcome g start ≡ state ks → (c : Config) → In c ks ↔ (Closes g start c × T (kept? g c))

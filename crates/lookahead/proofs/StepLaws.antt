@@ -19,12 +19,14 @@ use Rattle.lookahead.proofs.ListLaws.{map-in, in-map}
 use Rattle.lookahead.proofs.OrderLaws.{keep-in, keep-out}
 
 -- ---- starts
-numbered-out : (b : ℕ) (l : List ℕ) (c : Config) → In c (numbered b l) → (i : ℕ) × (f : ℕ) × (getElem? l i ≡ some f) × (c ≡ config f (b + i) [])
+numbered-out : (b : ℕ) (l : List ℕ) (c : Config) → In c (numbered b l) → (i : ℕ) × (f : ℕ) × (getElem? l i ≡ some f)
+    × (c ≡ config f (b + i) [])
 unfolding numbered
 numbered-out b [] c m = absurd (List·Memᴰ·not-nil m)
 numbered-out b (x ∷ l) c m = go (List·Memᴰ·cases-cons m) (numbered-out (suc b) l c)
   where
-    go : (c ≡ config x b []) ⊎ In c (numbered (suc b) l) → (In c (numbered (suc b) l) → (i : ℕ) × (f : ℕ) × (getElem? l i ≡ some f) × (c ≡ config f (suc b + i) []))
+    go : (c ≡ config x b []) ⊎ In c (numbered (suc b) l)
+        → (In c (numbered (suc b) l) → (i : ℕ) × (f : ℕ) × (getElem? l i ≡ some f) × (c ≡ config f (suc b + i) []))
         → (i : ℕ) × (f : ℕ) × (getElem? (x ∷ l) i ≡ some f) × (c ≡ config f (b + i) [])
     go (inl e) rec = let z : b + 0 ≡ b = omega arith in (0, x, refl, rw z e)
     go (inr n) rec = let h = rec n in let z : b + suc (h .0) ≡ suc b + h .0 = omega arith in (suc (h .0), h .1, h .2, rw z (h .3))

@@ -64,8 +64,10 @@ waits-right g c = (λ t. out (or-T (eqb (c .place) pastEnd) (token? (facing g (c
 pub rivals-right : (c d : Config) → T (rivals c d) ↔ ((c .place ≡ d .place) × ¬ (c .alternative ≡ d .alternative))
 unfolding rivals
 rivals-right c d = (
-  λ t. let h = and-T (eqb (c .place) (d .place)) (not (eqb (c .alternative) (d .alternative))) t in (eqb→eq (c .place) (d .place) (h .0), apart-out (c .alternative) (d .alternative) (h .1)),
-  λ h. T-and (eqb (c .place) (d .place)) (not (eqb (c .alternative) (d .alternative))) (same-out (c .place) (d .place) (h .0)) (apart-in (c .alternative) (d .alternative) (h .1)),
+  λ t. let h = and-T (eqb (c .place) (d .place)) (not (eqb (c .alternative) (d .alternative))) t in
+      (eqb→eq (c .place) (d .place) (h .0), apart-out (c .alternative) (d .alternative) (h .1)),
+  λ h. T-and (eqb (c .place) (d .place)) (not (eqb (c .alternative) (d .alternative))) (same-out (c .place) (d .place) (h .0))
+      (apart-in (c .alternative) (d .alternative) (h .1)),
 )
 
 pub conflicts-right : (c d : Config) → T (conflicts c d) ↔ (T (rivals c d) × (c .stack ≡ d .stack))
@@ -88,7 +90,8 @@ pub agreed-out : (b : ℕ) (ks : List Config) → T (agreed b ks) → (c : Confi
 unfolding agreed
 agreed-out b ks t c m =
     eqb→eq (c .alternative) b
-    (unnot (eqb (c .alternative) b) (λ n. T-not (anyOf (λ (d : Config). not (eqb (d .alternative) b)) ks) t (any-in (λ (d : Config). not (eqb (d .alternative) b)) ks m n)))
+    (unnot (eqb (c .alternative) b)
+    (λ n. T-not (anyOf (λ (d : Config). not (eqb (d .alternative) b)) ks) t (any-in (λ (d : Config). not (eqb (d .alternative) b)) ks m n)))
 
 -- all agree with the first
 pub agreed-first : (k : Config) (ks : List Config) → T (agreed (k .alternative) ks) → (c : Config) → In c (k ∷ ks) → c .alternative ≡ k .alternative

@@ -57,7 +57,8 @@ addAll ms (d ∷ ds) = elim (add ms d) [ none ↦ none | some ms′ ↦ addAll m
 unfoldable pub closeFrom : Grammar → ℕ → ℕ → List Config → Option (List Config)
 unfolding addAll moves
 closeFrom g zero k ms = some ms
-closeFrom g (suc n) k ms = elim (getElem? ms k) [ none ↦ some ms | some c ↦ elim (addAll ms (moves g c)) [ none ↦ none | some ms′ ↦ closeFrom g n (suc k) ms′ ] ]
+closeFrom g (suc n) k ms = elim (getElem? ms k)
+    [ none ↦ some ms | some c ↦ elim (addAll ms (moves g c)) [ none ↦ none | some ms′ ↦ closeFrom g n (suc k) ms′ ] ]
 
 -- the closed set; none if it has more than 256 members or a stack of more than 8 entries
 unfoldable pub close : Grammar → List Config → Option (List Config)

@@ -21,6 +21,10 @@ pub record Config : Type 0 where
 abbrev pub config : ℕ → ℕ → List ℕ → Config
 config p b s = record { place = p; alternative = b; stack = s }
 
+-- from before a nonterminal into its production with first place f, over the return place
+abbrev pub into : Config → ℕ → Config
+into c f = config f (c .alternative) (suc (c .place) ∷ c .stack)
+
 -- x is a member of the list
 abbrev pub In : {A : Type 0} → A → List A → Type 0
 In x l = List·Memᴰ x l
@@ -29,11 +33,12 @@ In x l = List·Memᴰ x l
 -- one closure move
 pub data Moves (g : Grammar) (c : Config) : Config → Type 0 where
   -- before a nonterminal: enter any of its productions and push the return place, always
-  enter : {a f : ℕ} (b : ℕ) → facing g (c .place) ≡ Nonterminal a → first g a b ≡ some f → Moves g c (config f (c .alternative) (suc (c .place) ∷ c .stack))
+  enter : {a f : ℕ} (b : ℕ) → facing g (c .place) ≡ Nonterminal a → first g a b ≡ some f → Moves g c (into c f)
   -- at a production's end: pop
   pop : {r : ℕ} {s : List ℕ} → facing g (c .place) ≡ End → c .stack ≡ r ∷ s → Moves g c (config r (c .alternative) s)
   -- with an empty stack: go behind any occurrence of that nonterminal in the grammar
-  behind : {q : ℕ} → facing g (c .place) ≡ End → c .stack ≡ [] → facing g q ≡ Nonterminal (owner g (c .place)) → Moves g c (config (suc q) (c .alternative) [])
+  behind : {q : ℕ} → facing g (c .place) ≡ End → c .stack ≡ [] → facing g q ≡ Nonterminal (owner g (c .place))
+      → Moves g c (config (suc q) (c .alternative) [])
   -- and, for the start symbol, to the end place
   end : facing g (c .place) ≡ End → c .stack ≡ [] → owner g (c .place) ≡ 0 → Moves g c (config endPlace (c .alternative) [])
 
@@ -62,7 +67,7 @@ follows g a = behindFrom a 0 (g .places) ++ cond (eqb a 0) (endPlace ∷ []) []
 -- before nonterminal a: enter all its productions and push the return place
 unfoldable pub entered : Grammar → Config → ℕ → List Config
 unfolding alternatives
-entered g c a = map (λ (f : ℕ). config f (c .alternative) (suc (c .place) ∷ c .stack)) (alternatives g a)
+entered g c a = map (into c) (alternatives g a)
 
 -- at a production's end, over this stack: pop, or return into an unknown caller
 unfoldable pub returned : Grammar → Config → List ℕ → List Config

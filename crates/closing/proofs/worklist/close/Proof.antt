@@ -1,31 +1,42 @@
--- `closing::worklist::close` meets its contract.
+-- `closing::worklist::close` meets its contract: the worklist from member k on gives the same end.
+use borrow.Author.Needs.{needs}
 use mathlib.Core.Path.{_≡_, refl}
 use Prim.Native.Nat.{_-_}
 use native.Mathlib.Omega.{arith}
-use borrow.Author.Needs.{needs}
 use Rattle.grammar.specs.Tables.{grammarIn}
+use Rattle.lookahead.specs.Closing.{maxMembers, closeFrom}
 use Rattle.configurations.specs.Held.{held, Room}
-use Rattle.lookahead.specs.Closing.{closeFrom}
-use Rattle.closing.proofs.WorklistLaws.{close-on, close-stop, close-end}
+use Rattle.configurations.proofs.HeldLaws.{member-has}
 use Rattle.configurations.proofs.GrowSteps.{grow-room}
-use Rattle.configurations.proofs.HeldLaws.{said-at, exact-at}
+use Rattle.closing.proofs.WorklistLaws.{close-on, close-stop, close-end, next-movable}
 use Rattle.closing.proofs.worklist.close.Statement.{statement}
 use Rattle.closing.proofs.worklist.close.Tie as tie
 
 abbrev Inv-loop : tie.InvT-loop
-Inv-loop tables heads₀ stacks₀ from n₀ k₀ heads stacks n k = Room heads stacks n × (closeFrom (grammarIn tables) (256 - k) k (held heads stacks 0 n) ≡ closeFrom (grammarIn tables) 256 0 (held heads₀ stacks₀ 0 from))
+Inv-loop tables members₀ from n₀ k₀ members n k = Room members n
+    × (closeFrom (grammarIn tables) (maxMembers - k) k (held members 0 n) ≡ closeFrom (grammarIn tables) maxMembers 0 (held members₀ 0 from))
 
 abbrev μ-loop : tie.MeasureT-loop
-μ-loop tables heads₀ stacks₀ from n₀ k₀ heads stacks n k = 256 - k
+μ-loop tables members₀ from n₀ k₀ members n k = maxMembers - k
 
 loop-holds : tie.Need-loop-holds Inv-loop μ-loop
-loop-holds c = (c .before .before .before .pre .1, refl)
+loop-holds c =
+    let at-entry = c .before .before in
+    (at-entry .pre .1, refl)
 
 member-requires : tie.Need-member-requires Inv-loop μ-loop
-member-requires c κs = omega (arith, c .before .before .before .loop .inv .0 .few, c .before .before .before .loop .inv .0 .heads, c .before .before .before .loop .inv .0 .stacks)
+member-requires c κs =
+    let in-loop = c .before in
+    let at-loop = in-loop .before in
+    member-has (at-loop .loop .inv .0) _ (in-loop .loop-test .taken)
 
 follow-requires : tie.Need-follow-requires Inv-loop μ-loop
-follow-requires c κs = (c .before .before .before .before .before .before .before .before .before .before .pre .0, c .before .before .before .before .before .before .loop .inv .0, exact-at (c .before .before .before .before .before .before .loop .inv .0) _ (c .before .before .before .before .before .loop-test .taken) (c .before .before .member .ensures .0) (c .before .before .member .ensures .1))
+follow-requires c κs =
+    let at-member = c .before in
+    let in-loop = at-member .before .before in
+    let at-loop = in-loop .before in
+    let at-entry = at-loop .before .before .before in
+    next-movable (at-entry .pre .0) (at-loop .loop .inv .0) (in-loop .loop-test .taken) (at-member .member .ensures)
 
 enum-known-m : tie.Need-enum-known-m Inv-loop μ-loop
 enum-known-m c = search needs
@@ -36,29 +47,44 @@ enum-told c = search needs
 same-length : tie.Need-same-length Inv-loop μ-loop
 same-length c = search needs
 
+returns : tie.Need-returns Inv-loop μ-loop
+returns c =
+    let at-follow = c .before .before .before .before in
+    let at-member = at-follow .before .before in
+    let in-loop = at-member .before .before in
+    let at-loop = in-loop .before in
+    close-stop _ _ _ _ (at-loop .loop .inv .1) (in-loop .loop-test .taken) (at-loop .loop .inv .0 .few) (at-member .member .ensures)
+    (at-follow .follow .ensures) (c .enum-told .given .1)
+
+add-k : tie.Need-add-k Inv-loop μ-loop
+add-k c =
+    let at-loop = c .before .before .before .before .before .before .before .before .before .before in
+    omega (arith, at-loop .loop .inv .0 .few)
+
+loop-less : tie.Need-loop-less Inv-loop μ-loop
+loop-less c =
+    let at-loop = c .before .before .before .before .before .before .before .before .before .before in
+    omega (arith, at-loop .loop .inv .0 .few)
+
+loop-again : tie.Need-loop-again Inv-loop μ-loop
+loop-again c =
+    let at-m = c .before in
+    let at-follow = at-m .before .before .before .before in
+    let at-member = at-follow .before .before in
+    let in-loop = at-member .before .before in
+    let at-loop = in-loop .before in
+    let grown = at-follow .follow .ensures in
+    let next = close-on _ _ _ _ (at-loop .loop .inv .1) (in-loop .loop-test .taken) (at-loop .loop .inv .0 .few) (at-member .member .ensures) grown _
+    (at-m .m .given .1) in
+    (grow-room grown _ (at-m .m .given .1), next)
+
 same-length-2 : tie.Need-same-length-2 Inv-loop μ-loop
 same-length-2 c = search needs
 
-returns : tie.Need-returns Inv-loop μ-loop
-returns c = close-stop _ _ _ _ _ (c .before .before .before .before .before .before .before .before .before .before .before .before .before .loop .inv .1) (c .before .before .before .before .before .before .before .before .before .before .before .before .loop-test .taken) (c .before .before .before .before .before .before .before .before .before .before .before .before .before .loop .inv .0 .few) (said-at _ _ _ (c .before .before .before .before .before .before .before .before .before .member .ensures .0) (c .before .before .before .before .before .before .before .before .before .member .ensures .1)) (c .before .before .before .before .before .before .follow .ensures) (c .enum-told .given .1)
-
-add-k : tie.Need-add-k Inv-loop μ-loop
-add-k c = omega (arith, c .before .before .before .before .before .before .before .before .before .before .before .before .before .before .loop .inv .0 .few)
-
-loop-less : tie.Need-loop-less Inv-loop μ-loop
-loop-less c = omega (arith, c .before .before .before .before .before .before .before .before .before .before .before .before .before .before .loop .inv .0 .few)
-
-loop-again : tie.Need-loop-again Inv-loop μ-loop
-loop-again c = (grow-room (c .before .before .before .before .before .before .before .follow .ensures) _ (c .before .m .given .1), close-on _ _ _ _ _ (c .before .before .before .before .before .before .before .before .before .before .before .before .before .before .loop .inv .1) (c .before .before .before .before .before .before .before .before .before .before .before .before .before .loop-test .taken) (c .before .before .before .before .before .before .before .before .before .before .before .before .before .before .loop .inv .0 .few) (said-at _ _ _ (c .before .before .before .before .before .before .before .before .before .before .member .ensures .0) (c .before .before .before .before .before .before .before .before .before .before .member .ensures .1)) (c .before .before .before .before .before .before .before .follow .ensures) _ (c .before .m .given .1))
-
-same-length-3 : tie.Need-same-length-3 Inv-loop μ-loop
-same-length-3 c = search needs
-
-same-length-4 : tie.Need-same-length-4 Inv-loop μ-loop
-same-length-4 c = search needs
-
 returns-2 : tie.Need-returns-2 Inv-loop μ-loop
-returns-2 c = close-end _ _ _ _ _ (c .before .loop .inv .1) (omega arith) (c .before .loop .inv .0)
+returns-2 c =
+    let at-loop = c .before in
+    close-end _ _ _ _ (at-loop .loop .inv .1) (omega arith) (at-loop .loop .inv .0)
 
 pub close-spec : {M : Type 1} → statement M
 close-spec =
@@ -72,11 +98,9 @@ close-spec =
     enum-known-m
     enum-told
     same-length
-    same-length-2
     returns
     add-k
     loop-less
     loop-again
-    same-length-3
-    same-length-4
+    same-length-2
     returns-2)

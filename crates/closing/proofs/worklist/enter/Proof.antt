@@ -1,42 +1,72 @@
--- `closing::worklist::enter` meets its contract.
-use mathlib.Core.Path.{_≡_, ap}
+-- `closing::worklist::enter` meets its contract: the productions whose words stand from k on are left to enter.
+use borrow.Author.Needs.{needs}
+use mathlib.Core.Path.{ap}
 use Prim.Native.Nat.{_≤_, _-_}
 use native.Mathlib.Omega.{arith}
-use borrow.Author.Needs.{needs}
 use Rattle.grammar.specs.Tables.{grammarIn}
 use Rattle.derivation.proofs.FirstLaws.{rule-within}
-use Rattle.configurations.specs.Held.{held, Room}
-use Rattle.configurations.specs.Packing.{unpack}
-use Rattle.lookahead.specs.Closing.{addAll}
 use Rattle.lookahead.specs.Configs.{entered}
-use Rattle.configurations.proofs.GrowSteps.{grow-room, left-on, left-stop, left-none}
+use Rattle.lookahead.specs.Closing.{addAll}
+use Rattle.configurations.specs.Packing.{configOf}
+use Rattle.configurations.specs.Held.{held}
+use Rattle.configurations.proofs.GrowSteps.{Left, left-on, left-stop, left-none}
 use Rattle.closing.proofs.FollowLaws.{entering, entering-first, entering-none, entering-all, first-small}
 use Rattle.closing.proofs.worklist.enter.Statement.{statement}
 use Rattle.closing.proofs.worklist.enter.Tie as tie
 
 abbrev Inv-loop : tie.InvT-loop
-Inv-loop tables heads₀ stacks₀ from c a start end n₀ k₀ heads stacks n k = (start ≤ k) × Room heads stacks n × (addAll (held heads stacks 0 n) (entering tables (unpack (c .head) (c .stack)) k end) ≡ addAll (held heads₀ stacks₀ 0 from) (entered (grammarIn tables) (unpack (c .head) (c .stack)) a))
+Inv-loop tables members₀ from c a start end n₀ k₀ members n k = (start ≤ k)
+    × Left members n (entering tables (configOf c) k end) (addAll (held members₀ 0 from) (entered (grammarIn tables) (configOf c) a))
 
 abbrev μ-loop : tie.MeasureT-loop
-μ-loop tables heads₀ stacks₀ from c a start end n₀ k₀ heads stacks n k = end - k
+μ-loop tables members₀ from c a start end n₀ k₀ members n k = end - k
 
 rule-at-requires : tie.Need-rule-at-requires Inv-loop μ-loop
-rule-at-requires c κs = search needs
+rule-at-requires c κs =
+    let at-entry = c .before .before in
+    (omega (arith, at-entry .pre .1 .named, at-entry .pre .0 .ready .fits .few), at-entry .pre .0 .ready .fits .long)
 
 add-rule-at : tie.Need-add-rule-at Inv-loop μ-loop
-add-rule-at c = search needs
+add-rule-at c =
+    let at-entry = c .before .before .before in
+    omega (arith, at-entry .pre .1 .named, at-entry .pre .0 .ready .fits .few)
 
 rule-at-requires-2 : tie.Need-rule-at-requires-2 Inv-loop μ-loop
-rule-at-requires-2 c κs = search needs
+rule-at-requires-2 c κs =
+    let at-entry = c .before .before .before in
+    (omega (arith, at-entry .pre .1 .named, at-entry .pre .0 .ready .fits .few), at-entry .pre .0 .ready .fits .long)
 
 loop-holds : tie.Need-loop-holds Inv-loop μ-loop
-loop-holds c = (omega arith, c .before .before .before .before .before .pre .1, ap (addAll _) (entering-all _ (c .before .before .before .before .before .pre .0) _ (c .before .before .before .before .before .pre .4) _ (c .before .rule-at .ensures) (c .rule-at2 .ensures)))
+loop-holds c =
+    let at-rule-at = c .before in
+    let at-entry = at-rule-at .before .before .before in (
+      omega arith,
+      record {
+        room = at-entry .pre .0 .room;
+        same =
+            ap (addAll _) (entering-all _ (at-entry .pre .0 .ready) _ (at-entry .pre .1 .named) _ (at-rule-at .rule-at .ensures) (c .rule-at2 .ensures));
+      },
+    )
 
 first-place-requires : tie.Need-first-place-requires Inv-loop μ-loop
-first-place-requires c κs = let h = rule-within _ (c .before .before .before .before .before .before .before .pre .0) _ (c .before .before .before .before .before .before .before .pre .4) (c .before .before .before .rule-at .ensures) (c .before .before .rule-at2 .ensures) in (omega (arith, c .before .before .before .before .before .before .before .pre .0 .fits .long), c .before .before .before .before .before .before .before .pre .0 .fits .long)
+first-place-requires c κs =
+    let at-rule-at2 = c .before .before in
+    let at-rule-at = at-rule-at2 .before in
+    let at-entry = at-rule-at .before .before .before in
+    let within = rule-within _ (at-entry .pre .0 .ready) _ (at-entry .pre .1 .named) (at-rule-at .rule-at .ensures) (at-rule-at2 .rule-at2 .ensures) in
+    (omega (arith, at-entry .pre .0 .ready .fits .long), at-entry .pre .0 .ready .fits .long)
 
 push-requires : tie.Need-push-requires Inv-loop μ-loop
-push-requires c κs = (c .before .before .before .before .loop .inv .1, c .before .before .before .before .before .before .before .before .before .before .pre .2, c .before .before .before .before .before .before .before .before .before .before .pre .3, first-small _ (c .before .before .before .before .before .before .before .before .before .before .pre .0) _ (c .before .before .before .before .before .before .before .before .before .before .pre .4) (c .before .before .before .before .before .before .rule-at .ensures) (c .before .before .before .before .before .rule-at2 .ensures) _ (c .before .before .before .before .loop .inv .0) (c .before .before .before .loop-test .taken) (c .before .before .first-place .ensures))
+push-requires c κs =
+    let at-first-place = c .before in
+    let in-loop = at-first-place .before in
+    let at-loop = in-loop .before in
+    let at-rule-at2 = at-loop .before in
+    let at-rule-at = at-rule-at2 .before in
+    let at-entry = at-rule-at .before .before .before in
+    let small = first-small _ (at-entry .pre .0 .ready) _ (at-entry .pre .1 .named) (at-rule-at .rule-at .ensures) (at-rule-at2 .rule-at2 .ensures) _
+    (at-loop .loop .inv .0) (in-loop .loop-test .taken) (at-first-place .first-place .ensures) in
+    (at-loop .loop .inv .1 .room, record { exact = at-entry .pre .0 .exact; before = at-entry .pre .1 .before; begins = small })
 
 enum-known-m : tie.Need-enum-known-m Inv-loop μ-loop
 enum-known-m c = search needs
@@ -47,11 +77,18 @@ enum-told c = search needs
 same-length : tie.Need-same-length Inv-loop μ-loop
 same-length c = search needs
 
-same-length-2 : tie.Need-same-length-2 Inv-loop μ-loop
-same-length-2 c = search needs
-
 returns : tie.Need-returns Inv-loop μ-loop
-returns c = left-stop _ _ _ (c .before .before .before .before .before .before .before .before .before .before .before .loop .inv .2) (entering-first _ _ _ _ (c .before .before .before .before .before .before .before .before .before .before .loop-test .taken) (rule-within _ (c .before .before .before .before .before .before .before .before .before .before .before .before .before .before .before .before .before .pre .0) _ (c .before .before .before .before .before .before .before .before .before .before .before .before .before .before .before .before .before .pre .4) (c .before .before .before .before .before .before .before .before .before .before .before .before .before .rule-at .ensures) (c .before .before .before .before .before .before .before .before .before .before .before .before .rule-at2 .ensures)) (c .before .before .before .before .before .before .before .before .before .first-place .ensures)) (c .before .before .before .before .before .before .push .ensures) (c .enum-told .given .1)
+returns c =
+    let at-push = c .before .before .before .before in
+    let at-first-place = at-push .before .before in
+    let in-loop = at-first-place .before in
+    let at-loop = in-loop .before in
+    let at-rule-at2 = at-loop .before in
+    let at-rule-at = at-rule-at2 .before in
+    let at-entry = at-rule-at .before .before .before in
+    let within = rule-within _ (at-entry .pre .0 .ready) _ (at-entry .pre .1 .named) (at-rule-at .rule-at .ensures) (at-rule-at2 .rule-at2 .ensures) in
+    let first = entering-first _ _ _ _ (in-loop .loop-test .taken) within (at-first-place .first-place .ensures) in
+    left-stop (at-loop .loop .inv .1) first (at-push .push .ensures) (c .enum-told .given .1)
 
 add-k : tie.Need-add-k Inv-loop μ-loop
 add-k c = search needs
@@ -60,16 +97,26 @@ loop-less : tie.Need-loop-less Inv-loop μ-loop
 loop-less c = search needs
 
 loop-again : tie.Need-loop-again Inv-loop μ-loop
-loop-again c = (omega arith, grow-room (c .before .before .before .before .before .before .before .push .ensures) _ (c .before .m .given .1), left-on _ _ _ (c .before .before .before .before .before .before .before .before .before .before .before .before .loop .inv .2) (entering-first _ _ _ _ (c .before .before .before .before .before .before .before .before .before .before .before .loop-test .taken) (rule-within _ (c .before .before .before .before .before .before .before .before .before .before .before .before .before .before .before .before .before .before .pre .0) _ (c .before .before .before .before .before .before .before .before .before .before .before .before .before .before .before .before .before .before .pre .4) (c .before .before .before .before .before .before .before .before .before .before .before .before .before .before .rule-at .ensures) (c .before .before .before .before .before .before .before .before .before .before .before .before .before .rule-at2 .ensures)) (c .before .before .before .before .before .before .before .before .before .before .first-place .ensures)) (c .before .before .before .before .before .before .before .push .ensures) _ (c .before .m .given .1))
+loop-again c =
+    let at-m = c .before in
+    let at-push = at-m .before .before .before .before in
+    let at-first-place = at-push .before .before in
+    let in-loop = at-first-place .before in
+    let at-loop = in-loop .before in
+    let at-rule-at2 = at-loop .before in
+    let at-rule-at = at-rule-at2 .before in
+    let at-entry = at-rule-at .before .before .before in
+    let within = rule-within _ (at-entry .pre .0 .ready) _ (at-entry .pre .1 .named) (at-rule-at .rule-at .ensures) (at-rule-at2 .rule-at2 .ensures) in
+    let first = entering-first _ _ _ _ (in-loop .loop-test .taken) within (at-first-place .first-place .ensures) in
+    (omega arith, left-on (at-loop .loop .inv .1) first (at-push .push .ensures) _ (at-m .m .given .1))
 
-same-length-3 : tie.Need-same-length-3 Inv-loop μ-loop
-same-length-3 c = search needs
-
-same-length-4 : tie.Need-same-length-4 Inv-loop μ-loop
-same-length-4 c = search needs
+same-length-2 : tie.Need-same-length-2 Inv-loop μ-loop
+same-length-2 c = search needs
 
 returns-2 : tie.Need-returns-2 Inv-loop μ-loop
-returns-2 c = left-none _ _ _ (c .before .loop .inv .2) (c .before .loop .inv .1) (entering-none _ _ _ _ (omega arith))
+returns-2 c =
+    let at-loop = c .before in
+    left-none (at-loop .loop .inv .1) (entering-none _ _ _ _ (omega arith))
 
 pub enter-spec : {M : Type 1} → statement M
 enter-spec =
@@ -86,11 +133,9 @@ enter-spec =
     enum-known-m
     enum-told
     same-length
-    same-length-2
     returns
     add-k
     loop-less
     loop-again
-    same-length-3
-    same-length-4
+    same-length-2
     returns-2)

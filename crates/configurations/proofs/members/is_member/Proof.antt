@@ -1,32 +1,42 @@
--- `configurations::members::is_member` meets its contract.
+-- `configurations::members::is_member` meets its contract: members from k on are left to compare, and they have c exactly if all have it.
+use borrow.Author.Needs.{needs}
 use mathlib.Core.Path.{_≡_, ap}
 use Prim.Native.Nat.{_-_, _≤_}
 use native.Mathlib.Omega.{arith}
-use borrow.Author.Needs.{needs}
-use Rattle.configurations.specs.Held.{held}
 use Rattle.lookahead.specs.Closing.{member?}
-use Rattle.configurations.specs.Packing.{unpack}
-use Rattle.configurations.proofs.HeldLaws.{held-all, exact-at, find-hit, find-next, find-end}
+use Rattle.configurations.specs.Packing.{configOf}
+use Rattle.configurations.specs.Held.{held}
+use Rattle.configurations.proofs.HeldLaws.{held-all, member-has, exact-at, find-hit, find-next, find-end}
 use Rattle.configurations.proofs.members.is_member.Statement.{statement}
 use Rattle.configurations.proofs.members.is_member.Tie as tie
 
 abbrev Inv-loop : tie.InvT-loop
-Inv-loop heads stacks n c k₀ k = (k ≤ n) × (member? (unpack (c .head) (c .stack)) (held heads stacks k (n - k)) ≡ member? (unpack (c .head) (c .stack)) (held heads stacks 0 n))
+Inv-loop members n c k₀ k = (k ≤ n) × (member? (configOf c) (held members k (n - k)) ≡ member? (configOf c) (held members 0 n))
 
 abbrev μ-loop : tie.MeasureT-loop
-μ-loop heads stacks n c k₀ k = n - k
+μ-loop members n c k₀ k = n - k
 
 loop-holds : tie.Need-loop-holds Inv-loop μ-loop
-loop-holds c = (omega arith, ap (member? _) (held-all _ _ _))
+loop-holds c = (omega arith, ap (member? _) (held-all _ _))
 
 member-requires : tie.Need-member-requires Inv-loop μ-loop
-member-requires c κs = search needs
+member-requires c κs =
+    let at-entry = c .before .before .before in
+    member-has (at-entry .pre .0) _ (c .loop-test .taken)
 
 equals-requires : tie.Need-equals-requires Inv-loop μ-loop
-equals-requires c κs = (c .before .before .before .before .before .pre .1, exact-at (c .before .before .before .before .before .pre .0) _ (c .before .loop-test .taken) (c .member .ensures .0) (c .member .ensures .1))
+equals-requires c κs =
+    let in-loop = c .before in
+    let at-entry = in-loop .before .before .before in
+    (at-entry .pre .1, exact-at (at-entry .pre .0) _ (in-loop .loop-test .taken) (c .member .ensures))
 
 returns : tie.Need-returns Inv-loop μ-loop
-returns c = find-hit _ _ _ _ _ (c .before .before .before .before .loop .inv .1) (c .before .before .member .ensures .0) (c .before .before .member .ensures .1) (c .before .equals .ensures) (omega arith) (c .if1 .taken)
+returns c =
+    let at-equals = c .before in
+    let at-member = at-equals .before in
+    let in-loop = at-member .before in
+    let at-loop = in-loop .before in
+    find-hit _ _ _ _ (at-loop .loop .inv .1) (at-member .member .ensures) (at-equals .equals .ensures) (in-loop .loop-test .taken) (c .if1 .taken)
 
 add-k : tie.Need-add-k Inv-loop μ-loop
 add-k c = search needs
@@ -35,10 +45,20 @@ loop-less : tie.Need-loop-less Inv-loop μ-loop
 loop-less c = search needs
 
 loop-again : tie.Need-loop-again Inv-loop μ-loop
-loop-again c = (omega arith, find-next _ _ _ _ _ (c .before .before .before .before .loop .inv .1) (c .before .before .member .ensures .0) (c .before .before .member .ensures .1) (c .before .equals .ensures) (omega arith) (c .if1 .left))
+loop-again c =
+    let at-equals = c .before in
+    let at-member = at-equals .before in
+    let in-loop = at-member .before in
+    let at-loop = in-loop .before in (
+      omega arith,
+      find-next _ _ _ _ (at-loop .loop .inv .1) (at-member .member .ensures) (at-equals .equals .ensures) (in-loop .loop-test .taken)
+          (c .if1 .left),
+    )
 
 returns-2 : tie.Need-returns-2 Inv-loop μ-loop
-returns-2 c = find-end _ _ _ _ _ (c .before .loop .inv .1) (omega arith)
+returns-2 c =
+    let at-loop = c .before in
+    find-end _ _ _ _ (at-loop .loop .inv .1) (omega arith)
 
 pub is-member-spec : {M : Type 1} → statement M
 is-member-spec =

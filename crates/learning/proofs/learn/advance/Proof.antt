@@ -1,64 +1,50 @@
--- `learning::learn::advance` meets its contract.
+-- `learning::learn::advance` meets its contract: the configurations from number j on are left to pass.
+use borrow.Author.Needs.{needs}
+use mathlib.Core.Path.{refl}
 use mathlib.Core.List.{[]}
-use mathlib.Core.Path.{_≡_, ap, sym, refl, _∙_}
 use Prim.Native.Nat.{_-_, _≤_}
 use native.Mathlib.Omega.{arith}
-use lib.ListN.{length}
-use borrow.Author.Needs.{needs}
 use Rattle.grammar.specs.Tables.{grammarIn}
-use Rattle.configurations.specs.Held.{held, Room}
+use Rattle.lookahead.specs.Closing.{addAll}
 use Rattle.lookahead.specs.Outcomes.{stepConfigs}
 use Rattle.configurations.specs.Packing.{unpackAll}
-use Rattle.lookahead.specs.Closing.{addAll}
-use Rattle.learning.proofs.LearnLaws.{blank-room, passes-in, stepping, stepping-all, stepping-on, stepping-by, stepping-none, blank-all}
-use Rattle.configurations.proofs.GrowSteps.{grow-room, left-on, left-stop, left-none}
+use Rattle.configurations.proofs.GrowSteps.{Left, left-by, left-on, left-stop, left-none}
+use Rattle.learning.proofs.StartLaws.{blank-left}
+use Rattle.learning.proofs.AdvanceLaws.{passes-in, stepping, stepping-all, stepping-has, stepping-on, stepping-by, stepping-none}
 use Rattle.learning.proofs.learn.advance.Statement.{statement}
 use Rattle.learning.proofs.learn.advance.Tie as tie
 
 abbrev Inv-loop : tie.InvT-loop
-Inv-loop tables t configs heads₀ stacks₀ n₀ i₀ heads stacks n i = (i ≤ length configs) × Room heads stacks n × (addAll (held heads stacks 0 n) (stepping tables t configs i) ≡ addAll [] (stepConfigs (grammarIn tables) t (unpackAll configs)))
+Inv-loop tables t configs members₀ count n₀ j₀ members n j = (j ≤ count)
+    × Left members n (stepping tables t configs j) (addAll [] (stepConfigs (grammarIn tables) t (unpackAll configs)))
 
 abbrev μ-loop : tie.MeasureT-loop
-μ-loop tables t configs heads₀ stacks₀ n₀ i₀ heads stacks n i = length configs - i
+μ-loop tables t configs members₀ count n₀ j₀ members n j = count - j
 
 loop-holds : tie.Need-loop-holds Inv-loop μ-loop
-loop-holds c = (omega arith, blank-room _ _ (c .before .before .before .before .pre .1), blank-all _ _ (stepping-all _ _ _))
+loop-holds c =
+    let at-entry = c .before .before .before in
+    (omega arith, blank-left _ (at-entry .pre .1) (stepping-all _ _ _))
 
-add-loop : tie.Need-add-loop Inv-loop μ-loop
-add-loop c = search needs
+member-requires : tie.Need-member-requires Inv-loop μ-loop
+member-requires c κs =
+    let at-entry = c .before .before .before .before .before in
+    stepping-has (at-entry .args .tables .now) (at-entry .args .t) (at-entry .args .configs .now) _ refl (c .loop-test .taken)
 
-mul-head : tie.Need-mul-head Inv-loop μ-loop
-mul-head c = search needs
-
-shared-slice-read-head : tie.Need-shared-slice-read-head Inv-loop μ-loop
-shared-slice-read-head c = search needs
-
-add-low : tie.Need-add-low Inv-loop μ-loop
-add-low c = search needs
-
-mul-low : tie.Need-mul-low Inv-loop μ-loop
-mul-low c = search needs
-
-shared-slice-read-low : tie.Need-shared-slice-read-low Inv-loop μ-loop
-shared-slice-read-low c = search needs
-
-add-high : tie.Need-add-high Inv-loop μ-loop
-add-high c = search needs
-
-mul-high : tie.Need-mul-high Inv-loop μ-loop
-mul-high c = search needs
-
-shared-slice-read-high : tie.Need-shared-slice-read-high Inv-loop μ-loop
-shared-slice-read-high c = search needs
-
-add-i : tie.Need-add-i Inv-loop μ-loop
-add-i c = search needs
+add-j : tie.Need-add-j Inv-loop μ-loop
+add-j c = search needs
 
 passes-requires : tie.Need-passes-requires Inv-loop μ-loop
-passes-requires c κs = search needs
+passes-requires c κs =
+    let at-entry = c .before .before .before .before .before .before in
+    at-entry .pre .0 .fits .long
 
 pass-requires : tie.Need-pass-requires Inv-loop μ-loop
-pass-requires c κs = (c .before .before .before .before .before .before .before .before .loop .inv .1, passes-in _ _ _ (c .before .before .before .passes .ensures) (c .before .before .if1 .taken))
+pass-requires c κs =
+    let at-if1 = c .before in
+    let at-passes = at-if1 .before in
+    let at-loop = at-passes .before .before .before in
+    (at-loop .loop .inv .1 .room, passes-in _ _ _ (at-passes .passes .ensures) (at-if1 .if1 .taken))
 
 enum-known-m : tie.Need-enum-known-m Inv-loop μ-loop
 enum-known-m c = search needs
@@ -69,32 +55,53 @@ enum-told c = search needs
 same-length : tie.Need-same-length Inv-loop μ-loop
 same-length c = search needs
 
-same-length-2 : tie.Need-same-length-2 Inv-loop μ-loop
-same-length-2 c = search needs
-
 returns : tie.Need-returns Inv-loop μ-loop
-returns c = left-stop _ _ _ (c .before .before .before .before .before .before .before .before .before .before .before .before .before .before .before .loop .inv .2) (stepping-on _ _ _ _ (c .before .before .before .before .before .before .before .before .before .before .before .before .before .before .loop-test .taken) refl refl refl (c .before .before .before .before .before .before .before .before .before .before .passes .ensures) (c .before .before .before .before .before .before .before .before .before .if1 .taken)) (c .before .before .before .before .before .before .pass .ensures) (c .enum-told .given .1)
+returns c =
+    let at-pass = c .before .before .before .before in
+    let at-if1 = at-pass .before .before in
+    let at-passes = at-if1 .before in
+    let at-member = at-passes .before in
+    let in-loop = at-member .before in
+    let at-loop = in-loop .before in
+    let first = stepping-on _ _ _ _ refl (in-loop .loop-test .taken) (at-member .member .ensures) (at-passes .passes .ensures) (at-if1 .if1 .taken) in
+    left-stop (at-loop .loop .inv .1) first (at-pass .pass .ensures) (c .enum-told .given .1)
 
 loop-less : tie.Need-loop-less Inv-loop μ-loop
 loop-less c = search needs
 
 loop-again : tie.Need-loop-again Inv-loop μ-loop
-loop-again c = (omega arith, grow-room (c .before .before .before .before .before .before .before .pass .ensures) _ (c .before .m .given .1), left-on _ _ _ (c .before .before .before .before .before .before .before .before .before .before .before .before .before .before .before .before .loop .inv .2) (stepping-on _ _ _ _ (c .before .before .before .before .before .before .before .before .before .before .before .before .before .before .before .loop-test .taken) refl refl refl (c .before .before .before .before .before .before .before .before .before .before .before .passes .ensures) (c .before .before .before .before .before .before .before .before .before .before .if1 .taken)) (c .before .before .before .before .before .before .before .pass .ensures) _ (c .before .m .given .1))
+loop-again c =
+    let at-m = c .before in
+    let at-pass = at-m .before .before .before .before in
+    let at-if1 = at-pass .before .before in
+    let at-passes = at-if1 .before in
+    let at-member = at-passes .before in
+    let in-loop = at-member .before in
+    let at-loop = in-loop .before in
+    let first = stepping-on _ _ _ _ refl (in-loop .loop-test .taken) (at-member .member .ensures) (at-passes .passes .ensures) (at-if1 .if1 .taken) in
+    (omega arith, left-on (at-loop .loop .inv .1) first (at-pass .pass .ensures) _ (at-m .m .given .1))
 
 loop-less-2 : tie.Need-loop-less-2 Inv-loop μ-loop
 loop-less-2 c = search needs
 
 loop-again-2 : tie.Need-loop-again-2 Inv-loop μ-loop
-loop-again-2 c = (omega arith, c .before .before .before .before .before .before .loop .inv .1, ap (addAll _) (sym (stepping-by _ _ _ _ (c .before .before .before .before .before .loop-test .taken) refl refl refl (c .before .passes .ensures) (c .if1 .left))) ∙ c .before .before .before .before .before .before .loop .inv .2)
+loop-again-2 c =
+    let at-passes = c .before in
+    let at-member = at-passes .before in
+    let in-loop = at-member .before in
+    let at-loop = in-loop .before in (
+      omega arith,
+      left-by (at-loop .loop .inv .1)
+          (stepping-by _ _ _ _ refl (in-loop .loop-test .taken) (at-member .member .ensures) (at-passes .passes .ensures) (c .if1 .left)),
+    )
 
-same-length-3 : tie.Need-same-length-3 Inv-loop μ-loop
-same-length-3 c = search needs
-
-same-length-4 : tie.Need-same-length-4 Inv-loop μ-loop
-same-length-4 c = search needs
+same-length-2 : tie.Need-same-length-2 Inv-loop μ-loop
+same-length-2 c = search needs
 
 returns-2 : tie.Need-returns-2 Inv-loop μ-loop
-returns-2 c = left-none _ _ _ (c .before .loop .inv .2) (c .before .loop .inv .1) (stepping-none _ _ _ _ (omega arith))
+returns-2 c =
+    let at-loop = c .before in
+    left-none (at-loop .loop .inv .1) (stepping-none _ _ _ _ refl (omega arith))
 
 pub advance-spec : {M : Type 1} → statement M
 advance-spec =
@@ -103,27 +110,17 @@ advance-spec =
     Inv-loop
     μ-loop
     loop-holds
-    add-loop
-    mul-head
-    shared-slice-read-head
-    add-low
-    mul-low
-    shared-slice-read-low
-    add-high
-    mul-high
-    shared-slice-read-high
-    add-i
+    member-requires
+    add-j
     passes-requires
     pass-requires
     enum-known-m
     enum-told
     same-length
-    same-length-2
     returns
     loop-less
     loop-again
     loop-less-2
     loop-again-2
-    same-length-3
-    same-length-4
+    same-length-2
     returns-2)

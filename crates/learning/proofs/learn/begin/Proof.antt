@@ -1,52 +1,91 @@
--- `learning::learn::begin` meets its contract.
+-- `learning::learn::begin` meets its contract: the productions whose words stand from k on are left to begin, numbered from 1.
+use borrow.Author.Needs.{needs}
 use mathlib.Core.List.{[]}
-use mathlib.Core.Path.{_≡_, ap}
 use Prim.Native.Nat.{_-_, _≤_}
 use native.Mathlib.Omega.{arith}
-use borrow.Author.Needs.{needs}
 use Rattle.grammar.specs.Tables.{grammarIn}
 use Rattle.derivation.proofs.FirstLaws.{rule-within}
-use Rattle.configurations.specs.Held.{held, Room}
+use Rattle.lookahead.specs.Closing.{addAll}
 use Rattle.lookahead.specs.Outcomes.{startConfigs}
-use Rattle.lookahead.specs.Closing.{add, addAll}
-use Rattle.learning.proofs.LearnLaws.{blank-room, starting, starting-first, starting-none, starting-all, number-small, blank-all}
-use Rattle.configurations.proofs.GrowSteps.{grow-room, grow-cast, left-on, left-stop, left-none}
+use Rattle.configurations.proofs.GrowSteps.{grow-packs, Left, left-on, left-stop, left-none}
 use Rattle.closing.proofs.FollowLaws.{first-small}
+use Rattle.learning.proofs.StartLaws.{blank-left, starting, starting-first, starting-none, starting-all, number-small}
 use Rattle.learning.proofs.learn.begin.Statement.{statement}
 use Rattle.learning.proofs.learn.begin.Tie as tie
 
 abbrev Inv-loop : tie.InvT-loop
-Inv-loop tables heads₀ stacks₀ a start end n₀ k₀ heads stacks n k = (start ≤ k) × Room heads stacks n × (addAll (held heads stacks 0 n) (starting tables start k end) ≡ addAll [] (startConfigs (grammarIn tables) a))
+Inv-loop tables members₀ a start end n₀ k₀ members n k = (start ≤ k)
+    × Left members n (starting tables start k end) (addAll [] (startConfigs (grammarIn tables) a))
 
 abbrev μ-loop : tie.MeasureT-loop
-μ-loop tables heads₀ stacks₀ a start end n₀ k₀ heads stacks n k = end - k
+μ-loop tables members₀ a start end n₀ k₀ members n k = end - k
 
 rule-at-requires : tie.Need-rule-at-requires Inv-loop μ-loop
-rule-at-requires c κs = search needs
+rule-at-requires c κs =
+    let at-entry = c .before .before in
+    (omega (arith, at-entry .pre .named, at-entry .pre .ready .fits .few), at-entry .pre .ready .fits .long)
 
 add-rule-at : tie.Need-add-rule-at Inv-loop μ-loop
-add-rule-at c = search needs
+add-rule-at c =
+    let at-entry = c .before .before .before in
+    omega (arith, at-entry .pre .named, at-entry .pre .ready .fits .few)
 
 rule-at-requires-2 : tie.Need-rule-at-requires-2 Inv-loop μ-loop
-rule-at-requires-2 c κs = search needs
+rule-at-requires-2 c κs =
+    let at-entry = c .before .before .before in
+    (omega (arith, at-entry .pre .named, at-entry .pre .ready .fits .few), at-entry .pre .ready .fits .long)
 
 loop-holds : tie.Need-loop-holds Inv-loop μ-loop
-loop-holds c = (omega arith, blank-room _ _ (c .before .before .before .before .before .pre .1), blank-all _ _ (starting-all _ (c .before .before .before .before .before .pre .0) _ (c .before .before .before .before .before .pre .2) (c .before .rule-at .ensures) (c .rule-at2 .ensures)))
+loop-holds c =
+    let at-rule-at = c .before in
+    let at-entry = at-rule-at .before .before .before in (
+      omega arith,
+      blank-left _ (at-entry .pre .long)
+          (starting-all _ (at-entry .pre .ready) _ (at-entry .pre .named) (at-rule-at .rule-at .ensures) (c .rule-at2 .ensures)),
+    )
 
 first-place-requires : tie.Need-first-place-requires Inv-loop μ-loop
-first-place-requires c κs = let h = rule-within _ (c .before .before .before .before .before .before .before .pre .0) _ (c .before .before .before .before .before .before .before .pre .2) (c .before .before .before .rule-at .ensures) (c .before .before .rule-at2 .ensures) in (omega (arith, c .before .before .before .before .before .before .before .pre .0 .fits .long), c .before .before .before .before .before .before .before .pre .0 .fits .long)
+first-place-requires c κs =
+    let at-rule-at2 = c .before .before in
+    let at-rule-at = at-rule-at2 .before in
+    let at-entry = at-rule-at .before .before .before in
+    let within = rule-within _ (at-entry .pre .ready) _ (at-entry .pre .named) (at-rule-at .rule-at .ensures) (at-rule-at2 .rule-at2 .ensures) in
+    (omega (arith, at-entry .pre .ready .fits .long), at-entry .pre .ready .fits .long)
 
 sub-begun : tie.Need-sub-begun Inv-loop μ-loop
 sub-begun c = search needs
 
 add-begun : tie.Need-add-begun Inv-loop μ-loop
-add-begun c = omega (arith, number-small _ (c .before .before .before .before .before .before .before .before .pre .0) _ (c .before .before .before .before .before .before .before .before .pre .2) (c .before .before .before .before .rule-at .ensures) (c .before .before .before .rule-at2 .ensures) _ (c .before .before .loop .inv .0) (c .before .loop-test .taken))
+add-begun c =
+    let in-loop = c .before in
+    let at-loop = in-loop .before in
+    let at-rule-at2 = at-loop .before in
+    let at-rule-at = at-rule-at2 .before in
+    let at-entry = at-rule-at .before .before .before in
+    omega (
+      arith,
+      number-small _ (at-entry .pre .ready) _ (at-entry .pre .named) (at-rule-at .rule-at .ensures) (at-rule-at2 .rule-at2 .ensures) _
+          (at-loop .loop .inv .0) (in-loop .loop-test .taken),
+    )
 
 begun-requires : tie.Need-begun-requires Inv-loop μ-loop
-begun-requires c κs = (first-small _ (c .before .before .before .before .before .before .before .before .pre .0) _ (c .before .before .before .before .before .before .before .before .pre .2) (c .before .before .before .before .rule-at .ensures) (c .before .before .before .rule-at2 .ensures) _ (c .before .before .loop .inv .0) (c .before .loop-test .taken) (c .first-place .ensures), number-small _ (c .before .before .before .before .before .before .before .before .pre .0) _ (c .before .before .before .before .before .before .before .before .pre .2) (c .before .before .before .before .rule-at .ensures) (c .before .before .before .rule-at2 .ensures) _ (c .before .before .loop .inv .0) (c .before .loop-test .taken))
+begun-requires c κs =
+    let in-loop = c .before in
+    let at-loop = in-loop .before in
+    let at-rule-at2 = at-loop .before in
+    let at-rule-at = at-rule-at2 .before in
+    let at-entry = at-rule-at .before .before .before in
+    let first = first-small _ (at-entry .pre .ready) _ (at-entry .pre .named) (at-rule-at .rule-at .ensures) (at-rule-at2 .rule-at2 .ensures) _
+    (at-loop .loop .inv .0) (in-loop .loop-test .taken) (c .first-place .ensures) in
+    let few = number-small _ (at-entry .pre .ready) _ (at-entry .pre .named) (at-rule-at .rule-at .ensures) (at-rule-at2 .rule-at2 .ensures) _
+    (at-loop .loop .inv .0) (in-loop .loop-test .taken) in
+    (first, few)
 
 add-requires : tie.Need-add-requires Inv-loop μ-loop
-add-requires c κs = (c .before .before .before .before .before .loop .inv .1, c .before .before .begun .ensures .0)
+add-requires c κs =
+    let at-begun = c .before in
+    let at-loop = at-begun .before .before .before in
+    (at-loop .loop .inv .1 .room, at-begun .begun .ensures .exact)
 
 enum-known-m : tie.Need-enum-known-m Inv-loop μ-loop
 enum-known-m c = search needs
@@ -57,11 +96,19 @@ enum-told c = search needs
 same-length : tie.Need-same-length Inv-loop μ-loop
 same-length c = search needs
 
-same-length-2 : tie.Need-same-length-2 Inv-loop μ-loop
-same-length-2 c = search needs
-
 returns : tie.Need-returns Inv-loop μ-loop
-returns c = left-stop _ _ _ (c .before .before .before .before .before .before .before .before .before .before .before .before .loop .inv .2) (starting-first _ _ _ _ (c .before .before .before .before .before .before .before .before .before .before .before .before .loop .inv .0) (c .before .before .before .before .before .before .before .before .before .before .before .loop-test .taken) (rule-within _ (c .before .before .before .before .before .before .before .before .before .before .before .before .before .before .before .before .before .before .pre .0) _ (c .before .before .before .before .before .before .before .before .before .before .before .before .before .before .before .before .before .before .pre .2) (c .before .before .before .before .before .before .before .before .before .before .before .before .before .before .rule-at .ensures) (c .before .before .before .before .before .before .before .before .before .before .before .before .before .rule-at2 .ensures)) (c .before .before .before .before .before .before .before .before .before .before .first-place .ensures)) (grow-cast (ap (add _) (c .before .before .before .before .before .before .before .before .before .begun .ensures .1)) (c .before .before .before .before .before .before .add .ensures)) (c .enum-told .given .1)
+returns c =
+    let at-add = c .before .before .before .before in
+    let at-begun = at-add .before .before in
+    let at-first-place = at-begun .before in
+    let in-loop = at-first-place .before in
+    let at-loop = in-loop .before in
+    let at-rule-at2 = at-loop .before in
+    let at-rule-at = at-rule-at2 .before in
+    let at-entry = at-rule-at .before .before .before in
+    let within = rule-within _ (at-entry .pre .ready) _ (at-entry .pre .named) (at-rule-at .rule-at .ensures) (at-rule-at2 .rule-at2 .ensures) in
+    let first = starting-first _ _ _ _ (at-loop .loop .inv .0) (in-loop .loop-test .taken) within (at-first-place .first-place .ensures) in
+    left-stop (at-loop .loop .inv .1) first (grow-packs _ (at-begun .begun .ensures) (at-add .add .ensures)) (c .enum-told .given .1)
 
 add-k : tie.Need-add-k Inv-loop μ-loop
 add-k c = search needs
@@ -70,16 +117,27 @@ loop-less : tie.Need-loop-less Inv-loop μ-loop
 loop-less c = search needs
 
 loop-again : tie.Need-loop-again Inv-loop μ-loop
-loop-again c = (omega arith, grow-room (c .before .before .before .before .before .before .before .add .ensures) _ (c .before .m .given .1), left-on _ _ _ (c .before .before .before .before .before .before .before .before .before .before .before .before .before .loop .inv .2) (starting-first _ _ _ _ (c .before .before .before .before .before .before .before .before .before .before .before .before .before .loop .inv .0) (c .before .before .before .before .before .before .before .before .before .before .before .before .loop-test .taken) (rule-within _ (c .before .before .before .before .before .before .before .before .before .before .before .before .before .before .before .before .before .before .before .pre .0) _ (c .before .before .before .before .before .before .before .before .before .before .before .before .before .before .before .before .before .before .before .pre .2) (c .before .before .before .before .before .before .before .before .before .before .before .before .before .before .before .rule-at .ensures) (c .before .before .before .before .before .before .before .before .before .before .before .before .before .before .rule-at2 .ensures)) (c .before .before .before .before .before .before .before .before .before .before .before .first-place .ensures)) (grow-cast (ap (add _) (c .before .before .before .before .before .before .before .before .before .before .begun .ensures .1)) (c .before .before .before .before .before .before .before .add .ensures)) _ (c .before .m .given .1))
+loop-again c =
+    let at-m = c .before in
+    let at-add = at-m .before .before .before .before in
+    let at-begun = at-add .before .before in
+    let at-first-place = at-begun .before in
+    let in-loop = at-first-place .before in
+    let at-loop = in-loop .before in
+    let at-rule-at2 = at-loop .before in
+    let at-rule-at = at-rule-at2 .before in
+    let at-entry = at-rule-at .before .before .before in
+    let within = rule-within _ (at-entry .pre .ready) _ (at-entry .pre .named) (at-rule-at .rule-at .ensures) (at-rule-at2 .rule-at2 .ensures) in
+    let first = starting-first _ _ _ _ (at-loop .loop .inv .0) (in-loop .loop-test .taken) within (at-first-place .first-place .ensures) in
+    (omega arith, left-on (at-loop .loop .inv .1) first (grow-packs _ (at-begun .begun .ensures) (at-add .add .ensures)) _ (at-m .m .given .1))
 
-same-length-3 : tie.Need-same-length-3 Inv-loop μ-loop
-same-length-3 c = search needs
-
-same-length-4 : tie.Need-same-length-4 Inv-loop μ-loop
-same-length-4 c = search needs
+same-length-2 : tie.Need-same-length-2 Inv-loop μ-loop
+same-length-2 c = search needs
 
 returns-2 : tie.Need-returns-2 Inv-loop μ-loop
-returns-2 c = left-none _ _ _ (c .before .loop .inv .2) (c .before .loop .inv .1) (starting-none _ _ _ _ (omega arith))
+returns-2 c =
+    let at-loop = c .before in
+    left-none (at-loop .loop .inv .1) (starting-none _ _ _ _ (omega arith))
 
 pub begin-spec : {M : Type 1} → statement M
 begin-spec =
@@ -99,11 +157,9 @@ begin-spec =
     enum-known-m
     enum-told
     same-length
-    same-length-2
     returns
     add-k
     loop-less
     loop-again
-    same-length-3
-    same-length-4
+    same-length-2
     returns-2)

@@ -1,15 +1,12 @@
--- `learning::learn::step` meets its contract.
-use borrow.Author.Needs.{needs}
-use Rattle.learning.proofs.LearnLaws.{step-full, step-on}
+-- `learning::learn::step` meets its contract: what is advanced is finished, and too many at once are FULL.
 use Rattle.configurations.proofs.GrowSteps.{grow-room}
+use Rattle.learning.proofs.OutcomeLaws.{step-full, step-on}
+use borrow.Author.Needs.{needs}
 use Rattle.learning.proofs.learn.step.Statement.{statement}
 use Rattle.learning.proofs.learn.step.Tie as tie
 
 slice-aggregate-advance : tie.Need-slice-aggregate-advance
 slice-aggregate-advance c = search needs
-
-slice-aggregate-advance-2 : tie.Need-slice-aggregate-advance-2
-slice-aggregate-advance-2 c = search needs
 
 advance-requires : tie.Need-advance-requires
 advance-requires c κs = search needs
@@ -21,35 +18,40 @@ enum-told : tie.Need-enum-told
 enum-told c = search needs
 
 returns : tie.Need-returns
-returns c = step-full _ _ _ (c .before .before .before .before .advance .ensures) (c .enum-told .given .1) _
+returns c =
+    let at-advance = c .before .before .before in
+    step-full _ _ _ (at-advance .advance .ensures) (c .enum-told .given .1) _
 
 slice-aggregate-finish : tie.Need-slice-aggregate-finish
 slice-aggregate-finish c = search needs
 
-slice-aggregate-finish-2 : tie.Need-slice-aggregate-finish-2
-slice-aggregate-finish-2 c = search needs
-
 finish-requires : tie.Need-finish-requires
-finish-requires c κs = (c .before .before .before .before .before .before .before .before .before .before .before .before .before .before .pre .0, grow-room (c .before .before .before .before .before .before .before .before .advance .ensures) _ (c .before .before .before .before .n .given .1), c .before .before .before .before .before .before .before .before .before .before .before .before .before .before .pre .2)
+finish-requires c κs =
+    let at-n = c .before .before .before in
+    let at-advance = at-n .before .before .before in
+    let at-entry = at-advance .before .before .before .before .before in
+    record { ready = at-entry .pre .0; room = grow-room (at-advance .advance .ensures) _ (at-n .n .given .1); long = at-entry .pre .2 }
 
 same-length : tie.Need-same-length
 same-length c = search needs
 
 returns-2 : tie.Need-returns-2
-returns-2 c = step-on _ _ _ (c .before .before .before .before .before .before .before .before .before .before .before .before .before .advance .ensures) _ (c .before .before .before .before .before .before .before .before .before .n .given .1) _ _ (c .before .before .before .before .finish .ensures)
+returns-2 c =
+    let at-finish = c .before .before .before in
+    let at-n = at-finish .before .before .before .before in
+    let at-advance = at-n .before .before .before in
+    step-on _ _ _ (at-advance .advance .ensures) _ (at-n .n .given .1) _ _ (at-finish .finish .ensures)
 
 pub step-spec : {M : Type 1} → statement M
 step-spec =
     tie.close
     (tie.spec
     slice-aggregate-advance
-    slice-aggregate-advance-2
     advance-requires
     enum-known-n
     enum-told
     returns
     slice-aggregate-finish
-    slice-aggregate-finish-2
     finish-requires
     same-length
     returns-2)

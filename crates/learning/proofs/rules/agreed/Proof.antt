@@ -1,31 +1,39 @@
--- `learning::rules::agreed` meets its contract.
+-- `learning::rules::agreed` meets its contract: those from k on are left to compare.
+use borrow.Author.Needs.{needs}
 use mathlib.Core.Path.{_≡_, refl}
 use Prim.Native.Nat.{_-_, _≤_}
 use native.Mathlib.Omega.{arith}
-use borrow.Author.Needs.{needs}
-use Rattle.configurations.specs.Held.{held}
 use Rattle.lookahead.specs.Outcomes.{agreed}
+use Rattle.configurations.specs.Held.{held}
+use Rattle.configurations.proofs.HeldLaws.{member-has}
 use Rattle.learning.proofs.JudgeLaws.{agreed-not, agreed-next, agreed-end}
 use Rattle.learning.proofs.rules.agreed.Statement.{statement}
 use Rattle.learning.proofs.rules.agreed.Tie as tie
 
 abbrev Inv-loop : tie.InvT-loop
-Inv-loop heads stacks from n b k₀ k = (k ≤ n) × (agreed b (held heads stacks k (n - k)) ≡ agreed b (held heads stacks from (n - from)))
+Inv-loop members from n b k₀ k = (k ≤ n) × (agreed b (held members k (n - k)) ≡ agreed b (held members from (n - from)))
 
 abbrev μ-loop : tie.MeasureT-loop
-μ-loop heads stacks from n b k₀ k = n - k
+μ-loop members from n b k₀ k = n - k
 
 loop-holds : tie.Need-loop-holds Inv-loop μ-loop
 loop-holds c = (omega arith, refl)
 
 member-requires : tie.Need-member-requires Inv-loop μ-loop
-member-requires c κs = search needs
+member-requires c κs =
+    let at-entry = c .before .before .before in
+    member-has (at-entry .pre .0) _ (c .loop-test .taken)
 
 alternative-requires : tie.Need-alternative-requires Inv-loop μ-loop
 alternative-requires c κs = search needs
 
 returns : tie.Need-returns Inv-loop μ-loop
-returns c = agreed-not _ _ _ _ _ (c .before .before .before .before .loop .inv .1) (c .before .before .before .loop-test .taken) (c .before .before .member .ensures .0) (c .before .before .member .ensures .1) (c .before .alternative .ensures) (omega arith)
+returns c =
+    let at-alternative = c .before in
+    let at-member = at-alternative .before in
+    let in-loop = at-member .before in
+    let at-loop = in-loop .before in
+    agreed-not _ _ _ _ (at-loop .loop .inv .1) (in-loop .loop-test .taken) (at-member .member .ensures) (at-alternative .alternative .ensures) (omega arith)
 
 add-k : tie.Need-add-k Inv-loop μ-loop
 add-k c = search needs
@@ -34,10 +42,20 @@ loop-less : tie.Need-loop-less Inv-loop μ-loop
 loop-less c = search needs
 
 loop-again : tie.Need-loop-again Inv-loop μ-loop
-loop-again c = (omega arith, agreed-next _ _ _ _ _ (c .before .before .before .before .loop .inv .1) (c .before .before .before .loop-test .taken) (c .before .before .member .ensures .0) (c .before .before .member .ensures .1) (c .before .alternative .ensures) (omega arith))
+loop-again c =
+    let at-alternative = c .before in
+    let at-member = at-alternative .before in
+    let in-loop = at-member .before in
+    let at-loop = in-loop .before in (
+      omega arith,
+      agreed-next _ _ _ _ (at-loop .loop .inv .1) (in-loop .loop-test .taken) (at-member .member .ensures) (at-alternative .alternative .ensures)
+          (omega arith),
+    )
 
 returns-2 : tie.Need-returns-2 Inv-loop μ-loop
-returns-2 c = agreed-end _ _ _ _ _ (c .before .loop .inv .1) (omega arith)
+returns-2 c =
+    let at-loop = c .before in
+    agreed-end _ _ _ _ (at-loop .loop .inv .1) (omega arith)
 
 pub agreed-spec : {M : Type 1} → statement M
 agreed-spec =

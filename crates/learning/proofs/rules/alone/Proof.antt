@@ -1,34 +1,43 @@
--- `learning::rules::alone` meets its contract.
-use mathlib.Core.Bool.{not}
+-- `learning::rules::alone` meets its contract: those from k on are left to compare.
+use borrow.Author.Needs.{needs}
 use mathlib.Core.Path.{_≡_, refl}
+use mathlib.Core.Bool.{not}
 use Prim.Native.Nat.{_-_, _≤_}
 use native.Mathlib.Omega.{arith}
-use borrow.Author.Needs.{needs}
 use Rattle.base.specs.Rounds.{anyOf}
-use Rattle.configurations.specs.Held.{held}
-use Rattle.configurations.specs.Packing.{unpack}
 use Rattle.lookahead.specs.Outcomes.{rivals}
+use Rattle.configurations.specs.Packing.{configOf}
+use Rattle.configurations.specs.Held.{held}
+use Rattle.configurations.proofs.HeldLaws.{member-has}
 use Rattle.learning.proofs.JudgeLaws.{alone-not, alone-next, alone-end}
 use Rattle.learning.proofs.rules.alone.Statement.{statement}
 use Rattle.learning.proofs.rules.alone.Tie as tie
 
 abbrev Inv-loop : tie.InvT-loop
-Inv-loop heads stacks first n c k₀ k = (k ≤ n) × (not (anyOf (rivals (unpack (c .head) (c .stack))) (held heads stacks k (n - k))) ≡ not (anyOf (rivals (unpack (c .head) (c .stack))) (held heads stacks first (n - first))))
+Inv-loop members first n c k₀ k = (k ≤ n)
+    × (not (anyOf (rivals (configOf c)) (held members k (n - k))) ≡ not (anyOf (rivals (configOf c)) (held members first (n - first))))
 
 abbrev μ-loop : tie.MeasureT-loop
-μ-loop heads stacks first n c k₀ k = n - k
+μ-loop members first n c k₀ k = n - k
 
 loop-holds : tie.Need-loop-holds Inv-loop μ-loop
 loop-holds c = (omega arith, refl)
 
 member-requires : tie.Need-member-requires Inv-loop μ-loop
-member-requires c κs = search needs
+member-requires c κs =
+    let at-entry = c .before .before .before in
+    member-has (at-entry .pre .0) _ (c .loop-test .taken)
 
 rivals-requires : tie.Need-rivals-requires Inv-loop μ-loop
 rivals-requires c κs = search needs
 
 returns : tie.Need-returns Inv-loop μ-loop
-returns c = alone-not _ _ _ _ _ (c .before .before .before .before .loop .inv .1) (c .before .before .before .loop-test .taken) (c .before .before .member .ensures .0) (c .before .before .member .ensures .1) (c .before .rivals .ensures) (c .if1 .taken)
+returns c =
+    let at-rivals = c .before in
+    let at-member = at-rivals .before in
+    let in-loop = at-member .before in
+    let at-loop = in-loop .before in
+    alone-not _ _ _ _ (at-loop .loop .inv .1) (in-loop .loop-test .taken) (at-member .member .ensures) (at-rivals .rivals .ensures) (c .if1 .taken)
 
 add-k : tie.Need-add-k Inv-loop μ-loop
 add-k c = search needs
@@ -37,10 +46,20 @@ loop-less : tie.Need-loop-less Inv-loop μ-loop
 loop-less c = search needs
 
 loop-again : tie.Need-loop-again Inv-loop μ-loop
-loop-again c = (omega arith, alone-next _ _ _ _ _ (c .before .before .before .before .loop .inv .1) (c .before .before .before .loop-test .taken) (c .before .before .member .ensures .0) (c .before .before .member .ensures .1) (c .before .rivals .ensures) (c .if1 .left))
+loop-again c =
+    let at-rivals = c .before in
+    let at-member = at-rivals .before in
+    let in-loop = at-member .before in
+    let at-loop = in-loop .before in (
+      omega arith,
+      alone-next _ _ _ _ (at-loop .loop .inv .1) (in-loop .loop-test .taken) (at-member .member .ensures) (at-rivals .rivals .ensures)
+          (c .if1 .left),
+    )
 
 returns-2 : tie.Need-returns-2 Inv-loop μ-loop
-returns-2 c = alone-end _ _ _ _ _ (c .before .loop .inv .1) (omega arith)
+returns-2 c =
+    let at-loop = c .before in
+    alone-end _ _ _ _ (at-loop .loop .inv .1) (omega arith)
 
 pub alone-spec : {M : Type 1} → statement M
 alone-spec =

@@ -1,53 +1,73 @@
--- `learning::rules::shared` meets its contract.
-use mathlib.Core.Bool.{false, _||_}
+-- `learning::rules::shared` meets its contract: each pair is compared once, and a pair that conflicts does so both ways.
+use borrow.Author.Needs.{needs}
 use mathlib.Core.Path.{_≡_, refl, _∙_}
+use mathlib.Core.Bool.{false}
 use Prim.Native.Nat.{_-_, _≤_}
 use native.Mathlib.Omega.{arith}
-use borrow.Author.Needs.{needs}
-use Rattle.base.specs.Rounds.{anyOf}
-use Rattle.configurations.specs.Held.{Exact, held}
-use Rattle.configurations.specs.Packing.{unpack}
 use Rattle.lookahead.specs.Outcomes.{conflicts, shared}
-use Rattle.learning.proofs.JudgeLaws.{pairs, shared-pairs, pairs-first, pairs-none, pair-hit, pair-next, pair-end}
-use Rattle.configurations.proofs.HeldLaws.{exact-at}
+use Rattle.configurations.specs.Packing.{configOf, Exact}
+use Rattle.configurations.specs.Held.{held}
+use Rattle.configurations.proofs.HeldLaws.{member-has, exact-at}
+use Rattle.learning.proofs.JudgeLaws.{pairs, shared-pairs, pairs-first, pairs-none, pair-hit, pair-next, pair-end, Paired}
 use Rattle.learning.proofs.rules.shared.Statement.{statement}
 use Rattle.learning.proofs.rules.shared.Tie as tie
 
 abbrev Inv-loop : tie.InvT-loop
-Inv-loop heads stacks first n found₀ i c j₀ found j = (i ≤ n) × (j ≤ n) × (found ≡ false) × Exact (c .head) (c .stack) × ((anyOf (conflicts (unpack (c .head) (c .stack))) (held heads stacks j (n - j)) || pairs (held heads stacks i (n - i))) ≡ shared (held heads stacks first (n - first)))
+Inv-loop members first n found₀ i c j₀ found j = Paired members first n i (configOf c) j × (found ≡ false) × Exact c
 
 abbrev μ-loop : tie.MeasureT-loop
-μ-loop heads stacks first n found₀ i c j₀ found j = n - j
+μ-loop members first n found₀ i c j₀ found j = n - j
 
 abbrev Inv-search : tie.InvT-search
-Inv-search heads stacks first n found₀ i₀ found i = (i ≤ n) × (found ≡ false) × (pairs (held heads stacks i (n - i)) ≡ shared (held heads stacks first (n - first)))
+Inv-search members first n found₀ i₀ found i = (i ≤ n) × (found ≡ false)
+    × (pairs (held members i (n - i)) ≡ shared (held members first (n - first)))
 
 abbrev μ-search : tie.MeasureT-search
-μ-search heads stacks first n found₀ i₀ found i = n - i
+μ-search members first n found₀ i₀ found i = n - i
 
 search-holds : tie.Need-search-holds Inv-loop μ-loop Inv-search μ-search
-search-holds c = (c .before .before .pre .1, refl, shared-pairs _)
+search-holds c =
+    let at-entry = c .before in
+    (at-entry .pre .1, refl, shared-pairs _)
 
 member-requires : tie.Need-member-requires Inv-loop μ-loop Inv-search μ-search
-member-requires c κs = search needs
+member-requires c κs =
+    let at-entry = c .before .before .before in
+    member-has (at-entry .pre .0) _ (c .search-test .taken)
 
 add-i : tie.Need-add-i Inv-loop μ-loop Inv-search μ-search
 add-i c = search needs
 
 loop-holds : tie.Need-loop-holds Inv-loop μ-loop Inv-search μ-search
-loop-holds c = (omega arith, omega arith, c .before .before .search .inv .1, exact-at (c .before .before .before .before .before .pre .0) _ (c .before .search-test .taken) (c .member .ensures .0) (c .member .ensures .1), pairs-first _ _ _ _ (c .before .before .search .inv .2) (c .before .search-test .taken) (c .member .ensures .0) (c .member .ensures .1))
+loop-holds c =
+    let at-search-test = c .before in
+    let at-search = at-search-test .before in
+    let at-entry = at-search .before .before in
+    let pairs-left = pairs-first _ _ _ (at-search .search .inv .2) (at-search-test .search-test .taken) (c .member .ensures) in (
+      record { outer = omega arith; inner = omega arith; same = pairs-left },
+      at-search .search .inv .1,
+      exact-at (at-entry .pre .0) _ (at-search-test .search-test .taken) (c .member .ensures),
+    )
 
 search-less : tie.Need-search-less Inv-loop μ-loop Inv-search μ-search
 search-less c = search needs
 
 search-again : tie.Need-search-again Inv-loop μ-loop Inv-search μ-search
-search-again c = (c .before .loop .inv .0, c .before .loop .inv .2, pair-end _ _ _ _ _ _ (c .before .loop .inv .4) (omega arith))
+search-again c =
+    let at-loop = c .before in
+    (at-loop .loop .inv .0 .outer, at-loop .loop .inv .1, pair-end _ _ _ _ _ (at-loop .loop .inv .0 .same) (omega arith))
 
 member-requires-2 : tie.Need-member-requires-2 Inv-loop μ-loop Inv-search μ-search
-member-requires-2 c κs = search needs
+member-requires-2 c κs =
+    let at-entry = c .before .before .before .before .before .before in
+    member-has (at-entry .pre .0) _ (c .loop-test .taken)
 
 conflicts-requires : tie.Need-conflicts-requires Inv-loop μ-loop Inv-search μ-search
-conflicts-requires c κs = (c .before .before .loop .inv .3, exact-at (c .before .before .before .before .before .before .before .before .pre .0) _ (c .before .loop-test .taken) (c .member2 .ensures .0) (c .member2 .ensures .1))
+conflicts-requires c κs =
+    let in-loop = c .before in
+    let at-loop = in-loop .before in
+    let at-entry = at-loop .before .before .before .before .before in
+    (at-loop .loop .inv .2, exact-at (at-entry .pre .0) _ (in-loop .loop-test .taken) (c .member2 .ensures))
 
 add-j : tie.Need-add-j Inv-loop μ-loop Inv-search μ-search
 add-j c = search needs
@@ -56,13 +76,28 @@ loop-less : tie.Need-loop-less Inv-loop μ-loop Inv-search μ-search
 loop-less c = search needs
 
 loop-again : tie.Need-loop-again Inv-loop μ-loop Inv-search μ-search
-loop-again c = (c .before .before .before .before .loop .inv .0, omega arith, c .before .before .before .before .loop .inv .2, c .before .before .before .before .loop .inv .3, pair-next _ _ _ _ _ _ (c .before .before .before .before .loop .inv .4) (c .before .before .before .loop-test .taken) (c .before .before .member2 .ensures .0) (c .before .before .member2 .ensures .1) (c .before .conflicts .ensures) (c .if1 .left))
+loop-again c =
+    let at-conflicts = c .before in
+    let at-member2 = at-conflicts .before in
+    let in-loop = at-member2 .before in
+    let at-loop = in-loop .before in
+    let pairs-left = pair-next _ _ _ _ _ (at-loop .loop .inv .0 .same) (in-loop .loop-test .taken) (at-member2 .member2 .ensures)
+    (at-conflicts .conflicts .ensures) (c .if1 .left) in
+    (record { outer = at-loop .loop .inv .0 .outer; inner = omega arith; same = pairs-left }, at-loop .loop .inv .1, at-loop .loop .inv .2)
 
 returns : tie.Need-returns Inv-loop μ-loop Inv-search μ-search
-returns c = c .before .search .inv .1 ∙ pairs-none _ _ _ _ (c .before .search .inv .2) (omega arith)
+returns c =
+    let at-search = c .before in
+    at-search .search .inv .1 ∙ pairs-none _ _ _ (at-search .search .inv .2) (omega arith)
 
 returns-2 : tie.Need-returns-2 Inv-loop μ-loop Inv-search μ-search
-returns-2 c = pair-hit _ _ _ _ _ _ (c .before .before .before .before .loop .inv .4) (c .before .before .before .loop-test .taken) (c .before .before .member2 .ensures .0) (c .before .before .member2 .ensures .1) (c .before .conflicts .ensures) (c .if1 .taken)
+returns-2 c =
+    let at-conflicts = c .before in
+    let at-member2 = at-conflicts .before in
+    let in-loop = at-member2 .before in
+    let at-loop = in-loop .before in
+    pair-hit _ _ _ _ _ (at-loop .loop .inv .0 .same) (in-loop .loop-test .taken) (at-member2 .member2 .ensures) (at-conflicts .conflicts .ensures)
+    (c .if1 .taken)
 
 pub shared-spec : {M : Type 1} → statement M
 shared-spec =
