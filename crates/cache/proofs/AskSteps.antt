@@ -9,14 +9,13 @@ use borrow.Author.Tests.{eq-eqb, ne-eqb}
 use Rattle.grammar.specs.Grammar.{Grammar}
 use Rattle.lookahead.specs.Configs.{Config}
 use Rattle.lookahead.specs.Closing.{maxKept}
-use Rattle.configurations.specs.Packing.{packAll, unpackAll}
+use Rattle.configurations.specs.Packing.{packAll, unpackAll, keptWords, configWords}
 use Rattle.lookahead.specs.Outcomes.{Outcome, state, startOutcome, stepOutcome}
-use Rattle.configurations.specs.Packing.{keptWords}
 use Rattle.learning.specs.Told.{Tells}
 use Rattle.learning.specs.declared.rules.Outcome as told
 use Rattle.learning.specs.declared.rules.Outcome.the-variants.{Full, Alternative, State}
 use Rattle.configurations.proofs.PackLaws.{length-packAll}
-use Rattle.words.specs.Layout.{configWords, slots, configsAt, startAt, stepAt, fullWord, stateWord}
+use Rattle.words.specs.Layout.{slots, configsAt, startAt, stepAt, fullWord, stateWord}
 use Rattle.words.specs.Words.{word, startOf, stepOf, keptCount, keptIn, addState, searched}
 use Rattle.words.specs.Words as words
 use Rattle.cache.specs.Calls.{Kept}

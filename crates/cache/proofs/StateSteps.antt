@@ -15,7 +15,8 @@ use Rattle.base.proofs.Booleans.{clash, and-none, true→T}
 use Rattle.base.proofs.Lowest.{lowest-begin, lowest-none, lowest-hit, lowest-next}
 use Rattle.lookahead.specs.Closing.{sameList}
 use Rattle.lookahead.proofs.AddLaws.{same-list}
-use Rattle.words.specs.Layout.{configWords, slotHead, stateWord, heldAt, maxSlots, slotWords, slots, slotAt, configsAt, fullWord}
+use Rattle.configurations.specs.Packing.{configWords}
+use Rattle.words.specs.Layout.{slotHead, stateWord, heldAt, maxSlots, slotWords, slots, slotAt, configsAt, fullWord}
 use Rattle.words.specs.Words.{held, decision, keptCount, keptWords, searched}
 use Rattle.cache.specs.Recording.{Learned, learned}
 use Rattle.cache.specs.ByWords.{holdsWords, findWords, foundIn, addWords, sayWord, newWords, onFound, stateWords}

@@ -10,7 +10,8 @@ use Rattle.base.specs.Search.{lowestFrom}
 use Rattle.lookahead.specs.Closing.{sameList}
 use Rattle.learning.specs.declared.rules.Outcome.{Outcome}
 use Rattle.learning.specs.declared.rules.Outcome.the-variants.{Full, Alternative, State}
-use Rattle.words.specs.Layout.{configWords, slots, heldAt, slotAt, countAt, configsAt, fullWord, stateWord}
+use Rattle.configurations.specs.Packing.{configWords}
+use Rattle.words.specs.Layout.{slots, heldAt, slotAt, countAt, configsAt, fullWord, stateWord}
 use Rattle.words.specs.Words.{held, searched, decision, keptWords}
 use Rattle.cache.specs.Calls.{Kept}
 use Rattle.cache.specs.Recording.{Learned, learned}

@@ -8,7 +8,8 @@ use Rattle.grammar.specs.Tables.{nonterminalsIn, grammarIn}
 use Rattle.derivation.specs.Ready.{Ready}
 use Rattle.derivation.specs.Demand2.{Known}
 use Rattle.lookahead.specs.Closing.{maxKept}
-use Rattle.words.specs.Layout.{configWords, slotWords, maxSlots, minWords, slots, slotAt}
+use Rattle.configurations.specs.Packing.{configWords}
+use Rattle.words.specs.Layout.{slotWords, maxSlots, minWords, slots, slotAt}
 use Rattle.words.specs.Words.{held, stepOf}
 
 -- ---- recording

@@ -1,7 +1,7 @@
 // Outcomes of starts and steps: as recorded, or worked out and recorded. What is recorded costs one word.
+use configurations::CONFIG_WORDS;
+use configurations::KEPT_WORDS;
 use learning::Outcome;
-use words::layout::CONFIG_WORDS;
-use words::layout::KEPT_WORDS;
 use words::layout::STARTS_AT;
 ghost use mathlib.Core.Path.{_≡_};
 ghost use Prim.Native.Nat.{_<_, _^_};

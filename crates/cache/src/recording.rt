@@ -1,6 +1,6 @@
 // States and outcomes are looked up, and recorded.
+use configurations::CONFIG_WORDS;
 use learning::Outcome;
-use words::layout::CONFIG_WORDS;
 use words::layout::COUNT_AT;
 use words::layout::FULL;
 use words::layout::HELD_AT;
@@ -9,7 +9,8 @@ use words::layout::STATES;
 ghost use mathlib.Core.Path.{_≡_};
 ghost use Prim.Native.Nat.{_*_, _≤_, _<_};
 ghost use lib.ListN.{length, take};
-ghost use Rattle.words.specs.Layout.{minWords, configWords, slots};
+ghost use Rattle.configurations.specs.Packing.{configWords};
+ghost use Rattle.words.specs.Layout.{minWords, slots};
 ghost use Rattle.cache.specs.Calls.{Kept, Next, Recordable};
 ghost use Rattle.cache.specs.Recording.{learned};
 ghost use Rattle.cache.specs.ByWords.{holdsWords, findWords, foundIn, addWords, sayWord, newWords, stateWords, Room, outcomeWords};

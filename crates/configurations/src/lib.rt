@@ -7,6 +7,7 @@ mod words;
 pub use config::ENTRIES;
 pub use config::Packed;
 pub use config::begun;
+pub use kept::KEPT;
 pub use kept::KEPT_WORDS;
 pub use kept::sort;
 pub use members::Added;

@@ -8,9 +8,9 @@ use lib.ListN.{length, set, take, drop, length-set, length-take, length-drop}
 use lib.Seq.{sets, length-sets, sets-eq, take-at, drop-at, length-take-le, ext-getD, getD-take, getD-drop, getD-set-same, getD-set-other}
 use Rattle.lookahead.specs.Configs.{Config}
 use Rattle.lookahead.specs.Closing.{maxKept}
-use Rattle.configurations.specs.Packing.{packAll}
+use Rattle.configurations.specs.Packing.{packAll, configWords}
 use Rattle.configurations.proofs.PackLaws.{length-packAll}
-use Rattle.words.specs.Layout.{configWords, keptRoom, slotWords, slots, heldAt, slotAt, countAt, configsAt}
+use Rattle.words.specs.Layout.{keptRoom, slotWords, slots, heldAt, slotAt, countAt, configsAt}
 use Rattle.words.specs.Words.{word, held, decision, keptCount, keptWords, addState}
 
 -- ---- stores

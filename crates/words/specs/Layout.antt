@@ -13,16 +13,12 @@
 -- An outcome is one word: 0 where none is recorded, 1 to 16 for that alternative, 17 for FULL, 18 + s for state s.
 use Prim.Native.Nat.{ℕ, suc, _+_, _-_, _*_, _/_, min}
 use Rattle.grammar.specs.Limits.{maxProductions}
-use Rattle.lookahead.specs.Closing.{maxKept}
+use Rattle.configurations.specs.Packing as packing
 
 -- ---- sizes
 -- the words before the slots
 abbrev pub fixedWords : ℕ
 fixedWords = 2048
-
--- the words of a kept configuration
-abbrev pub configWords : ℕ
-configWords = 3
 
 -- the words of a slot before its configurations
 abbrev pub slotHead : ℕ
@@ -30,7 +26,7 @@ slotHead = 128
 
 -- the words of the configurations that a slot may keep
 abbrev pub keptRoom : ℕ
-keptRoom = configWords * maxKept
+keptRoom = packing.keptWords
 
 -- the words of a slot
 abbrev pub slotWords : ℕ

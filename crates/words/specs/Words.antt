@@ -5,8 +5,8 @@ use lib.ListN.{length, getD, set, take, drop}
 use lib.Seq.{sets}
 use Rattle.lookahead.specs.Configs.{Config}
 use Rattle.lookahead.specs.Closing.{maxKept}
-use Rattle.words.specs.Layout.{configWords, slots, heldAt, startAt, slotAt, countAt, stepAt, configsAt}
-use Rattle.configurations.specs.Packing.{packAll, unpackAll}
+use Rattle.configurations.specs.Packing.{configWords, packAll, unpackAll}
+use Rattle.words.specs.Layout.{slots, heldAt, startAt, slotAt, countAt, stepAt, configsAt}
 
 -- ---- readers
 abbrev pub word : List ℕ → ℕ → ℕ

@@ -3,17 +3,10 @@
 // The words before the slots.
 pub const FIXED_WORDS: usize = 2048;
 
-// The configurations that a state keeps at most, and the words of each.
-pub const MAX_KEPT: usize = 64;
-
-pub const CONFIG_WORDS: usize = 3;
-
-pub const KEPT_WORDS: usize = CONFIG_WORDS * MAX_KEPT;
-
 // The words of a slot before its configurations, and all of them.
 pub const SLOT_HEAD: usize = 128;
 
-pub const SLOT_WORDS: usize = SLOT_HEAD + KEPT_WORDS;
+pub const SLOT_WORDS: usize = SLOT_HEAD + configurations::KEPT_WORDS;
 
 // The slots that are used of a long cache.
 pub const MAX_SLOTS: usize = 1024;

@@ -2,12 +2,12 @@
 use crate::layout::COUNT_AT;
 use crate::layout::FIXED_WORDS;
 use crate::layout::HELD_AT;
-use crate::layout::MAX_KEPT;
 use crate::layout::MAX_SLOTS;
 use crate::layout::SLOT_HEAD;
 use crate::layout::SLOT_WORDS;
 use crate::layout::STARTS_AT;
 use crate::layout::STEPS_AT;
+use configurations::KEPT;
 ghost use mathlib.Core.Path.{_≡_};
 ghost use Prim.Native.Nat.{_+_, _*_, _≤_, _<_};
 ghost use lib.ListN.{length, take, drop};
@@ -106,8 +106,8 @@ pub fn kept_count(cache: &[u32], s: usize) -> usize
     ensures { λ r. ⌜ r ≡ keptCount (now (cache .entry)) s ⌝ }
 {
     let n = base::number(cache[slot_at(s) + COUNT_AT]);
-    if MAX_KEPT < n {
-        return MAX_KEPT;
+    if KEPT < n {
+        return KEPT;
     }
     n
 }

@@ -1,5 +1,5 @@
 -- `cache::recording::find` meets its contract: the slots are looked at from the first on, so where one holds the state it is the lowest.
-use Rattle.words.specs.Layout.{configWords}
+use Rattle.configurations.specs.Packing.{configWords}
 use Rattle.cache.proofs.StateSteps.{Seeking, seek-begins, seek-ends, seek-hit, seek-next, searched-low}
 use borrow.Author.Needs.{needs}
 use lib.ListN.{take}
