@@ -33,7 +33,8 @@ module _ {C : Type 0} (g : Grammar) (w : List ℕ) where
       go (Alternative b) = refl
       go Full = refl
 
-  settle-again : (S : List ℕ) (a i : ℕ) (p : Predicted C) (d : C) → settle g w S a i (predicted (p .forecast) d) ≡ choice ((settle g w S a i p) .alternative) d
+  settle-again : (S : List ℕ) (a i : ℕ) (p : Predicted C) (d : C) → settle g w S a i (predicted (p .forecast) d)
+      ≡ choice ((settle g w S a i p) .alternative) d
   unfolding settle
   settle-again S a i p d = go (p .forecast)
     where
@@ -67,7 +68,8 @@ module _ (g : Grammar) (w : List ℕ) where
   first-single a (suc b) f l e = omega (arith, first-lt g w a (suc b) f e)
 
   -- what agrees with every alternative that serves is settled as the lowest
-  settle-lowest : {C : Type 0} (S : List ℕ) (a i : ℕ) (p : Predicted C) → Served g w S a i → ((b : ℕ) → Serves g w S a i b → FullOr b (p .forecast))
+  settle-lowest : {C : Type 0} (S : List ℕ) (a i : ℕ) (p : Predicted C) → Served g w S a i
+      → ((b : ℕ) → Serves g w S a i b → FullOr b (p .forecast))
       → (settle g w S a i p) .alternative ≡ lowest g w S a i
   unfolding settle
   settle-lowest S a i p v h = go (p .forecast) h
@@ -76,12 +78,14 @@ module _ (g : Grammar) (w : List ℕ) where
       said (inl e) = clash (cc)
       said (inr e) = cc
 
-      go : (x : Forecast) → ((b : ℕ) → Serves g w S a i b → FullOr b x) → (settle g w S a i (predicted x (p .state))) .alternative ≡ lowest g w S a i
+      go : (x : Forecast) → ((b : ℕ) → Serves g w S a i b → FullOr b x) → (settle g w S a i (predicted x (p .state))) .alternative
+          ≡ lowest g w S a i
       go (Alternative b) k = lowest-of S a i b v (λ d y. said (k d y))
       go Full k = refl
 
 -- ---- by a predictor's laws
-module _ {C : Type 0} (Coherent : C → Type 0) (Extends : C → C → Type 0) (g : Grammar) (w : List ℕ) (Stands : List ℕ → ℕ → Type 0) (predict : Predicts C)
+module _ {C : Type 0} (Coherent : C → Type 0) (Extends : C → C → Type 0) (g : Grammar) (w : List ℕ) (Stands : List ℕ → ℕ → Type 0)
+    (predict : Predicts C)
     (predictor : Predictor Coherent Extends g w Stands predict) where
   -- coherent states stay coherent
   pub guided-keeps : Keeps Coherent (guided g w predict)
@@ -93,7 +97,8 @@ module _ {C : Type 0} (Coherent : C → Type 0) (Extends : C → C → Type 0) (
       go false e = rw (choice-single g w predict c S a i e) h
 
   -- states only grow, and what was chosen before is chosen again
-  pub guided-repeats : ((c : C) → Extends c c) → ((c d e : C) → Extends c d → Extends d e → Extends c e) → Repeats Coherent (guided g w predict) Extends
+  pub guided-repeats : ((c : C) → Extends c c) → ((c d e : C) → Extends c d → Extends d e → Extends c e)
+      → Repeats Coherent (guided g w predict) Extends
   guided-repeats same onward = record { keeps = guided-keeps; same = same; onward = onward; grows = grows; again = again }
     where
       grows : (c : C) (S : List ℕ) (a i : ℕ) → Coherent c → Extends c (thence (guided g w predict) c S a i)
@@ -111,7 +116,8 @@ module _ {C : Type 0} (Coherent : C → Type 0) (Extends : C → C → Type 0) (
           go : (y : Bool) → ltb 1 (length (alternatives g a)) ≡ y → guided g w predict d S a i ≡ choice (names (guided g w predict) c S a i) d
           go true e =
               let p = predict c a (drop i w) in
-              let q : thence (guided g w predict) c S a i ≡ p .state = ap (λ (k : Choice C). k .state) (choice-decided g w predict c S a i e) ∙ settle-state g w S a i p in
+              let q : thence (guided g w predict) c S a i ≡ p .state = ap (λ (k : Choice C). k .state) (choice-decided g w predict c S a i e)
+              ∙ settle-state g w S a i p in
               let said = predictor .again c d a i h (ltb-true 1 (length (alternatives g a)) e) j (subst (λ (v : C). Extends v d) q x) in
               choice-decided g w predict d S a i e ∙ ap (settle g w S a i) said ∙ settle-again g w S a i p d
               ∙ ap (λ (k : Choice C). choice (k .alternative) d) (sym (choice-decided g w predict c S a i e))

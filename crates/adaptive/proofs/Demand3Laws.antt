@@ -72,7 +72,11 @@ module _ (s : List ℕ) (r : Rules) (m : Mark) (e : decode s ≡ got r m) (v : c
   read c k h (eleven l t w) = record { answer = refl; learned = refl }
   read c k h (admitted l t w) =
       let b = over-begun s g (k .note) (k .row) c (h .long) (h .begun-for) in
-      record { answer = ap (λ (x : Reply). x .answer) b ∙ quick-answer g s suits ordered (k .note) t (k .row) c h; learned = ap (λ (x : Reply). x .words) b }
+      record {
+        answer = ap (λ (x : Reply). x .answer) b ∙ quick-answer g s suits ordered (k .note) t (k .row) c h;
+        learned =
+            ap (λ (x : Reply). x .words) b;
+      }
 
   read-call : (c : List ℕ) (k : Call) → Coherent g s c → Read c k (gateOf k)
   read-call c k h = read c k h (note-gate g (k .note) (k .space))
@@ -129,7 +133,8 @@ module _ (s : List ℕ) (r : Rules) (m : Mark) (e : decode s ≡ got r m) (v : c
   unfolding taught
   quick-keeps c k h = rw (left c k h) (after c k h (gateOf k) refl (note-gate g (k .note) (k .space)))
 
-  agrees : (c : List ℕ) (earlier : List Call) (k : Call) → Coherent g s c → ((j : Call) → In j earlier → Passes j → Remembers c j) → Agrees s g c earlier k
+  agrees : (c : List ℕ) (earlier : List Call) (k : Call) → Coherent g s c → ((j : Call) → In j earlier → Passes j → Remembers c j)
+      → Agrees s g c earlier k
   unfolding taught
   agrees c earlier k h z = record {
     answer = ap (λ (x : Reply). x .answer) (quick-sound c k) ∙ read-call c k h .answer ∙ sym (plain-sound k);
@@ -138,7 +143,8 @@ module _ (s : List ℕ) (r : Rules) (m : Mark) (e : decode s ≡ got r m) (v : c
   }
 
   -- ---- the list
-  all-agree : (ks earlier : List Call) (c : List ℕ) → Coherent g s c → ((j : Call) → In j earlier → Passes j → Remembers c j) → AllAgree s g c earlier ks
+  all-agree : (ks earlier : List Call) (c : List ℕ) → Coherent g s c → ((j : Call) → In j earlier → Passes j → Remembers c j)
+      → AllAgree s g c earlier ks
   all-agree [] earlier c h z = tt
   all-agree (k ∷ ks) earlier c h z =
       (agrees c earlier k h z, all-agree ks (k ∷ earlier) ((quick s c k) .words) (now .coherent) (λ j i t. held j (List·Memᴰ·cases-cons i) t))

@@ -27,7 +27,8 @@ use Rattle.adaptive.proofs.ChoiceLaws.{guided-keeps, guided-repeats, gu
 use Rattle.adaptive.proofs.Standing.{Stands, Waits, standing, first-waits, waits-asks}
 
 -- a note that is no sentence is refused with 10 by any reading that accepts sentences alone
-no-sentence : (g : Grammar) → Ordered g → (v row : List ℕ) (o : Outcome) → sentence? g v ≡ false → ((d : List ℕ) → o ≡ accepted d → Sentence g v)
+no-sentence : (g : Grammar) → Ordered g → (v row : List ℕ) (o : Outcome) → sentence? g v ≡ false
+    → ((d : List ℕ) → o ≡ accepted d → Sentence g v)
     → onOutcome g v row o ≡ clear 10 (wrongPlace g v) row
 unfolding onOutcome
 no-sentence g ordered v row (accepted d) e h =
@@ -78,7 +79,9 @@ module _ {C : Type 0} (Coherent : C → Type 0) (Extends : C → C → Type 0) (
         call-run-grows Coherent Extends g (marked v) (guided g (marked v) predict) repeats (suc (2 * room + length (marked v))) (endPlace ∷ []) 0 0 room c j
 
     -- READ AGAIN from a state that has only grown since, it leaves that state as found
-    pub note-again : (room : ℕ) (c d : C) → Coherent c → Coherent d → Extends ((read room c) .state) d → read room d ≡ ended ((read room c) .outcome) d
+    pub note-again : (room : ℕ) (c d : C) → Coherent c → Coherent d → Extends ((read room c) .state) d → read room d
+        ≡ ended ((read room c) .outcome) d
     unfolding reading
     note-again room c d j i e =
-        call-run-again Coherent Extends g (marked v) (guided g (marked v) predict) repeats (suc (2 * room + length (marked v))) (endPlace ∷ []) 0 0 room c d j i e
+        call-run-again Coherent Extends g (marked v) (guided g (marked v) predict) repeats (suc (2 * room + length (marked v))) (endPlace ∷ []) 0 0 room c d
+        j i e

@@ -35,7 +35,8 @@ pub record Agrees (s : List ℕ) (g : Grammar) (c : List ℕ) (earlier : List Ca
   -- the cache holds exactly what the learning rules give
   pub learned : (quick s c k) .words ≡ taught g c k
   -- a note that was read before in enough working space, with a row of the same length, leaves every word as found
-  pub nothing-new : (j : Call) → In j earlier → j .note ≡ k .note → spaceWords (g .size) (length (j .note)) ≤ j .space → length (j .row) ≡ length (k .row)
+  pub nothing-new : (j : Call) → In j earlier → j .note ≡ k .note → spaceWords (g .size) (length (j .note)) ≤ j .space → length (j .row)
+      ≡ length (k .row)
       → (quick s c k) .words ≡ c
 
 -- the whole list, each reading taking the words as the last one left them

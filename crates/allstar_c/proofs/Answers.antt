@@ -8,10 +8,11 @@ use Rattle.words.specs.declared.beginning.Beginning.{Beginning}
 use Rattle.words.specs.Beginning.{beginningNumber, beginningPlace, begunBy}
 use Rattle.gate.specs.declared.reading.Reading.{Reading}
 use Rattle.gate.specs.Reading.{readingNumber, readingPlace, readingCount, answered}
-use Rattle.quick.specs.Quick.{Reply, reply}
+use Rattle.adaptive.specs.Quick.{Reply, reply}
 use Rattle.quick.specs.Replied.{replied}
 
-pub told : (r : Reading) (row : List ℕ) {n p c : ℕ} {x : Answer} → n ≡ readingNumber r → p ≡ readingPlace r → c ≡ readingCount r → answered r row ≡ x
+pub told : (r : Reading) (row : List ℕ) {n p c : ℕ} {x : Answer} → n ≡ readingNumber r → p ≡ readingPlace r → c ≡ readingCount r
+    → answered r row ≡ x
     → answer n p c row ≡ x
 told r row e f g h = rw (e, f, g) h
 
@@ -19,5 +20,6 @@ pub told-reply : (r : Reading) (row words : List ℕ) {n p c : ℕ} {x : Reply} 
     → replied r row words ≡ x → reply (answer n p c row) words ≡ x
 told-reply r row words e f g h = rw (e, f, g) h
 
-pub told-begun : (b : Beginning) (c : List ℕ) {n p : ℕ} {x : Begun} → n ≡ beginningNumber b → p ≡ beginningPlace b → begunBy b c ≡ x → begun n p c ≡ x
+pub told-begun : (b : Beginning) (c : List ℕ) {n p : ℕ} {x : Begun} → n ≡ beginningNumber b → p ≡ beginningPlace b → begunBy b c ≡ x
+    → begun n p c ≡ x
 told-begun b c e f h = rw (e, f) h

@@ -3,7 +3,7 @@ ghost use mathlib.Core.Path.{_≡_};
 ghost use lib.ListN.{length};
 ghost use Rattle.derivation.specs.Plain.{answer, plainReading};
 ghost use Rattle.words.specs.Begin.{begun, beginning};
-ghost use Rattle.quick.specs.Quick.{reply, quickReading};
+ghost use Rattle.adaptive.specs.Quick.{reply, quickReading};
 ghost use Rattle.soundness.specs.Check.{checkOf, verdictNumber, verdictPlace};
 
 // Checks a grammar. Answers document 01's number, 0 if it is sound, and stores the place.
@@ -38,7 +38,8 @@ pub extern "C" fn allstar_plain(
     place: &mut u64,
     count: &mut u64,
 ) -> u32
-    ensures { λ r. ⌜ answer r (now (place .exit)) (now (count .exit)) (now (row .exit)) ≡ plainReading (now (grammar .entry)) (now (note .entry)) (now (row .entry)) (length (now (workspace .entry))) ⌝ }
+    ensures { λ r. ⌜ answer r (now (place .exit)) (now (count .exit)) (now (row .exit))
+        ≡ plainReading (now (grammar .entry)) (now (note .entry)) (now (row .entry)) (length (now (workspace .entry))) ⌝ }
 {
     let reading = plain::plain(grammar, note, row, workspace);
     *place = reading.place() as u64;
@@ -58,7 +59,8 @@ pub extern "C" fn allstar_quick(
     place: &mut u64,
     count: &mut u64,
 ) -> u32
-    ensures { λ r. ⌜ reply (answer r (now (place .exit)) (now (count .exit)) (now (row .exit))) (now (cache .exit)) ≡ quickReading (now (grammar .entry)) (now (note .entry)) (now (row .entry)) (length (now (workspace .entry))) (now (cache .entry)) ⌝ }
+    ensures { λ r. ⌜ reply (answer r (now (place .exit)) (now (count .exit)) (now (row .exit))) (now (cache .exit))
+        ≡ quickReading (now (grammar .entry)) (now (note .entry)) (now (row .entry)) (length (now (workspace .entry))) (now (cache .entry)) ⌝ }
 {
     let reply = quick::quick(grammar, note, row, cache, workspace);
     *place = reply.place() as u64;

@@ -13,7 +13,7 @@ use lib.Count.{trailingZeros, under}
 use lib.Pow.{pow-pos, pow-lt, pow-mono, pow-add, shl-exact, shl-shr, shr-shr}
 use lib.Arith.{digits-mod}
 use borrow.Author.Tests.{eqb-true, eqb-false, eq-eqb, ne-eqb}
-use Rattle.base.specs.Bits.{bit, testBit, setBit, isSubset}
+use Rattle.base.specs.Bits.{wordBits, bit, testBit, setBit, isSubset}
 use Rattle.base.proofs.Booleans.{clash, same, and-T, T-and, or-T, T-or-l, T-or-r, T→true}
 
 pub same? : (a b : ℕ) → (a ≡ b) ⊎ (a ≡ b → ⊥)
@@ -106,10 +106,10 @@ test-below n k l = eq-eqb (bit (2 ^ n - 1) k) 1 (omega (arith, one, bit-pow-same
     one : min (bit (2 ^ k) k) (bit (2 ^ n - 1) k) ≡ bit (2 ^ k) k
     one = sym (bit-and (2 ^ k) (2 ^ n - 1) k) ∙ ap (λ (x : ℕ). bit x k) (and-mask (2 ^ k) n ∙ mod-eq-of-lt (pow-lt l))
 
--- a word has no member from 32 on
-pub test-high : (x k : ℕ) → x < 2 ^ 32 → 32 ≤ k → testBit x k ≡ false
+-- a word has no member from wordBits on
+pub test-high : (x k : ℕ) → x < 2 ^ wordBits → wordBits ≤ k → testBit x k ≡ false
 unfolding testBit
-test-high x k h l = rw (bit-high 32 x k h l)
+test-high x k h l = rw (bit-high wordBits x k h l)
 
 -- joining only adds
 pub or-ge : (x y : ℕ) → x ≤ bitOr x y
@@ -119,9 +119,9 @@ pub set-ge : (x j : ℕ) → x ≤ setBit x j
 unfolding setBit
 set-ge x j = or-ge x (2 ^ j)
 
-pub set-fits : (x j : ℕ) → x < 2 ^ 32 → j < 32 → setBit x j < 2 ^ 32
+pub set-fits : (x j : ℕ) → x < 2 ^ wordBits → j < wordBits → setBit x j < 2 ^ wordBits
 unfolding setBit
-set-fits x j h l = or-lt 32 x (2 ^ j) h (pow-lt l)
+set-fits x j h l = or-lt wordBits x (2 ^ j) h (pow-lt l)
 
 pub or-ge-r : (x y : ℕ) → y ≤ bitOr x y
 or-ge-r x y = omega (arith, or-add-and x y, and-le-l x y)
@@ -212,7 +212,9 @@ subset-iff x y = (to, from)
 
     from : ((k : ℕ) → T (testBit x k) → T (testBit y k)) → T (eqb (bitOr x y) y)
     from h =
-        let e : bitOr x y ≡ y = sets-same (bitOr x y) y (λ k. test-or x y k ∙ same (testBit x k || testBit y k) (testBit y k) (λ t. ⊎-elim (h k) (λ s. s) (or-T (testBit x k) (testBit y k) t)) (T-or-r (testBit x k) (testBit y k))) in
+        let e : bitOr x y ≡ y = sets-same (bitOr x y) y
+        (λ k. test-or x y k ∙ same (testBit x k || testBit y k) (testBit y k) (λ t. ⊎-elim (h k) (λ s. s) (or-T (testBit x k) (testBit y k) t))
+        (T-or-r (testBit x k) (testBit y k))) in
         rw e (eqb-refl y)
 
 pub subset-none : (y : ℕ) → isSubset 0 y ≡ true
@@ -224,12 +226,14 @@ subset-set x k y = same (isSubset (setBit x k) y) (isSubset x y && testBit y k) 
     to : T (isSubset (setBit x k) y) → T (isSubset x y && testBit y k)
     to t =
         let h : (j : ℕ) → T (testBit x j || eqb j k) → T (testBit y j) = λ j s. subset-iff (setBit x k) y .0 t j (rw test-set s) in
-        T-and (isSubset x y) (testBit y k) (subset-iff x y .1 (λ j s. h j (T-or-l (testBit x j) (eqb j k) s))) (h k (T-or-r (testBit x k) (eqb k k) (eqb-refl k)))
+        T-and (isSubset x y) (testBit y k) (subset-iff x y .1 (λ j s. h j (T-or-l (testBit x j) (eqb j k) s)))
+        (h k (T-or-r (testBit x k) (eqb k k) (eqb-refl k)))
 
     from : T (isSubset x y && testBit y k) → T (isSubset (setBit x k) y)
     from t =
         let s = and-T (isSubset x y) (testBit y k) t in
-        subset-iff (setBit x k) y .1 (λ j m. elim (or-T (testBit x j) (eqb j k) (rw test-set at m)) [ inl u ↦ subset-iff x y .0 (s .0) j u | inr u ↦ rw (eqb→eq j k u) (s .1) ])
+        subset-iff (setBit x k) y .1 (λ j m. elim (or-T (testBit x j) (eqb j k) (rw test-set at m))
+        [ inl u ↦ subset-iff x y .0 (s .0) j u | inr u ↦ rw (eqb→eq j k u) (s .1) ])
 
 -- ---- the opposite of a word: every bit turned
 differ-one : (a : ℕ) → a < 2 → (differ a 1 < 2) × (eqb (differ a 1) 1 ≡ not (eqb a 1))
@@ -237,11 +241,11 @@ differ-one zero h = (omega arith, refl)
 differ-one (suc zero) h = (omega arith, refl)
 differ-one (suc (suc a)) h = absurd (omega arith)
 
-pub test-opposite : (x k : ℕ) → k < 32 → testBit (bitXor x (2 ^ 32 - 1)) k ≡ not (testBit x k)
+pub test-opposite : (x k : ℕ) → k < wordBits → testBit (bitXor x (2 ^ wordBits - 1)) k ≡ not (testBit x k)
 unfolding testBit bit
 test-opposite x k l =
-    let b : bit (2 ^ 32 - 1) k ≡ 1 = eqb-true (bit (2 ^ 32 - 1) k) 1 (test-below 32 k l) in
+    let b : bit (2 ^ wordBits - 1) k ≡ 1 = eqb-true (bit (2 ^ wordBits - 1) k) 1 (test-below wordBits k l) in
     let d : (differ (bit x k) 1 < 2) × (eqb (differ (bit x k) 1) 1 ≡ not (eqb (bit x k) 1)) = differ-one (bit x k) (bit-lt x k) in
-    let e : bit (bitXor x (2 ^ 32 - 1)) k ≡ differ (bit x k) 1
+    let e : bit (bitXor x (2 ^ wordBits - 1)) k ≡ differ (bit x k) 1
     = rw (xor-shr, xor-step, b) (digits-mod _ (d .0)) in
     ap (λ (y : ℕ). eqb y 1) e ∙ d .1

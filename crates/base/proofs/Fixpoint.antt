@@ -105,7 +105,8 @@ module _ {C : Type 0} (F : (C → Bool) → C → Bool) (mono : (X Y : C → Boo
     unfolding rounds
     climb zero = go (grow (rounds F 1) (rounds F 2) L (λ c _ t. rise 1 c t))
       where
-        go : Below L (rounds F 2) (rounds F 1) ⊎ (count (rounds F 1) L < count (rounds F 2) L) → Within (rounds F 2) (rounds F 1) ⊎ (0 < count (rounds F 2) L)
+        go : Below L (rounds F 2) (rounds F 1) ⊎ (count (rounds F 1) L < count (rounds F 2) L) → Within (rounds F 2) (rounds F 1)
+            ⊎ (0 < count (rounds F 2) L)
         go (inl h) = inl (spread 0 h)
         go (inr q) = inr (omega arith)
     climb (suc k) = go (climb k)

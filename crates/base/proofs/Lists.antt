@@ -66,7 +66,9 @@ upFrom-in (suc k) i m h l = go (decLe (suc i) m) (upFrom-in k (suc i) m)
 -- ---- an element of a slice, by its number in the whole
 pub slice-get : (t : List ℕ) (e m f : ℕ) → f + m < e → e ≤ length t → getElem? (slice f e t) m ≡ some (getD t (f + m) 0)
 slice-get t e zero f l h = let q : f + 0 ≡ f = omega arith in rw (slice-cons f e t 0 (omega arith) h, q)
-slice-get t e (suc m) f l h = let q : f + suc m ≡ suc f + m = omega arith in rw (slice-cons f e t 0 (omega arith) h, q) (slice-get t e m (suc f) (omega arith) h)
+slice-get t e (suc m) f l h =
+    let q : f + suc m ≡ suc f + m = omega arith in
+    rw (slice-cons f e t 0 (omega arith) h, q) (slice-get t e m (suc f) (omega arith) h)
 
 slice-none : (t : List ℕ) (e f : ℕ) → e ≤ f → slice f e t ≡ []
 slice-none t e f h = drop-of-length-le (take e t) {i = f} (omega (arith, length-take e t))
@@ -82,7 +84,8 @@ slice-from t e zero f v h q = go (decLt f e)
     go (no l) = let y : none ≡ some v = rw (slice-none t e f (omega arith)) at q in clash (cc)
 slice-from t e (suc m) f v h q = go (decLt f e) (slice-from t e m (suc f) v h)
   where
-    go : Dec (f < e) → (getElem? (slice (suc f) e t) m ≡ some v → (suc f + m < e) × (v ≡ getD t (suc f + m) 0)) → (f + suc m < e) × (v ≡ getD t (f + suc m) 0)
+    go : Dec (f < e) → (getElem? (slice (suc f) e t) m ≡ some v → (suc f + m < e) × (v ≡ getD t (suc f + m) 0)) → (f + suc m < e)
+        × (v ≡ getD t (f + suc m) 0)
     go (yes l) rec = let z : f + suc m ≡ suc f + m = omega arith in rw z (rec (rw (slice-cons f e t 0 l h) at q))
     go (no l) rec = let y : none ≡ some v = rw (slice-none t e f (omega arith)) at q in clash (cc)
 

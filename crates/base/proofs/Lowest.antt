@@ -24,10 +24,12 @@ sought p i (suc k) = go (p i) refl (sought p (suc i) k)
     not-here e c l n t = let z : c ≡ i = omega arith in let y : T (p i) = rw z at t in rw e at y
 
     later : p i ≡ false → {o : Option ℕ} → Sought p (suc i) k o → Sought p i (suc k) o
-    later e (hit a l m t h) = hit a (omega arith) (omega arith) t (λ c l′ m′. elim (decLe (suc i) c) [ yes y ↦ h c y m′ | no y ↦ not-here e c l′ y ])
+    later e (hit a l m t h) = hit a (omega arith) (omega arith) t
+        (λ c l′ m′. elim (decLe (suc i) c) [ yes y ↦ h c y m′ | no y ↦ not-here e c l′ y ])
     later e (miss h) = miss (λ c l′ m′. elim (decLe (suc i) c) [ yes y ↦ h c y (omega arith) | no y ↦ not-here e c l′ y ])
 
-    go : (v : Bool) → p i ≡ v → Sought p (suc i) k (lowestFrom p (suc i) k) → Sought p i (suc k) (elim v [ true ↦ some i | false ↦ lowestFrom p (suc i) k ])
+    go : (v : Bool) → p i ≡ v → Sought p (suc i) k (lowestFrom p (suc i) k)
+        → Sought p i (suc k) (elim v [ true ↦ some i | false ↦ lowestFrom p (suc i) k ])
     go true e rec = hit i (omega arith) (omega arith) (true→T (p i) e) (λ c l m t. absurd (omega arith))
     go false e rec = later e rec
 
@@ -72,7 +74,8 @@ module _ (p : ℕ → Bool) (i k : ℕ) {o : Option ℕ} (h : lowestFrom p i k �
 pub lowest-begin : (p : ℕ → Bool) (n : ℕ) → lowestFrom p (n - n) n ≡ lowestFrom p 0 n
 lowest-begin p n = let e : n - n ≡ 0 = omega arith in rw e
 
-pub lowest-next : (p : ℕ → Bool) (n k : ℕ) {o : Option ℕ} → lowestFrom p (n - k) k ≡ o → 0 < k → k ≤ n → p (n - k) ≡ false → lowestFrom p (n - (k - 1)) (k - 1) ≡ o
+pub lowest-next : (p : ℕ → Bool) (n k : ℕ) {o : Option ℕ} → lowestFrom p (n - k) k ≡ o → 0 < k → k ≤ n → p (n - k) ≡ false
+    → lowestFrom p (n - (k - 1)) (k - 1) ≡ o
 lowest-next p n k h l m e = let q : n - (k - 1) ≡ n - k + 1 = omega arith in rw q (lowest-miss p (n - k) k h l e)
 
 -- two tests that agree on the numbers searched find the same

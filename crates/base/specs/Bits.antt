@@ -1,8 +1,12 @@
--- Single bits of a number: a word of 32 bits is a set of numbers below 32.
+-- Single bits of a number: a word is a set of numbers below wordBits.
 use Prim.Native.Nat.{ℕ, _/_, _%_, _^_}
 use mathlib.Core.Bool.{Bool}
 use lib.Bits.{bitOr}
 use lib.Dec.{eqb}
+
+-- the bits of a word
+abbrev pub wordBits : ℕ
+wordBits = 32
 
 -- bit k of x, counted from 0: 0 or 1
 unfoldable pub bit : ℕ → ℕ → ℕ

@@ -2,7 +2,10 @@
 ghost use mathlib.Core.Path.{_≡_};
 ghost use Prim.Native.Nat.{_-_, _^_, _≤_, _<_};
 ghost use lib.Bits.{bitXor};
-ghost use Rattle.base.specs.Bits.{testBit, setBit, isSubset};
+ghost use Rattle.base.specs.Bits.{wordBits, testBit, setBit, isSubset};
+
+// The bits of a word; a word is a set of numbers below that. specs/Bits has the same.
+pub const WORD_BITS: usize = 32;
 
 // A byte as a number.
 pub fn wide(b: u8) -> usize
@@ -28,7 +31,7 @@ pub fn narrow(x: usize) -> u16
 
 // Whether bit k of x is set.
 pub fn has(x: u32, k: usize) -> bool
-    requires { ⌜ k < 32 ⌝ }
+    requires { ⌜ k < wordBits ⌝ }
     ensures { λ r. ⌜ r ≡ testBit x k ⌝ }
 {
     (x >> k) & 1 == 1
@@ -36,7 +39,7 @@ pub fn has(x: u32, k: usize) -> bool
 
 // x with bit k set.
 pub fn with(x: u32, k: usize) -> u32
-    requires { ⌜ k < 32 ⌝ }
+    requires { ⌜ k < wordBits ⌝ }
     ensures { λ r. ⌜ r ≡ setBit x k ⌝ }
 {
     x | (1u32 << k)
@@ -44,7 +47,7 @@ pub fn with(x: u32, k: usize) -> u32
 
 // A number as a word.
 pub fn word(x: usize) -> u32
-    requires { ⌜ x < 4294967296 ⌝ }
+    requires { ⌜ x < 2 ^ wordBits ⌝ }
     ensures { λ r. ⌜ r ≡ x ⌝ }
 {
     x as u32
@@ -59,7 +62,7 @@ pub fn number(x: u32) -> usize
 
 // The set of the numbers below n.
 pub fn below(n: usize) -> u32
-    requires { ⌜ n ≤ 32 ⌝ }
+    requires { ⌜ n ≤ wordBits ⌝ }
     ensures { λ r. ⌜ r ≡ 2 ^ n - 1 ⌝ }
 {
     word((1usize << n) - 1)
@@ -74,7 +77,7 @@ pub fn subset(x: u32, y: u32) -> bool
 
 // Every bit of x turned.
 pub fn opposite(x: u32) -> u32
-    ensures { λ r. ⌜ r ≡ bitXor x (2 ^ 32 - 1) ⌝ }
+    ensures { λ r. ⌜ r ≡ bitXor x (2 ^ wordBits - 1) ⌝ }
 {
-    x ^ 4294967295
+    x ^ u32::MAX
 }

@@ -15,7 +15,7 @@ use Rattle.learning.specs.Told.{keptWords, Tells}
 use Rattle.learning.specs.declared.rules.Outcome as told
 use Rattle.learning.specs.declared.rules.Outcome.the-variants.{Full, Alternative, State}
 use Rattle.configurations.proofs.PackLaws.{length-packAll}
-use Rattle.words.specs.Layout.{configsAt, startAt, stepAt, fullWord, stateWord}
+use Rattle.words.specs.Layout.{configWords, configsAt, startAt, stepAt, fullWord, stateWord}
 use Rattle.words.specs.Words.{word, startOf, stepOf, keptCount, keptIn, addState, searched}
 use Rattle.words.specs.Words as words
 use Rattle.cache.specs.Recording.{Learned, learned, holds?, find, recordNew, recordOutcome, askStart, askStep}
@@ -30,7 +30,7 @@ told-room (Alternative b) ws x l h = tt
 told-room (State n) ws x l h =
     let e = ap (λ (l : List ℕ). length l) (h .words) ∙ length-packAll (h .configs) in
     let z = h .count in
-    (omega (arith, e, z, length-take (3 * n) ws), omega (arith, e, z, length-take (3 * n) ws))
+    (omega (arith, e, z, length-take (configWords * n) ws), omega (arith, e, z, length-take (configWords * n) ws))
 
 -- a state by its configurations is one by its words
 state-by-words : (i : ℕ) (c : List ℕ) (a : ℕ) (ks : List Config) → recordOutcome (putAt i) c a (state ks) ≡ stateWords i c a (length ks) (packAll ks)
@@ -48,7 +48,7 @@ told-is i c a (Alternative b) ws x h = rw h
 told-is i c a (State n) ws x h = rw (h .is, h .words, ← h .count) (sym (state-by-words i c a (h .configs)))
 
 -- ---- recording by the code's ways out
-pub room-state : (o : told.Outcome) (ws : List ℕ) {n : ℕ} → o ≡ State n → Room o ws → (n ≤ maxKept) × (3 * n ≤ length ws)
+pub room-state : (o : told.Outcome) (ws : List ℕ) {n : ℕ} → o ≡ State n → Room o ws → (n ≤ maxKept) × (configWords * n ≤ length ws)
 unfolding Room
 room-state o ws e h = rw e at h
 
@@ -61,7 +61,7 @@ module _ (i : ℕ) (c : List ℕ) (a : ℕ) (o : told.Outcome) (ws : List ℕ) {
   unfolding outcomeWords
   record-alternative e h = rw e h
 
-  pub record-is : {n : ℕ} → o ≡ State n → x ≡ stateWords i c a n (take (3 * n) ws) → x ≡ outcomeWords i c a o ws
+  pub record-is : {n : ℕ} → o ≡ State n → x ≡ stateWords i c a n (take (configWords * n) ws) → x ≡ outcomeWords i c a o ws
   unfolding outcomeWords
   record-is e h = rw e h
 
@@ -70,14 +70,14 @@ pub kept-few : (c : List ℕ) (s : ℕ) {n : ℕ} → n ≡ keptCount c s → n 
 unfolding keptCount
 kept-few c s e = omega arith
 
-pub part-short : (c : List ℕ) (s at : ℕ) {n : ℕ} → n ≡ keptCount c s → length (take (at + 3 * n - at) (drop at c)) ≤ keptWords
-part-short c s at {n} e = omega (arith, kept-few c s e, length-take (at + 3 * n - at) (drop at c))
+pub part-short : (c : List ℕ) (s at : ℕ) {n : ℕ} → n ≡ keptCount c s → length (take (at + configWords * n - at) (drop at c)) ≤ keptWords
+part-short c s at {n} e = omega (arith, kept-few c s e, length-take (at + configWords * n - at) (drop at c))
 
 pub part-kept : (g : Grammar) (c : List ℕ) (s t : ℕ) (o : told.Outcome) (ws : List ℕ) {at n : ℕ} → at ≡ configsAt s → n ≡ keptCount c s
-    → Tells o ws (stepOutcome g t (unpackAll (take (at + 3 * n - at) (drop at c)))) → Tells o ws (stepOutcome g t (keptIn c s))
+    → Tells o ws (stepOutcome g t (unpackAll (take (at + configWords * n - at) (drop at c)))) → Tells o ws (stepOutcome g t (keptIn c s))
 unfolding keptIn words.keptWords
 part-kept g c s t o ws {at} {n} e f h =
-    let z : at + 3 * n - at ≡ 3 * n = omega arith in
+    let z : at + configWords * n - at ≡ configWords * n = omega arith in
     rw (← e, ← f) (rw z at h)
 
 -- ---- asking

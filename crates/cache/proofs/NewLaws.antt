@@ -14,11 +14,11 @@ use Rattle.lookahead.specs.Outcomes.{Outcome, state}
 use Rattle.configurations.specs.Packing.{packAll, unpackAll}
 use Rattle.lookahead.specs.Rules.{Each}
 use Rattle.configurations.proofs.PackLaws.{unpack-all, length-packAll}
-use Rattle.words.specs.Layout.{fixedWords, slots, heldAt, bytesAt, slotAt, countAt, stepAt, configsAt, stateWord}
+use Rattle.words.specs.Layout.{keptRoom, fixedWords, slots, heldAt, bytesAt, slotAt, countAt, stepAt, configsAt, stateWord}
 use Rattle.words.specs.Words.{word, held, startOf, stepOf, decision, keptWords, keptIn, addState}
 use Rattle.cache.specs.Predictor.{Decides}
 use Rattle.cache.specs.Coherent.{Says, Fits, Slot, Used, size, its-decision, count, kept, Coherent, Extends}
-use Rattle.words.proofs.WordLaws.{keptRoom, kept-same, Added, added}
+use Rattle.words.proofs.WordLaws.{kept-same, Added, added}
 use Rattle.cache.proofs.FitLaws.{Keepable, fits-packable}
 use Rattle.cache.proofs.SuitLaws.{Suits}
 use Rattle.cache.proofs.ExtendLaws.{says-extends}

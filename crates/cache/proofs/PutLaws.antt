@@ -9,10 +9,10 @@ use lib.ListN.{length, set, length-set}
 use lib.Seq.{getD-set-same, getD-set-other}
 use Rattle.grammar.specs.Grammar.{Grammar}
 use Rattle.lookahead.specs.Outcomes.{Outcome}
-use Rattle.words.specs.Layout.{slots, startAt, slotAt, countAt, stepAt, configsAt}
+use Rattle.words.specs.Layout.{keptRoom, slots, startAt, slotAt, countAt, stepAt, configsAt}
 use Rattle.words.specs.Words.{word, held, startOf, stepOf, decision, keptWords}
 use Rattle.cache.specs.Coherent.{Says, Coherent, Extends}
-use Rattle.words.proofs.WordLaws.{keptRoom, kept-same, slot-within}
+use Rattle.words.proofs.WordLaws.{kept-same, slot-within}
 use Rattle.cache.proofs.SuitLaws.{Suits}
 use Rattle.cache.proofs.ExtendLaws.{says-extends}
 use Rattle.cache.proofs.FieldLaws.{Cell, cell-held, cell-fixed, cell-slot, cell-count, cell-configs, Field, of-start, of-step, field-cell, field-extends, field-says, field-used}

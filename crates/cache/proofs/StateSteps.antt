@@ -15,7 +15,7 @@ use Rattle.base.proofs.Booleans.{clash, and-none, true→T}
 use Rattle.base.proofs.Lowest.{lowest-begin, lowest-none, lowest-hit, lowest-next}
 use Rattle.lookahead.specs.Closing.{sameList}
 use Rattle.lookahead.proofs.AddLaws.{same-list}
-use Rattle.words.specs.Layout.{maxSlots, slotWords, slots, slotAt, configsAt, fullWord}
+use Rattle.words.specs.Layout.{configWords, slotHead, stateWord, heldAt, maxSlots, slotWords, slots, slotAt, configsAt, fullWord}
 use Rattle.words.specs.Words.{held, decision, keptCount, keptWords, searched}
 use Rattle.cache.specs.Recording.{Learned, learned}
 use Rattle.cache.specs.ByWords.{holdsWords, findWords, foundIn, addWords, sayWord, newWords, onFound, stateWords}
@@ -24,10 +24,10 @@ use Rattle.cache.specs.declared.recording.Found.the-variants.{Slot, Nowh
 use Rattle.words.proofs.WordLaws.{slot-within}
 
 -- ---- one slot
-kept-long : (c : List ℕ) (s : ℕ) → s < slots (length c) → length (keptWords c s) ≡ 3 * keptCount c s
+kept-long : (c : List ℕ) (s : ℕ) → s < slots (length c) → length (keptWords c s) ≡ configWords * keptCount c s
 unfolding keptWords keptCount
 kept-long c s h =
-    omega (arith, slot-within (length c) s h, length-take (3 * keptCount c s) (drop (configsAt s) c), length-drop (configsAt s) c)
+    omega (arith, slot-within (length c) s h, length-take (configWords * keptCount c s) (drop (configsAt s) c), length-drop (configsAt s) c)
 
 lists-differ : (k l : List ℕ) → (length k ≡ length l → ⊥) → sameList k l ≡ false
 lists-differ k l h = go (sameList k l) refl
@@ -42,13 +42,13 @@ module _ (c : List ℕ) (a : ℕ) (vs : List ℕ) (s : ℕ) {d : ℕ} (e : d ≡
   other-decision h = rw (ne-eqb (decision c s) a (λ z. h (e ∙ z)))
 
   module _ {k n : ℕ} (f : k ≡ keptCount c s) where
-    pub other-count : s < slots (length c) → (k ≡ n → ⊥) → length vs ≡ 3 * n → false ≡ holdsWords c a vs s
+    pub other-count : s < slots (length c) → (k ≡ n → ⊥) → length vs ≡ configWords * n → false ≡ holdsWords c a vs s
     unfolding holdsWords
     other-count l h m =
         let q = lists-differ (keptWords c s) vs (λ z. h (omega (arith, z, kept-long c s l))) in
         rw q (sym (and-none (eqb (decision c s) a)))
 
-    pub same-decision : d ≡ a → k ≡ n → {at : ℕ} {r : Bool} → at ≡ configsAt s → r ≡ sameList (take (3 * n) (drop at c)) vs → r ≡ holdsWords c a vs s
+    pub same-decision : d ≡ a → k ≡ n → {at : ℕ} {r : Bool} → at ≡ configsAt s → r ≡ sameList (take (configWords * n) (drop at c)) vs → r ≡ holdsWords c a vs s
     unfolding holdsWords keptWords
     same-decision h m {at} p q = rw (eq-eqb (decision c s) a (sym e ∙ h), ← f, m, ← p) q
 
@@ -96,21 +96,21 @@ lowest-within p i (suc n) s e = go (p i) e (lowest-within p (suc i) n s)
     go false e rec = let h = rec e in omega arith
 
 -- ---- recording a state
-pub stored-long : (c : List ℕ) (i u v : ℕ) (vs : List ℕ) {c₁ : List ℕ} → c₁ ≡ sets (set (set c i u) (i + 1) v) (i + 128) vs → length c₁ ≡ length c
+pub stored-long : (c : List ℕ) (i u v : ℕ) (vs : List ℕ) {c₁ : List ℕ} → c₁ ≡ sets (set (set c i u) (i + 1) v) (i + slotHead) vs → length c₁ ≡ length c
 stored-long c i u v vs e =
-    ap (λ (l : List ℕ). length l) e ∙ length-sets (set (set c i u) (i + 1) v) (i + 128) vs ∙ length-set (set c i u) (i + 1) v ∙ length-set c i u
+    ap (λ (l : List ℕ). length l) e ∙ length-sets (set (set c i u) (i + 1) v) (i + slotHead) vs ∙ length-set (set c i u) (i + 1) v ∙ length-set c i u
 
 pub slot-below : (l : ℕ) {s n : ℕ} → n ≡ slots l → s < n → (s < maxSlots) × (slotAt s + slotWords ≤ l)
 unfolding slots
 slot-below l {s} {n} e h = let q : s < slots l = omega arith in (omega arith, slot-within l s q)
 
 pub added-is : (c : List ℕ) (a n : ℕ) (vs : List ℕ) {c₁ : List ℕ} {s at u v w : ℕ} → s ≡ held c → at ≡ slotAt s → u ≡ a → v ≡ n → w ≡ s + 1
-    → c₁ ≡ sets (set (set c at u) (at + 1) v) (at + 128) vs → set c₁ 4 w ≡ addWords c a n vs
+    → c₁ ≡ sets (set (set c at u) (at + 1) v) (at + slotHead) vs → set c₁ heldAt w ≡ addWords c a n vs
 unfolding addWords
 added-is c a n vs e f g h k x = rw (x, k, h, g, f, e, add-one (held c), add-one (slotAt (held c)))
 
 module _ (i : ℕ) (c : List ℕ) (a n : ℕ) (vs : List ℕ) where
-  pub new-held : {c₁ : List ℕ} {x : Learned} {s v : ℕ} → s ≡ held c → s < slots (length c) → c₁ ≡ addWords c a n vs → v ≡ 18 + s → x ≡ sayWord i c₁ v
+  pub new-held : {c₁ : List ℕ} {x : Learned} {s v : ℕ} → s ≡ held c → s < slots (length c) → c₁ ≡ addWords c a n vs → v ≡ stateWord s → x ≡ sayWord i c₁ v
       → x ≡ newWords i c a n vs
   unfolding newWords
   new-held e h f g x =
@@ -122,7 +122,7 @@ module _ (i : ℕ) (c : List ℕ) (a n : ℕ) (vs : List ℕ) where
   new-full e h = rw (le-ltb (held c) (slots (length c)) (omega arith))
 
   module _ {f : Found} (e : f ≡ foundIn (findWords c a vs)) where
-    pub state-found : {x : Learned} {s v : ℕ} → f ≡ Slot s → v ≡ 18 + s → x ≡ sayWord i c v → x ≡ stateWords i c a n vs
+    pub state-found : {x : Learned} {s v : ℕ} → f ≡ Slot s → v ≡ stateWord s → x ≡ sayWord i c v → x ≡ stateWords i c a n vs
     unfolding stateWords
     state-found {x} {s} {v} h g y = go (findWords c a vs) (sym e ∙ h)
       where

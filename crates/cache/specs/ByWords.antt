@@ -10,7 +10,7 @@ use Rattle.base.specs.Search.{lowestFrom}
 use Rattle.lookahead.specs.Closing.{sameList, maxKept}
 use Rattle.learning.specs.declared.rules.Outcome.{Outcome}
 use Rattle.learning.specs.declared.rules.Outcome.the-variants.{Full, Alternative, State}
-use Rattle.words.specs.Layout.{slots, heldAt, slotAt, countAt, configsAt, fullWord, stateWord}
+use Rattle.words.specs.Layout.{configWords, slots, heldAt, slotAt, countAt, configsAt, fullWord, stateWord}
 use Rattle.words.specs.Words.{held, searched, decision, keptWords}
 use Rattle.cache.specs.Recording.{Learned, learned}
 use Rattle.cache.specs.declared.recording.Found.{Found}
@@ -61,10 +61,10 @@ unfoldable pub outcomeWords : ℕ → List ℕ → ℕ → Outcome → List ℕ 
 unfolding stateWords
 outcomeWords i c a Full ws = sayWord i c fullWord
 outcomeWords i c a (Alternative b) ws = sayWord i c b
-outcomeWords i c a (State n) ws = stateWords i c a n (take (3 * n) ws)
+outcomeWords i c a (State n) ws = stateWords i c a n (take (configWords * n) ws)
 
 -- a state that was told has no more configurations than may be kept, and its words
 unfoldable pub Room : Outcome → List ℕ → Type 0
 Room Full ws = Unit {0}
 Room (Alternative b) ws = Unit {0}
-Room (State n) ws = (n ≤ maxKept) × (3 * n ≤ length ws)
+Room (State n) ws = (n ≤ maxKept) × (configWords * n ≤ length ws)

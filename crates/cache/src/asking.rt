@@ -1,5 +1,8 @@
 // Outcomes of starts and steps: as recorded, or worked out and recorded. What is recorded costs one word.
 use learning::Outcome;
+use words::layout::CONFIG_WORDS;
+use words::layout::KEPT_WORDS;
+use words::layout::STARTS_AT;
 ghost use mathlib.Core.Path.{_≡_};
 ghost use Prim.Native.Nat.{_≤_, _<_, _^_};
 ghost use lib.ListN.{length};
@@ -17,9 +20,9 @@ fn learn_start(tables: &[u16], cache: &mut [u32], a: usize) -> u32
     requires { ⌜ Ready (now tables) × (a < nonterminalsIn (now tables)) × (minWords ≤ length (now cache)) × (startOf (now cache) a ≡ 0) ⌝ }
     ensures { λ r. ⌜ learned r (now (cache .exit)) ≡ askStart (grammarIn (now (tables .entry))) (now (cache .entry)) a ⌝ }
 {
-    let mut kept = [0u32; 192];
+    let mut kept = [0u32; KEPT_WORDS];
     let outcome = learning::start(tables, a, &mut kept);
-    crate::recording::record_outcome(cache, 32 + a, a, outcome, &kept)
+    crate::recording::record_outcome(cache, STARTS_AT + a, a, outcome, &kept)
 }
 
 // The outcome of the start of decision a.
@@ -41,7 +44,7 @@ fn step_outcome(tables: &[u16], cache: &[u32], s: usize, t: usize, kept: &mut [u
 {
     let from = words::slots::configs_at(s);
     let n = words::slots::kept_count(cache, s);
-    learning::step(tables, t, &cache[from..from + 3 * n], kept)
+    learning::step(tables, t, &cache[from..from + CONFIG_WORDS * n], kept)
 }
 
 // The same, recorded.
@@ -49,7 +52,7 @@ fn learn_step(tables: &[u16], cache: &mut [u32], a: usize, s: usize, t: usize) -
     requires { ⌜ Ready (now tables) × (s < slots (length (now cache))) × (t ≤ maxKinds) × (a < 2 ^ 32) × (stepOf (now cache) s t ≡ 0) ⌝ }
     ensures { λ r. ⌜ learned r (now (cache .exit)) ≡ askStep (grammarIn (now (tables .entry))) (now (cache .entry)) a s t ⌝ }
 {
-    let mut kept = [0u32; 192];
+    let mut kept = [0u32; KEPT_WORDS];
     let outcome = step_outcome(tables, cache, s, t, &mut kept);
     crate::recording::record_outcome(cache, words::slots::step_at(s, t), a, outcome, &kept)
 }

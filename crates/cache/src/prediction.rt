@@ -1,14 +1,13 @@
 // Predictions: from the start of a decision over the tokens that are left, as long as there is a state to step from. The words that record outcomes are
 // known here and below, and to nobody above.
+use words::layout::FULL;
+use words::layout::STATES;
 ghost use mathlib.Core.Path.{_≡_};
 ghost use lib.ListN.{drop};
 ghost use Rattle.grammar.specs.Tables.{grammarIn};
 ghost use Rattle.derivation.specs.Runs.{marked};
 ghost use Rattle.cache.specs.Predictor.{predicted};
 ghost use Rattle.cache.specs.Predict.{predict, Predictable};
-
-// The word for FULL.
-const FULL: u32 = 17;
 
 // One of the nonterminal's alternatives, or FULL: lookahead does not tell.
 pub enum Forecast {
@@ -32,7 +31,7 @@ pub fn predict(tables: &[u16], note: &[u16], cache: &mut [u32], a: usize, i: usi
     let mut said = crate::asking::ask_start(tables, cache, a);
     let mut j = i;
     while FULL < said {
-        let s = base::number(said) - 18;
+        let s = base::number(said) - STATES;
         if slots <= s {
             return Prediction {
                 forecast: Forecast::Full,

@@ -1,10 +1,16 @@
 // States and outcomes are looked up, and recorded.
 use learning::Outcome;
+use words::layout::CONFIG_WORDS;
+use words::layout::COUNT_AT;
+use words::layout::FULL;
+use words::layout::HELD_AT;
+use words::layout::SLOT_HEAD;
+use words::layout::STATES;
 ghost use mathlib.Core.Path.{_≡_};
 ghost use Prim.Native.Nat.{_+_, _*_, _≤_, _<_, _^_};
 ghost use lib.ListN.{length, take};
 ghost use Rattle.lookahead.specs.Closing.{maxKept};
-ghost use Rattle.words.specs.Layout.{minWords, maxSlots, slotWords, slots, slotAt};
+ghost use Rattle.words.specs.Layout.{minWords, configWords, maxSlots, slotWords, slots, slotAt};
 ghost use Rattle.words.specs.Words.{held};
 ghost use Rattle.cache.specs.Recording.{learned};
 ghost use Rattle.cache.specs.ByWords.{holdsWords, findWords, foundIn, addWords, sayWord, newWords, stateWords, Room, outcomeWords};
@@ -17,8 +23,8 @@ pub enum Found {
 
 // Whether slot s holds the n configurations of ws for decision a.
 fn holds(cache: &[u32], a: usize, ws: &[u32], n: usize, s: usize) -> bool
-    requires { ⌜ (s < slots (length (now cache))) × (n ≤ maxKept) × (3 * n ≤ length (now ws)) ⌝ }
-    ensures { λ r. ⌜ r ≡ holdsWords (now (cache .entry)) a (take (3 * n) (now (ws .entry))) s ⌝ }
+    requires { ⌜ (s < slots (length (now cache))) × (n ≤ maxKept) × (configWords * n ≤ length (now ws)) ⌝ }
+    ensures { λ r. ⌜ r ≡ holdsWords (now (cache .entry)) a (take (configWords * n) (now (ws .entry))) s ⌝ }
 {
     if words::slots::decision(cache, s) != a {
         return false;
@@ -26,13 +32,13 @@ fn holds(cache: &[u32], a: usize, ws: &[u32], n: usize, s: usize) -> bool
     if words::slots::kept_count(cache, s) != n {
         return false;
     }
-    words::slots::same_words(cache, words::slots::configs_at(s), ws, 3 * n)
+    words::slots::same_words(cache, words::slots::configs_at(s), ws, CONFIG_WORDS * n)
 }
 
 // The slot that holds them, among those that hold states. `left` counts those not yet looked at.
 fn find(cache: &[u32], a: usize, ws: &[u32], n: usize) -> Found
-    requires { ⌜ (minWords ≤ length (now cache)) × (n ≤ maxKept) × (3 * n ≤ length (now ws)) ⌝ }
-    ensures { λ r. ⌜ r ≡ foundIn (findWords (now (cache .entry)) a (take (3 * n) (now (ws .entry)))) ⌝ }
+    requires { ⌜ (minWords ≤ length (now cache)) × (n ≤ maxKept) × (configWords * n ≤ length (now ws)) ⌝ }
+    ensures { λ r. ⌜ r ≡ foundIn (findWords (now (cache .entry)) a (take (configWords * n) (now (ws .entry)))) ⌝ }
 {
     let count = words::slots::searched(cache);
     let mut left = count;
@@ -48,14 +54,14 @@ fn find(cache: &[u32], a: usize, ws: &[u32], n: usize) -> Found
 
 // Stores a state of n configurations in slot s, the next one.
 fn add_state(cache: &mut [u32], s: usize, a: usize, ws: &[u32], n: usize)
-    requires { ⌜ (s ≡ held (now cache)) × (s < maxSlots) × (slotAt s + slotWords ≤ length (now cache)) × (a < 2 ^ 32) × (n ≤ maxKept) × (3 * n ≤ length (now ws)) ⌝ }
-    ensures { λ _. ⌜ now (cache .exit) ≡ addWords (now (cache .entry)) a n (take (3 * n) (now (ws .entry))) ⌝ }
+    requires { ⌜ (s ≡ held (now cache)) × (s < maxSlots) × (slotAt s + slotWords ≤ length (now cache)) × (a < 2 ^ 32) × (n ≤ maxKept) × (configWords * n ≤ length (now ws)) ⌝ }
+    ensures { λ _. ⌜ now (cache .exit) ≡ addWords (now (cache .entry)) a n (take (configWords * n) (now (ws .entry))) ⌝ }
 {
     let at = words::slots::slot_at(s);
     cache[at] = base::word(a);
-    cache[at + 1] = base::word(n);
-    words::slots::store_words(cache, at + 128, ws, 3 * n);
-    cache[4] = base::word(s + 1);
+    cache[at + COUNT_AT] = base::word(n);
+    words::slots::store_words(cache, at + SLOT_HEAD, ws, CONFIG_WORDS * n);
+    cache[HELD_AT] = base::word(s + 1);
 }
 
 // Records an outcome in word i.
@@ -69,25 +75,25 @@ fn say(cache: &mut [u32], i: usize, w: u32) -> u32
 
 // A state that no slot holds takes the next one; with no slot free nothing is recorded, and the outcome counts as FULL.
 fn new_state(cache: &mut [u32], i: usize, a: usize, ws: &[u32], n: usize) -> u32
-    requires { ⌜ (minWords ≤ length (now cache)) × (i < length (now cache)) × (a < 2 ^ 32) × (n ≤ maxKept) × (3 * n ≤ length (now ws)) ⌝ }
-    ensures { λ r. ⌜ learned r (now (cache .exit)) ≡ newWords i (now (cache .entry)) a n (take (3 * n) (now (ws .entry))) ⌝ }
+    requires { ⌜ (minWords ≤ length (now cache)) × (i < length (now cache)) × (a < 2 ^ 32) × (n ≤ maxKept) × (configWords * n ≤ length (now ws)) ⌝ }
+    ensures { λ r. ⌜ learned r (now (cache .exit)) ≡ newWords i (now (cache .entry)) a n (take (configWords * n) (now (ws .entry))) ⌝ }
 {
     let s = words::slots::held(cache);
     if s < words::slots::slots(cache.len()) {
         add_state(cache, s, a, ws, n);
-        return say(cache, i, base::word(18 + s));
+        return say(cache, i, base::word(STATES + s));
     }
-    17
+    FULL
 }
 
 // A state of n configurations.
 fn record_state(cache: &mut [u32], i: usize, a: usize, ws: &[u32], n: usize) -> u32
-    requires { ⌜ (minWords ≤ length (now cache)) × (i < length (now cache)) × (a < 2 ^ 32) × (n ≤ maxKept) × (3 * n ≤ length (now ws)) ⌝ }
-    ensures { λ r. ⌜ learned r (now (cache .exit)) ≡ stateWords i (now (cache .entry)) a n (take (3 * n) (now (ws .entry))) ⌝ }
+    requires { ⌜ (minWords ≤ length (now cache)) × (i < length (now cache)) × (a < 2 ^ 32) × (n ≤ maxKept) × (configWords * n ≤ length (now ws)) ⌝ }
+    ensures { λ r. ⌜ learned r (now (cache .exit)) ≡ stateWords i (now (cache .entry)) a n (take (configWords * n) (now (ws .entry))) ⌝ }
 {
     let found = find(cache, a, ws, n);
     match found {
-        Found::Slot(s) => say(cache, i, base::word(18 + s)),
+        Found::Slot(s) => say(cache, i, base::word(STATES + s)),
         Found::Nowhere => new_state(cache, i, a, ws, n),
     }
 }
@@ -98,7 +104,7 @@ pub fn record_outcome(cache: &mut [u32], i: usize, a: usize, outcome: Outcome, k
     ensures { λ r. ⌜ learned r (now (cache .exit)) ≡ outcomeWords i (now (cache .entry)) a outcome (now (kept .entry)) ⌝ }
 {
     match outcome {
-        Outcome::Full => say(cache, i, 17),
+        Outcome::Full => say(cache, i, FULL),
         Outcome::Alternative(b) => say(cache, i, b),
         Outcome::State(n) => record_state(cache, i, a, kept, n),
     }

@@ -21,35 +21,37 @@ use Rattle.derivation.specs.Runs.{Der}
 use Rattle.derivation.specs.Cells.{derives?}
 use Rattle.derivation.proofs.CellLaws.{derives-sound, derives-complete}
 use Rattle.derivation.proofs.RunLaws.{der-le, der-in}
-use Rattle.chart.specs.Chart.{cellHas, ChartedFrom}
-use Rattle.chart.specs.Ends.{endHas, endsAt, throughOf, leadBy, RightEnds}
-use Rattle.chart.specs.Row.{Row, EndIs, Behind, Derived}
-use Rattle.chart.proofs.LeadLaws.{through-in, through-out}
-use Rattle.chart.proofs.InRange.{row-short, row-call}
-use Rattle.chart.proofs.Spots.{sized}
+use Rattle.cells.specs.Chart.{ChartedFrom}
+use Rattle.cells.specs.Through.{throughOf}
+use Rattle.cells.proofs.ThroughLaws.{through-in, through-out}
+use Rattle.ends.specs.Ends.{endHas, endsAt, leadBy, RightEnds}
+use Rattle.ends.specs.Row.{Row, Ended, cellsIn}
+use Rattle.ends.proofs.InRange.{row-short, row-call}
+use Rattle.chart.specs.Derived.{EndIs, Behind, Derived}
 
 end-only : {g : Grammar} {w : List ℕ} {q m j : ℕ} {r : List ℕ} → Der g w q m j r → facing g q ≡ End → m ≡ j
 end-only (Der.finish e l) f = refl
 end-only (Der.match e d a x) f = clash (cc)
 end-only (Der.expand e d x y) f = clash (cc)
 
-module _ {t w : List ℕ} {P i : ℕ} {ws : List ℕ} (row : Row t w P i ws) (ends : List ℕ) (right : RightEnds t w i ends) (p b : ℕ) (h : p < P)
-    (e : facing (grammarIn t) p ≡ Nonterminal b) (f : facing (grammarIn t) (suc p) ≡ End) (behind : Behind t w P ws i p) where
-  next : suc p < P
+module _ {t w : List ℕ} {i : ℕ} {ws : List ℕ} (row : Row t w i ws) (ends : List ℕ) (right : RightEnds t w i ends) (p b : ℕ)
+    (h : p < grammarIn t .size)
+    (e : facing (grammarIn t) p ≡ Nonterminal b) (f : facing (grammarIn t) (suc p) ≡ End) (behind : Behind t w ws i p) where
+  next : suc p < grammarIn t .size
   next = omega (arith, row-call row p h e)
 
   -- the cells of the place behind it
-  cell-at : (m j : ℕ) → i ≤ m → m ≤ length w → j < positionCount → cellHas P ws (suc p) m j ≡ derives? (grammarIn t) w (suc p) m j
+  cell-at : (m j : ℕ) → i ≤ m → m ≤ length w → j < positionCount → cellsIn t ws (suc p) m j ≡ derives? (grammarIn t) w (suc p) m j
   unfolding ChartedFrom Behind
   cell-at m j a c l = elim (decLt i m) [
-    | yes k ↦ sym (sized (row .size) ws (suc p) m j) ∙ row .later (suc p) m j (omega (arith, row .size, next)) k c l
+    | yes k ↦ row .later (suc p) m j next k c l
     | no k ↦ (let z : i ≡ m = omega arith in rw (← z) (behind next j l))
   ]
 
-  cell-only : (m j : ℕ) → i ≤ m → m ≤ length w → j < positionCount → T (cellHas P ws (suc p) m j) → m ≡ j
+  cell-only : (m j : ℕ) → i ≤ m → m ≤ length w → j < positionCount → T (cellsIn t ws (suc p) m j) → m ≡ j
   cell-only m j a c l u = end-only (derives-sound (grammarIn t) w (rw (cell-at m j a c l) at u) .1) f
 
-  cell-own : (m : ℕ) → i ≤ m → m ≤ length w → T (cellHas P ws (suc p) m m)
+  cell-own : (m : ℕ) → i ≤ m → m ≤ length w → T (cellsIn t ws (suc p) m m)
   cell-own m a c = rw (cell-at m m a c (omega (arith, row-short row))) (derives-complete (grammarIn t) w (Der.finish f c))
 
   -- where the nonterminal ends is ahead, within the note
@@ -61,41 +63,46 @@ module _ {t w : List ℕ} {P i : ℕ} {ws : List ℕ} (row : Row t w P i ws) (en
       let d = derives-sound (grammarIn t) w x .1 in
       (der-le d, der-in d)
 
-  pub derived-last : {s : List ℕ} → s ≡ setAt ends (setWords * b) → Derived t w P ws i ends p s
+  pub derived-last : {s : List ℕ} → s ≡ setAt ends (setWords * b) → Derived t w ws i ends p s
   unfolding Derived leadBy endHas
   derived-last {s} c j l =
       (ap (λ (s : List ℕ). member s j) c ∙ member-set ends (setWords * b) j l)
-      ∙ (same (endHas ends b j) onward to back ∙ ap (λ x. leadBy (grammarIn t) w (endHas ends) (cellHas P ws) i j p x (cellHas P ws (suc p) i j)) (sym e))
+      ∙ (same (endHas ends b j) onward to back ∙ ap (λ x. leadBy (grammarIn t) w (endHas ends) (cellsIn t ws) i j p x (cellsIn t ws (suc p) i j)) (sym e))
     where
       onward : Bool
-      onward = throughOf (endHas ends b) (cellHas P ws) (suc p) j (suc i) (length w) || (endHas ends b i && cellHas P ws (suc p) i j)
+      onward = throughOf (endHas ends b) (cellsIn t ws) (suc p) j (suc i) (length w) || (endHas ends b i && cellsIn t ws (suc p) i j)
 
       to : T (endHas ends b j) → T onward
       to u =
           let r = end-range j l u in
           let own = cell-own j (r .0) (r .1) in
           elim (decLt i j) [
-            | yes k ↦ T-or-l (throughOf (endHas ends b) (cellHas P ws) (suc p) j (suc i) (length w)) (endHas ends b i && cellHas P ws (suc p) i j) (through-in (endHas ends b) (cellHas P ws) (suc p) j (suc i) (length w) j k (r .1) u own)
+            | yes k ↦ T-or-l (throughOf (endHas ends b) (cellsIn t ws) (suc p) j (suc i) (length w)) (endHas ends b i && cellsIn t ws (suc p) i j)
+                (through-in (endHas ends b) (cellsIn t ws) (suc p) j (suc i) (length w) j k (r .1) u own)
             | no k ↦ (
                 let z : j ≡ i = omega arith in
-                T-or-r (throughOf (endHas ends b) (cellHas P ws) (suc p) j (suc i) (length w)) (endHas ends b i && cellHas P ws (suc p) i j)
-                (T-and (endHas ends b i) (cellHas P ws (suc p) i j) (subst (λ (m : ℕ). T (endHas ends b m)) z u) (subst (λ (m : ℕ). T (cellHas P ws (suc p) m j)) z own)))
+                T-or-r (throughOf (endHas ends b) (cellsIn t ws) (suc p) j (suc i) (length w)) (endHas ends b i && cellsIn t ws (suc p) i j)
+                (T-and (endHas ends b i) (cellsIn t ws (suc p) i j) (subst (λ (m : ℕ). T (endHas ends b m)) z u)
+                (subst (λ (m : ℕ). T (cellsIn t ws (suc p) m j)) z own)))
           ]
 
       back : T onward → T (endHas ends b j)
-      back u = ⊎-elim later here (or-T (throughOf (endHas ends b) (cellHas P ws) (suc p) j (suc i) (length w)) (endHas ends b i && cellHas P ws (suc p) i j) u)
+      back u = ⊎-elim later here (or-T (throughOf (endHas ends b) (cellsIn t ws) (suc p) j (suc i) (length w)) (endHas ends b i && cellsIn t ws (suc p) i j)
+          u)
         where
-          later : T (throughOf (endHas ends b) (cellHas P ws) (suc p) j (suc i) (length w)) → T (endHas ends b j)
+          later : T (throughOf (endHas ends b) (cellsIn t ws) (suc p) j (suc i) (length w)) → T (endHas ends b j)
           later v =
-              let (m, a, d, x, y) = through-out (endHas ends b) (cellHas P ws) (suc p) j (suc i) (length w) v in
+              let (m, a, d, x, y) = through-out (endHas ends b) (cellsIn t ws) (suc p) j (suc i) (length w) v in
               rw (← cell-only m j (omega arith) d l y) x
 
-          here : T (endHas ends b i && cellHas P ws (suc p) i j) → T (endHas ends b j)
+          here : T (endHas ends b i && cellsIn t ws (suc p) i j) → T (endHas ends b j)
           here v =
-              let z = and-T (endHas ends b i) (cellHas P ws (suc p) i j) v in
+              let z = and-T (endHas ends b i) (cellsIn t ws (suc p) i j) v in
               rw (← cell-only i j (omega arith) (row .here) l (z .1)) (z .0)
 
 -- as the code has it
-pub derived-behind : {t w : List ℕ} {P i : ℕ} {ws : List ℕ} → Row t w P i ws → (ends : List ℕ) → RightEnds t w i ends → (p b : ℕ) → p < P → facing (grammarIn t) p ≡ Nonterminal b
-    → Behind t w P ws i p → {r : Bool} → EndIs t (p + 1) r → r ≡ true → {s : List ℕ} → s ≡ setAt ends (setWords * b) → Derived t w P ws i ends p s
-derived-behind {t} row ends right p b h e behind x y = derived-last row ends right p b h e (rw add-one at (x y)) behind
+pub derived-behind : {t w : List ℕ} {i : ℕ} {ws ends : List ℕ} → Ended t w i ws ends → (p b : ℕ) → p < grammarIn t .size
+    → facing (grammarIn t) p ≡ Nonterminal b
+    → Behind t w ws i p → {r : Bool} → EndIs t (p + 1) r → r ≡ true → {s : List ℕ} → s ≡ setAt ends (setWords * b)
+    → Derived t w ws i ends p s
+derived-behind {ends = ends} x p b h e behind y z = derived-last (x .row) ends (x .right) p b h e (rw add-one at (y z)) behind

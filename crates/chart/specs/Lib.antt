@@ -1,5 +1,2 @@
--- The derivation cells, and what the passes at one position work out.
-pub mod Chart
-pub mod Ends
-pub mod Row
-pub mod Order
+-- What the functions on the cells of one position give.
+pub mod Derived

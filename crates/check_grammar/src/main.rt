@@ -2,7 +2,8 @@
 use libc::STDIN_FILENO;
 use libc::STDOUT_FILENO;
 
-// A grammar is complete, or refused, within its first 1,632 bytes: at most 544 numbers of three bytes. So 4,096 bytes decide about any input.
+// A grammar is complete, or refused, within the bytes of the buffer: a number has at most three, and there are the two counts at the head, a count of
+// productions for each nonterminal, and a number for each place and one more that breaks the limit.
 fn main() {
     let mut buffer = io::buffer();
     let n = io::read_full(STDIN_FILENO, &mut buffer);

@@ -39,7 +39,8 @@ module _ (t : List ℕ) (tokens : Bool) (x first p : ℕ)
   pub pass-past : placeWords ≤ p → true ≡ passes tokens (testBit x) (suffix (grammarIn t) first)
   pass-past h = here (facing-past t p h)
 
-  pub pass-token-stops : {k : ℕ} → facing (grammarIn t) p ≡ Token k → not tokens ≡ true → false ≡ passes tokens (testBit x) (suffix (grammarIn t) first)
+  pub pass-token-stops : {k : ℕ} → facing (grammarIn t) p ≡ Token k → not tokens ≡ true → false
+      ≡ passes tokens (testBit x) (suffix (grammarIn t) first)
   pass-token-stops e n = ap (λ (b : Bool). b && passes tokens (testBit x) (suffix (grammarIn t) (p + 1))) (sym (not-true tokens n)) ∙ here e
 
   pub pass-token : {k : ℕ} → facing (grammarIn t) p ≡ Token k → not tokens ≡ false
@@ -98,7 +99,8 @@ module _ (tokens : Bool) (g : Grammar) (a x : ℕ) {b : Bool} (e : b ≡ testBit
     step-stays l = rw (sym e ∙ h, sym f ∙ l)
 
 -- ---- a pass, from the last nonterminal to the first
-pub pass-more : (tokens : Bool) (g : Grammar) (a x : ℕ) {y r : ℕ} → 0 < a → passOf tokens g a x ≡ y → r ≡ stepOf tokens g (a - 1) x → passOf tokens g (a - 1) r ≡ y
+pub pass-more : (tokens : Bool) (g : Grammar) (a x : ℕ) {y r : ℕ} → 0 < a → passOf tokens g a x ≡ y → r ≡ stepOf tokens g (a - 1) x
+    → passOf tokens g (a - 1) r ≡ y
 unfolding passOf
 pass-more tokens g zero x h i e = absurd (omega arith)
 pass-more tokens g (suc a) x h i e = let q : suc a - 1 ≡ a = omega arith in rw (e, q) i
@@ -127,9 +129,11 @@ module _ (tokens : Bool) (g : Grammar) where
   unfolding stepOf Derivers
   step-derives a x s = go (testBit x a) (derivingRound tokens g (testBit x) a) refl
     where
-      go : (b d : Bool) → derivingRound tokens g (testBit x) a ≡ d → (c : ℕ) → T (testBit (cond b x (cond d (setBit x a) x)) c) → T (deriving? tokens g c)
+      go : (b d : Bool) → derivingRound tokens g (testBit x) a ≡ d → (c : ℕ) → T (testBit (cond b x (cond d (setBit x a) x)) c)
+          → T (deriving? tokens g c)
       go true d e = s
-      go false true e = λ c t. elim (or-T (testBit x c) (eqb c a) (rw test-set at t)) [ inl m ↦ s c m | inr m ↦ rw (eqb→eq c a m) (round-within tokens g (testBit x) s a (true→T (derivingRound tokens g (testBit x) a) e)) ]
+      go false true e = λ c t. elim (or-T (testBit x c) (eqb c a) (rw test-set at t))
+          [ inl m ↦ s c m | inr m ↦ rw (eqb→eq c a m) (round-within tokens g (testBit x) s a (true→T (derivingRound tokens g (testBit x) a) e)) ]
       go false false e = s
 
   pass-derives : (n x : ℕ) → Derivers tokens g x → Derivers tokens g (passOf tokens g n x)

@@ -161,7 +161,8 @@ module _ (tokens : Bool) (g : Grammar) where
   pub round-within : (X : ℕ → Bool) → Within X (deriving? tokens g) → Within (derivingRound tokens g X) (deriving? tokens g)
   round-within X h a t = closed a (round-mono X (deriving? tokens g) h a t)
 
-  pub deriving-exact : (X : ℕ → Bool) → Within X (deriving? tokens g) → ((a : ℕ) → a < length (g .starts) → T (derivingRound tokens g X a) → T (X a))
+  pub deriving-exact : (X : ℕ → Bool) → Within X (deriving? tokens g)
+      → ((a : ℕ) → a < length (g .starts) → T (derivingRound tokens g X a) → T (X a))
       → (a : ℕ) → X a ≡ deriving? tokens g a
   unfolding deriving?
   deriving-exact X sound below a =

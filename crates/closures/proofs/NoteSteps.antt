@@ -38,7 +38,8 @@ module _ (t : List ℕ) (tokens : Bool) (first need p : ℕ) (i : Asks t tokens 
   abbrev Whole : Symbol → Type 0
   Whole s =
       (x a : ℕ) → a < maxNonterminals → testBit x a ≡ false
-      → (isSubset need x && passesBy tokens (testBit x) s (passes tokens (testBit x) (suffix (grammarIn t) (p + 1)))) ≡ passes tokens (testBit x) (suffix (grammarIn t) first)
+      → (isSubset need x && passesBy tokens (testBit x) s (passes tokens (testBit x) (suffix (grammarIn t) (p + 1))))
+      ≡ passes tokens (testBit x) (suffix (grammarIn t) first)
 
   here : {s : Symbol} → facing (grammarIn t) p ≡ s → Whole s
   here e x a l h = rw (add-one, ← e) (ap (λ (b : Bool). isSubset need x && b) (sym (passes-place tokens (testBit x) (grammarIn t) p)) ∙ i x a l h)
@@ -50,13 +51,16 @@ module _ (t : List ℕ) (tokens : Bool) (first need p : ℕ) (i : Asks t tokens 
   pub need-past : placeWords ≤ p → NeedIs tokens (suffix (grammarIn t) first) need
   need-past h = need-end (facing-past t p h)
 
-  pub need-never : {k : ℕ} → facing (grammarIn t) p ≡ Token k → not tokens ≡ true → NeedIs tokens (suffix (grammarIn t) first) (2 ^ maxNonterminals - 1)
+  pub need-never : {k : ℕ} → facing (grammarIn t) p ≡ Token k → not tokens ≡ true
+      → NeedIs tokens (suffix (grammarIn t) first) (2 ^ maxNonterminals - 1)
   unfolding NeedIs
   need-never e n x a l h =
       let rest : Bool = passes tokens (testBit x) (suffix (grammarIn t) (p + 1)) in
-      let q : (isSubset need x && (tokens && rest)) ≡ false = ap (λ (b : Bool). isSubset need x && (b && rest)) (not-true tokens n) ∙ and-none (isSubset need x) in
+      let q : (isSubset need x && (tokens && rest)) ≡ false = ap (λ (b : Bool). isSubset need x && (b && rest)) (not-true tokens n)
+      ∙ and-none (isSubset need x) in
       same (isSubset (2 ^ maxNonterminals - 1) x) false
-      (λ s. rw h at (subset-iff (2 ^ maxNonterminals - 1) x .0 s a (true→T (testBit (2 ^ maxNonterminals - 1) a) (test-below maxNonterminals a l)))) (λ s. absurd s)
+      (λ s. rw h at (subset-iff (2 ^ maxNonterminals - 1) x .0 s a (true→T (testBit (2 ^ maxNonterminals - 1) a) (test-below maxNonterminals a l))))
+      (λ s. absurd s)
       ∙ sym q ∙ here e x a l h
 
   pub need-token : {k : ℕ} → facing (grammarIn t) p ≡ Token k → not tokens ≡ false → Asks t tokens first need (p + 1)
@@ -99,14 +103,19 @@ module _ (tokens : Bool) (t : List ℕ) (from count : ℕ) where
         → Noted tokens t from more (a + 1) 0 needs owners
     noted-next more l last = record {
       right = h .right;
-      below = λ b j m q o. elim (decLt b a) [ yes y ↦ (let r = h .below b j y q o in let r₀ = r .0 in (omega arith, r .1)) | no y ↦ (let z : b ≡ a = omega (arith, add-one a) in rw z (last j (rw z at q) (rw z at o))) ];
+      below = λ b j m q o. elim (decLt b a) [
+        | yes y ↦ (let r = h .below b j y q o in let r₀ = r .0 in (omega arith, r .1))
+        | no y ↦
+            (let z : b ≡ a = omega (arith, add-one a) in rw z (last j (rw z at q) (rw z at o)))
+      ];
       own = λ j m o. absurd (omega arith);
     }
 
     pub noted-skip : {b : Bool} → b ≡ testBit from a → b ≡ true → Noted tokens t from count (a + 1) 0 needs owners
     noted-skip e z = noted-next count (omega arith) (λ j q o. let y : true ≡ false = sym z ∙ e ∙ q in clash (cc))
 
-    pub noted-done : (more : ℕ) → count ≤ more → ruleAt t (a + 1) ≤ firstsAt + more → ruleAt t (a + 1) ≤ firstsAt + k → Noted tokens t from more (a + 1) 0 needs owners
+    pub noted-done : (more : ℕ) → count ≤ more → ruleAt t (a + 1) ≤ firstsAt + more → ruleAt t (a + 1) ≤ firstsAt + k
+        → Noted tokens t from more (a + 1) 0 needs owners
     noted-done more l m e =
         let m′ : ruleAt t (suc a) ≤ firstsAt + more = rw add-one at m in
         let e′ : ruleAt t (suc a) ≤ firstsAt + k = rw add-one at e in

@@ -24,7 +24,8 @@ use Rattle.closures.proofs.Deriving.{round-within, deriving-exact}
 use Rattle.closures.proofs.NoteSteps.{rule-from}
 
 -- ---- a round, production by production
-pub round-more : (needs owners : List ℕ) (x k : ℕ) {y r : ℕ} → y ≡ roundOf needs owners x k → r ≡ cond (isSubset (getD needs k 0) x) (getD owners k 0) 0
+pub round-more : (needs owners : List ℕ) (x k : ℕ) {y r : ℕ} → y ≡ roundOf needs owners x k → r
+    ≡ cond (isSubset (getD needs k 0) x) (getD owners k 0) 0
     → bitOr y r ≡ roundOf needs owners x (k + 1)
 unfolding roundOf
 round-more needs owners x k i e = rw (add-one, ← i, ← e)
@@ -77,7 +78,8 @@ module _ (needs owners : List ℕ) (x a : ℕ) where
           let v′ : T (testBit (getD owners k 0) a) = rw e at v in
           rw (T→true (isSubset (getD needs k 0) x) u′) v′
 
-      go : (j ≡ k) ⊎ (j ≡ k → ⊥) → (j < k → T (isSubset (getD needs j 0) x) → T (testBit (getD owners j 0) a) → T (testBit (roundOf needs owners x k) a))
+      go : (j ≡ k) ⊎ (j ≡ k → ⊥) → (j < k → T (isSubset (getD needs j 0) x) → T (testBit (getD owners j 0) a)
+          → T (testBit (roundOf needs owners x k) a))
           → T (testBit (bitOr before own) a)
       go (inl e) rec = rw test-or (T-or-r (testBit before a) (testBit own a) (here e))
       go (inr e) rec = rw test-or (T-or-l (testBit before a) (testBit own a) (rec (omega arith) u v))
@@ -92,12 +94,15 @@ pub round-grows : (needs owners : List ℕ) (x k : ℕ) {r : ℕ} → r ≡ roun
 round-grows needs owners x k e = rw e (round-ge needs owners x k)
 
 -- ---- rounds come to the set
-pub round-holds : (needs owners : List ℕ) (from x k : ℕ) {r : ℕ} → r ≡ roundOf needs owners x k → Within (testBit from) (testBit x) → Within (testBit from) (testBit r)
+pub round-holds : (needs owners : List ℕ) (from x k : ℕ) {r : ℕ} → r ≡ roundOf needs owners x k → Within (testBit from) (testBit x)
+    → Within (testBit from) (testBit r)
 round-holds needs owners from x k e h a t = rw e (round-held needs owners x a k (h a t))
 
-module _ (tokens : Bool) (t : List ℕ) (f : Fits t) (from count : ℕ) (needs owners : List ℕ) (h : Noted tokens t from count (nonterminalsIn t) 0 needs owners) where
+module _ (tokens : Bool) (t : List ℕ) (f : Fits t) (from count : ℕ) (needs owners : List ℕ)
+    (h : Noted tokens t from count (nonterminalsIn t) 0 needs owners) where
   -- a production of a that passes, as the rows have it
-  passes-in : (x a : ℕ) → a < nonterminalsIn t → (j : ℕ) → Owns t a j → T (passes tokens (testBit x) (suffix (grammarIn t) (getD t (firstsAt + j) 0)))
+  passes-in : (x a : ℕ) → a < nonterminalsIn t → (j : ℕ) → Owns t a j
+      → T (passes tokens (testBit x) (suffix (grammarIn t) (getD t (firstsAt + j) 0)))
       → T (derivingRound tokens (grammarIn t) (testBit x) a)
   unfolding derivingRound
   passes-in x a l j o s =
@@ -112,7 +117,8 @@ module _ (tokens : Bool) (t : List ℕ) (f : Fits t) (from count : ℕ) (needs o
   unfolding Derivers NeedIs
   round-keeps x k e s a u = go (round-way needs owners x a k (rw e at u))
     where
-      new : (j : ℕ) → T (isSubset (getD needs j 0) x) → T (testBit (getD owners j 0) a) → (b : Bool) → testBit x a ≡ b → T (deriving? tokens (grammarIn t) a)
+      new : (j : ℕ) → T (isSubset (getD needs j 0) x) → T (testBit (getD owners j 0) a) → (b : Bool) → testBit x a ≡ b
+          → T (deriving? tokens (grammarIn t) a)
       new j v w true q = s a (true→T (testBit x a) q)
       new j v w false q =
           let (l, o, n) = h .right a j w in
@@ -137,9 +143,11 @@ module _ (tokens : Bool) (t : List ℕ) (f : Fits t) (from count : ℕ) (needs o
     round-closed : (a : ℕ) → a < nonterminalsIn t → T (derivingRound tokens (grammarIn t) (testBit x) a) → T (testBit x a)
     unfolding derivingRound
     round-closed a l u =
-        go (testBit x a) refl (anyOf-T (λ p. passes tokens (testBit x) (suffix (grammarIn t) p)) (slice (ruleAt t a) (ruleAt t (suc a)) t) (rw (alternatives-in t a l) at u))
+        go (testBit x a) refl (anyOf-T (λ p. passes tokens (testBit x) (suffix (grammarIn t) p)) (slice (ruleAt t a) (ruleAt t (suc a)) t)
+        (rw (alternatives-in t a l) at u))
       where
-        go : (b : Bool) → testBit x a ≡ b → Found (λ p. passes tokens (testBit x) (suffix (grammarIn t) p)) (slice (ruleAt t a) (ruleAt t (suc a)) t) → T (testBit x a)
+        go : (b : Bool) → testBit x a ≡ b → Found (λ p. passes tokens (testBit x) (suffix (grammarIn t) p)) (slice (ruleAt t a) (ruleAt t (suc a)) t)
+            → T (testBit x a)
         go true q w = true→T (testBit x a) q
         go false q (m, p, z, v) =
             let (y, y′) = slice-from t (ruleAt t (suc a)) m (ruleAt t a) p (omega (arith, f .within a l, f .long)) z in

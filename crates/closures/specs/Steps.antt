@@ -2,15 +2,15 @@
 use mathlib.Core.Path.{_≡_}
 use mathlib.Core.Bool.{Bool, false, cond}
 use mathlib.Core.List.{List}
-use Prim.Native.Nat.{ℕ, zero, suc, _+_, _≤_, _<_}
-use lib.ListN.{getD}
+use Prim.Native.Nat.{ℕ, zero, suc, _+_, _-_, _≤_, _<_}
+use lib.ListN.{length, getD, replicate}
 use lib.Bits.{bitOr}
 use lib.Dec.{T}
 use Rattle.base.specs.Bits.{testBit, setBit, isSubset}
 use Rattle.grammar.specs.declared.Symbol.{Symbol}
 use Rattle.grammar.specs.Grammar.{Grammar, suffix}
 use Rattle.grammar.specs.Limits.{maxNonterminals}
-use Rattle.grammar.specs.Tables.{firstsAt, grammarIn, nonterminalsIn, ruleAt}
+use Rattle.grammar.specs.Tables.{firstsAt, tableWords, grammarIn, nonterminalsIn, ruleAt, Fits}
 use Rattle.closures.specs.Closures.{passes, derivingRound, deriving?}
 
 -- nonterminal a judged by the set so far
@@ -36,7 +36,7 @@ NeedIs tokens l need = (x a : ℕ) → a < maxNonterminals → testBit x a ≡ f
 
 -- rows with a word for each production: as long as the tables from firstsAt on
 abbrev pub rowWords : ℕ
-rowWords = 291
+rowWords = tableWords - firstsAt
 
 -- word k of a row is for a production of a
 abbrev pub Owns : List ℕ → ℕ → ℕ → Type 0
@@ -49,6 +49,27 @@ pub record Noted (tokens : Bool) (t : List ℕ) (from count a k : ℕ) (needs ow
       → (b < nonterminalsIn t) × Owns t b j × NeedIs tokens (suffix (grammarIn t) (getD t (firstsAt + j) 0)) (getD needs j 0)
   pub below : (b j : ℕ) → b < a → testBit from b ≡ false → Owns t b j → (j < count) × T (testBit (getD owners j 0) b)
   pub own : (j : ℕ) → j < k → Owns t a j → T (testBit (getD owners j 0) a)
+
+-- what noting a nonterminal a starts from: tables that fit, rows of full length, and those below a noted in their first `count` words
+pub record Noting (tokens : Bool) (t : List ℕ) (from count a : ℕ) (needs owners : List ℕ) : Type 0 where
+  pub fits : Fits t
+  pub named : a < nonterminalsIn t
+  pub used : count ≤ rowWords
+  pub needs-long : length needs ≡ rowWords
+  pub owners-long : length owners ≡ rowWords
+  pub noted : Noted tokens t from count a 0 needs owners
+
+-- what noting all starts from: tables that fit, and rows of full length in which no production has an owner
+pub record Unnoted (t needs owners : List ℕ) : Type 0 where
+  pub fits : Fits t
+  pub needs-long : length needs ≡ rowWords
+  pub owners-none : owners ≡ replicate rowWords 0
+
+-- rows of full length of which `count` words are used
+pub record Rows (count : ℕ) (needs owners : List ℕ) : Type 0 where
+  pub used : count ≤ rowWords
+  pub needs-long : length needs ≡ rowWords
+  pub owners-long : length owners ≡ rowWords
 
 -- the set x with the owners of those of the first k productions whose need it holds
 unfoldable pub roundOf : List ℕ → List ℕ → ℕ → ℕ → ℕ

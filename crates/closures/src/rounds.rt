@@ -3,19 +3,18 @@
 use grammar::Symbol;
 ghost use mathlib.Core.Path.{_≡_};
 ghost use mathlib.Core.Bool.{cond};
-ghost use Prim.Native.Nat.{_+_, _≤_, _<_};
-ghost use lib.ListN.{length, replicate};
+ghost use Prim.Native.Nat.{_+_, _≤_};
 ghost use Rattle.base.specs.Bits.{isSubset};
 ghost use Rattle.grammar.specs.Grammar.{suffix};
 ghost use Rattle.grammar.specs.Tables.{grammarIn, nonterminalsIn, Fits};
-ghost use Rattle.closures.specs.Steps.{Derivers, DerivingIs, NeedIs, Noted, rowWords, roundOf};
+ghost use Rattle.closures.specs.Steps.{Derivers, DerivingIs, NeedIs, Noted, Noting, Unnoted, Rows, rowWords, roundOf};
 
 // Rows have a word for each production, at its place in the tables counted from grammar::FIRSTS; so long are the tables from there on. specs/Steps has
 // the same.
-const ROW_WORDS: usize = 291;
+const ROW_WORDS: usize = grammar::TABLE_WORDS - grammar::FIRSTS;
 
-// The set of all 32 nonterminals.
-const ALL: u32 = 4294967295;
+// The set of all nonterminals that there can be.
+const ALL: u32 = u32::MAX;
 
 // The nonterminals that a set must hold for every symbol from place `first` on to pass. If a token does not pass, no set will do: then ALL, since a set
 // that holds even the owner cannot gain it.
@@ -55,7 +54,7 @@ fn note_rule(
     needs: &mut [u32],
     owners: &mut [u32],
 ) -> usize
-    requires { ⌜ Fits (now tables) × (a < nonterminalsIn (now tables)) × (count ≤ rowWords) × (length (now needs) ≡ rowWords) × (length (now owners) ≡ rowWords) × Noted tokens (now tables) from count a 0 (now needs) (now owners) ⌝ }
+    requires { ⌜ Noting tokens (now tables) from count a (now needs) (now owners) ⌝ }
     ensures { λ r. ⌜ (r ≤ rowWords) × Noted tokens (now (tables .entry)) from r (a + 1) 0 (now (needs .exit)) (now (owners .exit)) ⌝ }
 {
     if base::has(from, a) {
@@ -84,8 +83,9 @@ fn note_rules(
     needs: &mut [u32],
     owners: &mut [u32],
 ) -> usize
-    requires { ⌜ Fits (now tables) × (length (now needs) ≡ rowWords) × (now owners ≡ replicate rowWords 0) ⌝ }
-    ensures { λ r. ⌜ (r ≤ rowWords) × Noted tokens (now (tables .entry)) from r (nonterminalsIn (now (tables .entry))) 0 (now (needs .exit)) (now (owners .exit)) ⌝ }
+    requires { ⌜ Unnoted (now tables) (now needs) (now owners) ⌝ }
+    ensures { λ r. ⌜ (r ≤ rowWords)
+        × Noted tokens (now (tables .entry)) from r (nonterminalsIn (now (tables .entry))) 0 (now (needs .exit)) (now (owners .exit)) ⌝ }
 {
     let n = grammar::nonterminals(tables);
     let mut count = 0;
@@ -106,7 +106,7 @@ fn added(need: u32, owners: u32, set: u32) -> u32
 
 // The set with the owners of every production whose need it holds.
 fn round(needs: &[u32], owners: &[u32], count: usize, set: u32) -> u32
-    requires { ⌜ (count ≤ rowWords) × (length (now needs) ≡ rowWords) × (length (now owners) ≡ rowWords) ⌝ }
+    requires { ⌜ Rows count (now needs) (now owners) ⌝ }
     ensures { λ r. ⌜ r ≡ roundOf (now (needs .entry)) (now (owners .entry)) set count ⌝ }
 {
     let mut next = set;

@@ -31,11 +31,13 @@ eqb-sym a b = same (eqb a b) (eqb b a) (λ t. rw (eqb→eq a b t) (eqb-refl b)) 
 -- ---- along a production
 -- what the set and the rest of the production lead to together is what the whole leads to
 abbrev pub Onward : List ℕ → ℕ → ℕ → ℕ → ℕ → ℕ → Type 0
-Onward t nullable first from x p = (c : ℕ) → (testBit x c || leads (testBit nullable) c (suffix (grammarIn t) p)) ≡ (testBit from c || leads (testBit nullable) c (suffix (grammarIn t) first))
+Onward t nullable first from x p = (c : ℕ) → (testBit x c || leads (testBit nullable) c (suffix (grammarIn t) p))
+    ≡ (testBit from c || leads (testBit nullable) c (suffix (grammarIn t) first))
 
 module _ (t : List ℕ) (nullable first from x p : ℕ) (i : Onward t nullable first from x p) where
   along : {s : Symbol} → facing (grammarIn t) p ≡ s → (c : ℕ)
-      → (testBit x c || leadsBy (testBit nullable) c s (leads (testBit nullable) c (suffix (grammarIn t) (suc p)))) ≡ (testBit from c || leads (testBit nullable) c (suffix (grammarIn t) first))
+      → (testBit x c || leadsBy (testBit nullable) c s (leads (testBit nullable) c (suffix (grammarIn t) (suc p))))
+      ≡ (testBit from c || leads (testBit nullable) c (suffix (grammarIn t) first))
   along e c = rw (← e) (ap (λ (b : Bool). testBit x c || b) (sym (leads-place (testBit nullable) c (grammarIn t) p)) ∙ i c)
 
   pub left-end : facing (grammarIn t) p ≡ End → Leads nullable from (suffix (grammarIn t) first) x
@@ -51,7 +53,8 @@ module _ (t : List ℕ) (nullable first from x p : ℕ) (i : Onward t nullable f
 
   module _ {b : ℕ} (e : facing (grammarIn t) p ≡ Nonterminal b) {y : ℕ} (q : y ≡ setBit x b) {d : Bool} (h : d ≡ testBit nullable b) where
     -- the set with b, and the rest if b is nullable
-    joined : (c : ℕ) → (testBit y c || (d && leads (testBit nullable) c (suffix (grammarIn t) (suc p)))) ≡ (testBit from c || leads (testBit nullable) c (suffix (grammarIn t) first))
+    joined : (c : ℕ) → (testBit y c || (d && leads (testBit nullable) c (suffix (grammarIn t) (suc p))))
+        ≡ (testBit from c || leads (testBit nullable) c (suffix (grammarIn t) first))
     joined c =
         rw (q, h, test-set, eqb-sym c b)
         (or-assoc (testBit x c) (eqb b c) (testBit nullable b && leads (testBit nullable) c (suffix (grammarIn t) (suc p))) ∙ along e c)
@@ -71,28 +74,33 @@ module _ (t : List ℕ) (nullable first from x p : ℕ) (i : Onward t nullable f
 -- what the set and the productions from k on lead to together is what all of them lead to
 abbrev pub Rest : List ℕ → ℕ → ℕ → ℕ → ℕ → ℕ → Type 0
 Rest t nullable a e x k =
-    (c : ℕ) → (testBit x c || anyOf (λ f. leads (testBit nullable) c (suffix (grammarIn t) f)) (slice k e t)) ≡ anyOf (λ f. leads (testBit nullable) c (suffix (grammarIn t) f)) (alternatives (grammarIn t) a)
+    (c : ℕ) → (testBit x c || anyOf (λ f. leads (testBit nullable) c (suffix (grammarIn t) f)) (slice k e t))
+    ≡ anyOf (λ f. leads (testBit nullable) c (suffix (grammarIn t) f)) (alternatives (grammarIn t) a)
 
 module _ (t : List ℕ) (nullable a e : ℕ) where
   pub moves-begin : {f : ℕ} → a < nonterminalsIn t → f ≡ ruleAt t a → e ≡ ruleAt t (a + 1) → Rest t nullable a e 0 f
   moves-begin h p q c = rw (test-none, p, q, add-one, alternatives-in t a h)
 
   module _ (x k : ℕ) (i : Rest t nullable a e x k) where
-    pub moves-next : (f y : ℕ) → k < e → e ≤ length t → f ≡ getD t k 0 → Leads nullable x (suffix (grammarIn t) f) y → Rest t nullable a e y (k + 1)
+    pub moves-next : (f y : ℕ) → k < e → e ≤ length t → f ≡ getD t k 0 → Leads nullable x (suffix (grammarIn t) f) y
+        → Rest t nullable a e y (k + 1)
     unfolding anyOf Leads
     moves-next f y l h q z c =
-        rw (z c, add-one) (or-assoc (testBit x c) (leads (testBit nullable) c (suffix (grammarIn t) f)) (anyOf (λ f. leads (testBit nullable) c (suffix (grammarIn t) f)) (slice (suc k) e t))
+        rw (z c, add-one) (or-assoc (testBit x c) (leads (testBit nullable) c (suffix (grammarIn t) f))
+        (anyOf (λ f. leads (testBit nullable) c (suffix (grammarIn t) f)) (slice (suc k) e t))
         ∙ (rw (slice-cons k e t 0 l h, ← q) at (i c)))
 
     pub moves-done : e ≤ k → Moves nullable (grammarIn t) a x
     unfolding anyOf Moves
     moves-done h c =
         sym (or-none (testBit x c))
-        ∙ ap (λ (l : List ℕ). testBit x c || anyOf (λ f. leads (testBit nullable) c (suffix (grammarIn t) f)) l) (sym (drop-of-length-le (take e t) {i = k} (omega (arith, length-take e t))))
+        ∙ ap (λ (l : List ℕ). testBit x c || anyOf (λ f. leads (testBit nullable) c (suffix (grammarIn t) f)) l)
+        (sym (drop-of-length-le (take e t) {i = k} (omega (arith, length-take e t))))
         ∙ i c
 
 -- ---- the rows to begin with
-pub rows-more : (nullable : ℕ) (g : Grammar) (rows : List ℕ) (a : ℕ) (v : ℕ) → a < length rows → Rows nullable g a rows → Moves nullable g a v → Rows nullable g (a + 1) (set rows a v)
+pub rows-more : (nullable : ℕ) (g : Grammar) (rows : List ℕ) (a : ℕ) (v : ℕ) → a < length rows → Rows nullable g a rows → Moves nullable g a v
+    → Rows nullable g (a + 1) (set rows a v)
 unfolding Rows
 rows-more nullable g rows a v l h m b k = go (same? b a)
   where
@@ -105,7 +113,8 @@ unfolding Rows
 rows-none nullable g rows b h = absurd (omega arith)
 
 -- ---- the code's ways through a turn
-pub through-more : (row b a : ℕ) (rows₀ rows : List ℕ) → rows ≡ throughOf row b a rows₀ → {x : ℕ} → x ≡ cond (testBit (getD rows a 0) b) (bitOr (getD rows a 0) row) (getD rows a 0)
+pub through-more : (row b a : ℕ) (rows₀ rows : List ℕ) → rows ≡ throughOf row b a rows₀ → {x : ℕ} → x
+    ≡ cond (testBit (getD rows a 0) b) (bitOr (getD rows a 0) row) (getD rows a 0)
     → set rows a x ≡ throughOf row b (a + 1) rows₀
 unfolding throughOf joinOf
 through-more row b a rows₀ rows i e = rw (e, add-one, ← i) (go (testBit (getD rows a 0) b))

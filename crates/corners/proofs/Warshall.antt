@@ -44,7 +44,8 @@ module _ (row b : ℕ) where
       go true = getD-set-other rows k a (bitOr (getD rows k 0) row) 0 n
       go false = refl
 
-  join-same : (a : ℕ) (rows : List ℕ) → a < length rows → (c : ℕ) → holds (joinOf row b a rows) a c ≡ (holds rows a c || (holds rows a b && testBit row c))
+  join-same : (a : ℕ) (rows : List ℕ) → a < length rows → (c : ℕ) → holds (joinOf row b a rows) a c
+      ≡ (holds rows a c || (holds rows a b && testBit row c))
   unfolding joinOf
   join-same a rows l c = go (testBit (getD rows a 0) b)
     where
@@ -62,7 +63,8 @@ module _ (row b : ℕ) where
   through-above zero a rows h = refl
   through-above (suc n) a rows h = join-other n a (throughOf row b n rows) (λ e. omega arith) ∙ through-above n a rows (omega arith)
 
-  through-at : (n a : ℕ) (rows : List ℕ) → a < n → a < length rows → (c : ℕ) → holds (throughOf row b n rows) a c ≡ (holds rows a c || (holds rows a b && testBit row c))
+  through-at : (n a : ℕ) (rows : List ℕ) → a < n → a < length rows → (c : ℕ) → holds (throughOf row b n rows) a c
+      ≡ (holds rows a c || (holds rows a b && testBit row c))
   unfolding throughOf
   through-at zero a rows h l c = absurd (omega arith)
   through-at (suc n) a rows h l c = elim (decLt a n) [
@@ -74,14 +76,17 @@ module _ (row b : ℕ) where
   ]
 
 -- through b: what a row held, and if it held b, what b's row held
-pivot-at : (n b a : ℕ) (rows : List ℕ) → a < n → a < length rows → (c : ℕ) → holds (pivotOf n b rows) a c ≡ (holds rows a c || (holds rows a b && holds rows b c))
+pivot-at : (n b a : ℕ) (rows : List ℕ) → a < n → a < length rows → (c : ℕ) → holds (pivotOf n b rows) a c
+    ≡ (holds rows a c || (holds rows a b && holds rows b c))
 unfolding pivotOf
 pivot-at n b a rows h l c = go (eqb (getD rows b 0) 0) refl
   where
-    go : (d : Bool) → eqb (getD rows b 0) 0 ≡ d → holds (cond d rows (throughOf (getD rows b 0) b n rows)) a c ≡ (holds rows a c || (holds rows a b && holds rows b c))
+    go : (d : Bool) → eqb (getD rows b 0) 0 ≡ d → holds (cond d rows (throughOf (getD rows b 0) b n rows)) a c
+        ≡ (holds rows a c || (holds rows a b && holds rows b c))
     go true e =
         let z : holds rows b c ≡ false = ap (λ (x : ℕ). testBit x c) (eqb-true (getD rows b 0) 0 e) ∙ test-none c in
-        sym (ap (λ (d : Bool). holds rows a c || (holds rows a b && d)) z ∙ ap (λ (d : Bool). holds rows a c || d) (and-none (holds rows a b)) ∙ or-none (holds rows a c))
+        sym (ap (λ (d : Bool). holds rows a c || (holds rows a b && d)) z ∙ ap (λ (d : Bool). holds rows a c || d) (and-none (holds rows a b))
+        ∙ or-none (holds rows a c))
     go false e = through-at (getD rows b 0) b n a rows h l c
 
 pivot-length : (n b : ℕ) (rows : List ℕ) → length (pivotOf n b rows) ≡ length rows
@@ -104,7 +109,8 @@ module _ (n : ℕ) where
     pivot-keeps a c l t = rw (pivot-at n b a rows l (omega arith) c) (T-or-l (holds rows a c) (holds rows a b && holds rows b c) t)
 
     pivot-adds : (a c : ℕ) → a < n → T (holds rows a b) → T (holds rows b c) → T (holds (pivotOf n b rows) a c)
-    pivot-adds a c l s t = rw (pivot-at n b a rows l (omega arith) c) (T-or-r (holds rows a c) (holds rows a b && holds rows b c) (T-and (holds rows a b) (holds rows b c) s t))
+    pivot-adds a c l s t = rw (pivot-at n b a rows l (omega arith) c)
+        (T-or-r (holds rows a c) (holds rows a b && holds rows b c) (T-and (holds rows a b) (holds rows b c) s t))
 
     -- what a row holds afterwards it held before, or b leads there
     pivot-from : (a c : ℕ) → a < n → T (holds (pivotOf n b rows) a c) → T (holds rows a c) ⊎ (T (holds rows a b) × T (holds rows b c))
@@ -127,7 +133,8 @@ module _ (n : ℕ) where
       onto (inr e) (inl s) u = h a m b la lm (omega arith) s u
       onto e (inr s) u = s .0
 
-      go : (m ≡ b) ⊎ (m ≡ b → ⊥) → T (holds rows a m) ⊎ (T (holds rows a b) × T (holds rows b m)) → T (holds rows m c) ⊎ (T (holds rows m b) × T (holds rows b c))
+      go : (m ≡ b) ⊎ (m ≡ b → ⊥) → T (holds rows a m) ⊎ (T (holds rows a b) × T (holds rows b m)) → T (holds rows m c)
+          ⊎ (T (holds rows m b) × T (holds rows b c))
           → T (holds (pivotOf n b rows) a c)
       go e s (inr t) = pivot-adds b rows few a c la (onto e s (t .0)) (t .1)
       go (inl e) (inl s) (inl t) = pivot-adds b rows few a c la (rw e at s) (rw e at t)
@@ -138,7 +145,8 @@ module _ (n : ℕ) where
   pub reach-closed : (b : ℕ) (rows : List ℕ) → n ≤ length rows → b ≤ n → Closed b (reachOf n b rows)
   unfolding reachOf
   reach-closed zero rows few l = λ a m c la lm lt s t. absurd (omega arith)
-  reach-closed (suc b) rows few l = closed-pivot b (reachOf n b rows) (omega (arith, reach-length n b rows)) (omega arith) (reach-closed b rows few (omega arith))
+  reach-closed (suc b) rows few l =
+      closed-pivot b (reachOf n b rows) (omega (arith, reach-length n b rows)) (omega arith) (reach-closed b rows few (omega arith))
 
   pub reach-keeps : (b : ℕ) (rows : List ℕ) → n ≤ length rows → (a c : ℕ) → a < n → T (holds rows a c) → T (holds (reachOf n b rows) a c)
   unfolding reachOf
@@ -151,7 +159,8 @@ module _ (n : ℕ) where
   pub reach-sound : (g : Grammar) (b : ℕ) (rows : List ℕ) → n ≤ length rows → b ≤ n → Sound g rows → Sound g (reachOf n b rows)
   unfolding reachOf
   reach-sound g zero rows few lb h = h
-  reach-sound g (suc b) rows few lb h = λ a c l t. go a c l (reach-sound g b rows few (omega arith) h) (pivot-from b (reachOf n b rows) (omega (arith, reach-length n b rows)) a c l t)
+  reach-sound g (suc b) rows few lb h =
+      λ a c l t. go a c l (reach-sound g b rows few (omega arith) h) (pivot-from b (reachOf n b rows) (omega (arith, reach-length n b rows)) a c l t)
     where
       go : (a c : ℕ) → a < n → Sound g (reachOf n b rows)
           → T (holds (reachOf n b rows) a c) ⊎ (T (holds (reachOf n b rows) a b) × T (holds (reachOf n b rows) b c)) → Reaches g a c
@@ -168,7 +177,8 @@ unfolding Rows Corners
 corners-are nullable g n rows d h a c l = moves-are nullable g a (getD rows a 0) d (h a l) c
 
 -- ---- so the rows are right
-module _ (g : Grammar) (n : ℕ) (rows : List ℕ) (e : n ≡ length (g .starts)) (named : (a c : ℕ) → Move g a c → c < n) (few : n ≤ length rows) (h : Corners g n rows) where
+module _ (g : Grammar) (n : ℕ) (rows : List ℕ) (e : n ≡ length (g .starts)) (named : (a c : ℕ) → Move g a c → c < n) (few : n ≤ length rows)
+    (h : Corners g n rows) where
   row-is : (a : ℕ) → a < n → (c : ℕ) → holds rows a c ≡ move? g a c
   unfolding Corners
   row-is a l c = h a c l

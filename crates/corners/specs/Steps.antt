@@ -2,14 +2,15 @@
 use mathlib.Core.Path.{_≡_}
 use mathlib.Core.Bool.{cond, _||_}
 use mathlib.Core.List.{List}
-use Prim.Native.Nat.{ℕ, zero, suc, _<_}
-use lib.ListN.{getD, set}
+use Prim.Native.Nat.{ℕ, zero, suc, _≤_, _<_}
+use lib.ListN.{length, getD, set}
 use lib.Bits.{bitOr}
 use lib.Dec.{eqb}
 use Rattle.base.specs.Bits.{testBit}
 use Rattle.base.specs.Rounds.{anyOf}
 use Rattle.grammar.specs.declared.Symbol.{Symbol}
 use Rattle.grammar.specs.Grammar.{Grammar, alternatives, suffix}
+use Rattle.grammar.specs.Limits.{maxNonterminals}
 use Rattle.corners.specs.Corners.{leads}
 
 -- r is x with what stands in the list behind only members of `nullable`
@@ -28,6 +29,12 @@ Rows nullable g n rows = (a : ℕ) → a < n → Moves nullable g a (getD rows a
 -- row a is joined by `row`, which is that of b, if it holds b
 unfoldable pub joinOf : ℕ → ℕ → ℕ → List ℕ → List ℕ
 joinOf row b a rows = cond (testBit (getD rows a 0) b) (set rows a (bitOr (getD rows a 0) row)) rows
+
+-- what joining through b starts from: n rows of those that there can be, and b may be any of these
+pub record Joining (n b : ℕ) (rows : List ℕ) : Type 0 where
+  pub few : n ≤ maxNonterminals
+  pub named : b < maxNonterminals
+  pub long : length rows ≡ maxNonterminals
 
 -- so are the rows below a
 unfoldable pub throughOf : ℕ → ℕ → ℕ → List ℕ → List ℕ

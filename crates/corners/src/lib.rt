@@ -10,7 +10,7 @@ ghost use Rattle.grammar.specs.Grammar.{suffix};
 ghost use Rattle.grammar.specs.Limits.{maxNonterminals};
 ghost use Rattle.grammar.specs.Tables.{grammarIn, nonterminalsIn, Fits};
 ghost use Rattle.corners.specs.Corners.{Corners};
-ghost use Rattle.corners.specs.Steps.{Leads, Moves, Rows, throughOf, reachOf};
+ghost use Rattle.corners.specs.Steps.{Leads, Moves, Rows, Joining, throughOf, reachOf};
 
 // The set `from` with every nonterminal that stands from place `first` on behind only nullable ones.
 fn left_from(tables: &[u16], nullable: u32, first: usize, from: u32) -> u32
@@ -86,7 +86,7 @@ pub fn corners(tables: &[u16], rows: &mut [u32])
 
 // Every row that holds b is joined by the row of b, `row`.
 fn through(rows: &mut [u32], n: usize, row: u32, b: usize)
-    requires { ⌜ (n ≤ maxNonterminals) × (b < maxNonterminals) × (length (now rows) ≡ maxNonterminals) ⌝ }
+    requires { ⌜ Joining n b (now rows) ⌝ }
     ensures { λ r. ⌜ now (rows .exit) ≡ throughOf row b n (now (rows .entry)) ⌝ }
 {
     let mut a = 0;

@@ -21,7 +21,8 @@ unfolding startsEach
 length-startsEach o [] = refl
 length-startsEach o (β ∷ l) = ap suc (length-startsEach (o + suc (length β)) l)
 
-starts-some : (k n o : ℕ) (l : List (List (List Symbol))) → AllOf (Alternatives k n) l → (a : ℕ) → a < length l → 1 ≤ length (getD (startsAll o l) a [])
+starts-some : (k n o : ℕ) (l : List (List (List Symbol))) → AllOf (Alternatives k n) l → (a : ℕ) → a < length l
+    → 1 ≤ length (getD (startsAll o l) a [])
 unfolding startsAll
 starts-some k n o [] h a m = absurd (omega arith)
 starts-some k n o (x ∷ l) h zero m = let z = h .0 .0 in omega (arith, length-startsEach o x)

@@ -16,11 +16,14 @@ use Rattle.grammar.proofs.OrderedLaws.{compile-ordered}
 use Rattle.grammar.proofs.OwnerLaws.{compile-first, compile-next, compile-kind}
 use Rattle.grammar.proofs.PlaceLaws.{compile-within}
 use Rattle.reader.proofs.ReadLaws.{decode-limited}
+use Rattle.number.specs.declared.Refusal.{Refusal}
 use Rattle.soundness.specs.declared.judgement.Verdict.{Verdict}
-use Rattle.soundness.specs.declared.judgement.Verdict.the-variants.{Sound}
+use Rattle.soundness.specs.declared.judgement.Verdict.the-variants.{Sound, Refused}
 use Rattle.soundness.specs.Check.{judgeOf, judged, checkOf}
 use Rattle.soundness.specs.Compiled.{Compiled}
+use Rattle.derivation.specs.Gate.{passed, shutBy, soundGate, noteGate, gate}
 use Rattle.derivation.specs.Ready.{Ready}
+use Rattle.derivation.proofs.GateLaws.{sound-passes, sound-refuses}
 use Rattle.derivation.proofs.CellLaws.{Kept}
 use Rattle.derivation.proofs.CompiledDepth.{checked-sound}
 
@@ -58,6 +61,23 @@ module _ (s : List ℕ) {v : Verdict} {t : List ℕ} (c : Compiled s v t) where
 
   pub sound-ready : v ≡ Sound → Ready t
   sound-ready e = let j = sound-judged e in ready s v t (j .rules) (j .mark) c (j .decoded) e
+
+  -- the gates, from the verdict and the tables
+  pub compiled-refuses : {r : Refusal} → v ≡ Refused r → soundGate s ≡ shutBy r
+  compiled-refuses {r} e = sound-refuses s r (sym (c .verdict) ∙ e)
+
+  pub compiled-passes : v ≡ Sound → soundGate s ≡ passed (grammarIn t)
+  compiled-passes e =
+      let j = sound-judged e in
+      sound-passes s (j .rules) (j .mark) (j .decoded) (sym (c .verdict) ∙ e) ∙ ap passed (sym (j .says))
+
+  pub compiled-gate-refuses : (w : List ℕ) (space : ℕ) {r : Refusal} → v ≡ Refused r → gate s w space ≡ shutBy r
+  unfolding gate
+  compiled-gate-refuses w space e = rw (compiled-refuses e)
+
+  pub compiled-gate : (w : List ℕ) (space : ℕ) → v ≡ Sound → gate s w space ≡ noteGate (grammarIn t) w space
+  unfolding gate
+  compiled-gate w space e = rw (compiled-passes e)
 
 module _ (t : List ℕ) (h : Ready t) where
   abbrev g : Grammar

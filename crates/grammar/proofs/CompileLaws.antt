@@ -9,7 +9,8 @@ use lib.Seq.{drop-at}
 use Rattle.grammar.specs.Types.{Symbol, Token, Nonterminal, End, Place}
 use Rattle.grammar.specs.Limits.{maxPlaces, endMark, nobody}
 use Rattle.grammar.specs.Decode.{Rules, AllOf, Legal, Production, Alternatives}
-use Rattle.grammar.specs.Grammar.{Grammar, at, nowhere, oneth, first, alternatives, spell, suffix, production, layOne, layEach, layAll, sizeEach, sizeAll, startsEach, startsAll, padded, compile, Limited}
+use Rattle.grammar.specs.Grammar.{Grammar, at, nowhere, oneth, first, alternatives, spell, suffix, production, layOne, layEach, layAll, sizeEach}
+use Rattle.grammar.specs.Grammar.{sizeAll, startsEach, startsAll, padded, compile, Limited}
 
 -- ---- how many places rules have
 pub length-one : (a : ℕ) (β : List Symbol) → length (layOne a β) ≡ suc (length β)
@@ -48,7 +49,8 @@ module _ (t n : ℕ) where
   unfolding startsEach layEach
   each-spelled a [] pre rest o e h i = refl
   each-spelled a (β ∷ l) pre rest o e h zero =
-      ap some (ap spell (ap (drop o) (ap (λ (x : List Place). pre ++ x) (append-assoc (layOne a β) (layEach a l) rest)) ∙ drop-at pre (layOne a β ++ (layEach a l ++ rest)) o e)
+      ap some (ap spell (ap (drop o) (ap (λ (x : List Place). pre ++ x) (append-assoc (layOne a β) (layEach a l) rest))
+      ∙ drop-at pre (layOne a β ++ (layEach a l ++ rest)) o e)
       ∙ spell-one a β (layEach a l ++ rest) (h .0 .1))
   each-spelled a (β ∷ l) pre rest o e h (suc i) =
       let k : length (pre ++ layOne a β) ≡ o + suc (length β) = length-append pre (layOne a β) ∙ omega (arith, e, length-one a β) in
@@ -68,7 +70,8 @@ module _ (t n : ℕ) where
   all-spelled a (y ∷ l) pre rest o e h (suc c) (suc b) =
       let k : length (pre ++ layEach a y) ≡ o + sizeEach y = length-append pre (layEach a y) ∙ omega (arith, e, length-each a y) in
       ap (λ (x : List Place). spelled x (getElem? (getD (startsAll (o + sizeEach y) l) c []) b))
-      (ap (λ (x : List Place). pre ++ x) (append-assoc (layEach a y) (layAll (suc a) l) rest) ∙ sym (append-assoc pre (layEach a y) (layAll (suc a) l ++ rest)))
+      (ap (λ (x : List Place). pre ++ x) (append-assoc (layEach a y) (layAll (suc a) l) rest)
+      ∙ sym (append-assoc pre (layEach a y) (layAll (suc a) l ++ rest)))
       ∙ all-spelled (suc a) l (pre ++ layEach a y) rest (o + sizeEach y) k (h .1) c (suc b)
 
 by-first : (g : Grammar) (a b : ℕ) → production g a b ≡ spelled (g .places) (first g a b)

@@ -30,7 +30,8 @@ pub production-is : (g : Grammar) (a b : ℕ) {f : ℕ} → first g a b ≡ some
 unfolding production
 production-is g a b e = rw (e, production)
 
-pub production-from : (g : Grammar) (a b : ℕ) {β : List Symbol} → production g a b ≡ some β → (f : ℕ) × (first g a b ≡ some f) × (suffix g f ≡ β)
+pub production-from : (g : Grammar) (a b : ℕ) {β : List Symbol} → production g a b ≡ some β → (f : ℕ) × (first g a b ≡ some f)
+    × (suffix g f ≡ β)
 unfolding production
 production-from g a b {β} e = go (first g a b) refl
   where
@@ -64,7 +65,8 @@ unfolding admits
 admits-self g k = eqb-refl k
 
 -- two derivations, one behind the other
-pub leftmost-append : {g : Grammar} {α β : List Symbol} {r s w v : List ℕ} → Leftmost g α r w → Leftmost g β s v → Leftmost g (α ++ β) (r ++ s) (w ++ v)
+pub leftmost-append : {g : Grammar} {α β : List Symbol} {r s w v : List ℕ} → Leftmost g α r w → Leftmost g β s v
+    → Leftmost g (α ++ β) (r ++ s) (w ++ v)
 leftmost-append Leftmost.done y = y
 leftmost-append (Leftmost.match c x) y = Leftmost.match c (leftmost-append x y)
 leftmost-append (Leftmost.expand e x) y = Leftmost.expand e (rw append-assoc at (leftmost-append x y))

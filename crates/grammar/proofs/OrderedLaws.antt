@@ -87,12 +87,13 @@ own-all a (m ∷ n) pre rest o e (suc c) (suc b) f q =
     let z : suc a + c ≡ a + suc c = omega arith in
     rw (← z) (simp append-assoc (simp append-assoc at h))
 
-own-padded : (n : List (List (List Symbol))) (c b f : ℕ) → oneth (getD (startsAll 0 n) c []) b ≡ some f → (getD (padded (layAll 0 n)) f nowhere) .owner ≡ c
+own-padded : (n : List (List (List Symbol))) (c b f : ℕ) → oneth (getD (startsAll 0 n) c []) b ≡ some f
+    → (getD (padded (layAll 0 n)) f nowhere) .owner ≡ c
 unfolding padded
 own-padded n c b f q =
     own-all 0 n [] (replicate (maxPlaces - length (layAll 0 n)) nowhere ++ (at nobody (Token endMark) ∷ [])) 0 refl c b f q ∙ zero-add c
 
--- ---- the end place is behind at most 255 places
+-- ---- the end place is behind all places
 module _ (l : List Place) (fits : length l ≤ maxPlaces) where
   abbrev pad : List Place
   pad = replicate (maxPlaces - length l) nowhere

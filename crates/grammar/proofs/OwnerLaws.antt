@@ -56,7 +56,8 @@ pad-owner zero (suc p) = refl
 pad-owner (suc m) zero = refl
 pad-owner (suc m) (suc p) = pad-owner m p
 
-past-owner : (l : List Place) (m p : ℕ) → length l ≤ p → (getD (l ++ (replicate m nowhere ++ (at nobody (Token endMark) ∷ []))) p nowhere) .owner ≡ nobody
+past-owner : (l : List Place) (m p : ℕ) → length l ≤ p → (getD (l ++ (replicate m nowhere ++ (at nobody (Token endMark) ∷ []))) p nowhere) .owner
+    ≡ nobody
 past-owner [] m p h = pad-owner m p
 past-owner (x ∷ l) m zero h = absurd (omega arith)
 past-owner (x ∷ l) m (suc p) h = past-owner l m p (omega arith)

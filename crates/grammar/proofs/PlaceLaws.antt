@@ -77,7 +77,8 @@ module _ (t n : ℕ) where
       go (mark q e) = mark (omega arith) e
       go (legal q e) = legal (omega arith) e
 
-faces-cast : {t n size size′ last last′ p : ℕ} {s : Symbol} → size ≡ size′ → last ≡ last′ → Faces t n size last p s → Faces t n size′ last′ p s
+faces-cast : {t n size size′ last last′ p : ℕ} {s : Symbol} → size ≡ size′ → last ≡ last′ → Faces t n size last p s
+    → Faces t n size′ last′ p s
 faces-cast e z h = rw (e, z) at h
 
 pub length-startsAll : (o : ℕ) (l : List (List (List Symbol))) → length (startsAll o l) ≡ length l
@@ -99,7 +100,8 @@ module _ (r : Rules) (limits : Limited r) where
   pub compile-within : (p a : ℕ) → facing (compile r) p ≡ Nonterminal a → p < sizeAll (r .productions)
   compile-within p a e = go (compile-faces p) e
     where
-      go : {s : Symbol} → Faces (r .kinds) (length (r .productions)) (sizeAll (r .productions)) endPlace p s → s ≡ Nonterminal a → p < sizeAll (r .productions)
+      go : {s : Symbol} → Faces (r .kinds) (length (r .productions)) (sizeAll (r .productions)) endPlace p s → s ≡ Nonterminal a
+          → p < sizeAll (r .productions)
       go (end q) e = clash (cc)
       go (mark l q) e = clash (cc)
       go (legal l q) e = l

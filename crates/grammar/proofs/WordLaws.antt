@@ -12,10 +12,10 @@ use borrow.Author.Tests.{eq-eqb, ne-eqb, eqb-true, eqb-false}
 use Rattle.base.specs.Rounds.{upFrom}
 use Rattle.base.proofs.Lists.{length-upFrom}
 use Rattle.grammar.specs.Types.{Symbol, Token, Nonterminal, End, Place}
-use Rattle.grammar.specs.Limits.{endPlace}
+use Rattle.grammar.specs.Limits.{endPlace, nobody}
 use Rattle.grammar.specs.Decode.{written}
 use Rattle.grammar.specs.Grammar.{Grammar, at, nowhere, placeAt, facing, alternatives}
-use Rattle.grammar.specs.Tables.{placeWords, codeOf, wordOf, symbolOf, placeOf, ruleAt, startsIn, grammarIn, nonterminalsIn}
+use Rattle.grammar.specs.Tables.{placeWords, codes, owners, codeOf, wordOf, symbolOf, placeOf, ruleAt, startsIn, grammarIn, nonterminalsIn}
 
 -- ---- the code's ways through `symbolOf`
 pub code-end : (c : ℕ) → c ≡ 0 → End ≡ symbolOf c
@@ -40,11 +40,11 @@ code-written v = go (eqb (v % 2) 0) refl
     go true e = let h = eqb-true (v % 2) 0 e in omega arith
     go false e = let h = eqb-false (v % 2) 0 e in omega arith
 
-pub word-written : (a v : ℕ) {r : ℕ} → r ≡ v + 1 + (a % 64 + 32) % 64 * 256 → r ≡ wordOf (at a (written v))
+pub word-written : (a v : ℕ) {r : ℕ} → r ≡ v + 1 + (a % owners + (owners - nobody)) % owners * codes → r ≡ wordOf (at a (written v))
 unfolding wordOf
 word-written a v e = omega (arith, e, code-written v)
 
--- ---- and back: a symbol whose code fits a byte
+-- ---- and back
 pub symbol-of-code : (x : Symbol) → symbolOf (codeOf x) ≡ x
 symbol-of-code (Token t) =
     let h : suc (2 * t) / 2 ≡ t = omega arith in
@@ -54,24 +54,24 @@ symbol-of-code (Nonterminal a) =
     sym (code-nonterminal (suc (suc (2 * a))) (λ z. omega arith) (λ z. omega arith)) ∙ ap Nonterminal h
 symbol-of-code End = sym (code-end 0 refl)
 
--- turning the top bit of six twice
-turned : (o : ℕ) → o < 64 → ((o % 64 + 32) % 64 + 32) % 64 ≡ o
-turned o l = go (decLt o 32)
+-- counting round from nobody, and back
+turned : (o : ℕ) → o < owners → ((o % owners + (owners - nobody)) % owners + nobody) % owners ≡ o
+turned o l = go (decLt o nobody)
   where
-    low : o % 64 ≡ o
+    low : o % owners ≡ o
     low = omega arith
 
-    go : Dec (o < 32) → ((o % 64 + 32) % 64 + 32) % 64 ≡ o
-    go (yes h) = let q : (o + 32) % 64 ≡ o + 32 = omega arith in rw (low, q) (omega arith)
-    go (no h) = let q : (o + 32) % 64 ≡ o - 32 = omega arith in rw (low, q) (omega arith)
+    go : Dec (o < nobody) → ((o % owners + (owners - nobody)) % owners + nobody) % owners ≡ o
+    go (yes h) = let q : (o + (owners - nobody)) % owners ≡ o + (owners - nobody) = omega arith in rw (low, q) (omega arith)
+    go (no h) = let q : (o + (owners - nobody)) % owners ≡ o - nobody = omega arith in rw (low, q) (omega arith)
 
-fields : (c f : ℕ) → c < 256 → ((c + f * 256) % 256 ≡ c) × ((c + f * 256) / 256 ≡ f)
+fields : (c f : ℕ) → c < codes → ((c + f * codes) % codes ≡ c) × ((c + f * codes) / codes ≡ f)
 fields c f h = (omega arith, omega arith)
 
-pub place-of-word : (x : Place) → codeOf (x .symbol) < 256 → x .owner < 64 → placeOf (wordOf x) ≡ x
+pub place-of-word : (x : Place) → codeOf (x .symbol) < codes → x .owner < owners → placeOf (wordOf x) ≡ x
 unfolding placeOf wordOf
 place-of-word x h l =
-    let q = fields (codeOf (x .symbol)) ((x .owner % 64 + 32) % 64) h in
+    let q = fields (codeOf (x .symbol)) ((x .owner % owners + (owners - nobody)) % owners) h in
     rw (q .0, q .1, turned (x .owner) l) (ap (at (x .owner)) (symbol-of-code (x .symbol)))
 
 pub place-of-none : placeOf 0 ≡ nowhere
@@ -82,7 +82,8 @@ place-of-none = refl
 pub place-past : (t : List ℕ) (p : ℕ) {x : Place} → endPlace < p → x ≡ placeOf 0 → x ≡ placeAt (grammarIn t) p
 unfolding grammarIn
 place-past t p h e =
-    e ∙ place-of-none ∙ sym (List·getD-eq-default (map placeOf (take placeWords t)) nowhere {n = p} (omega (arith, length-map (take placeWords t) placeOf, length-take placeWords t)))
+    e ∙ place-of-none ∙ sym (List·getD-eq-default (map placeOf (take placeWords t)) nowhere {n = p}
+    (omega (arith, length-map (take placeWords t) placeOf, length-take placeWords t)))
 
 pub place-in : (t : List ℕ) (p : ℕ) {x : Place} → p ≤ endPlace → x ≡ placeOf (getD t p 0) → x ≡ placeAt (grammarIn t) p
 unfolding grammarIn

@@ -11,7 +11,8 @@ use Rattle.grammar.specs.Grammar.{Grammar, admits, production}
 pub data Leftmost (g : Grammar) : List Symbol → List ℕ → List ℕ → Type 0 where
   done : Leftmost g [] [] []
   match : {k t : ℕ} {α : List Symbol} {r w : List ℕ} → T (admits g k t) → Leftmost g α r w → Leftmost g (Token k ∷ α) r (t ∷ w)
-  expand : {a b : ℕ} {β α : List Symbol} {r w : List ℕ} → production g a b ≡ some β → Leftmost g (β ++ α) r w → Leftmost g (Nonterminal a ∷ α) (b ∷ r) w
+  expand : {a b : ℕ} {β α : List Symbol} {r w : List ℕ} → production g a b ≡ some β → Leftmost g (β ++ α) r w
+      → Leftmost g (Nonterminal a ∷ α) (b ∷ r) w
 
 -- a list of symbols derives a row of tokens
 abbrev pub Derives : Grammar → List Symbol → List ℕ → Type 0

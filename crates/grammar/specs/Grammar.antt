@@ -110,7 +110,7 @@ unfolding startsEach sizeEach
 startsAll o [] = []
 startsAll o (n ∷ l) = startsEach o n ∷ startsAll (o + sizeEach n) l
 
--- 255 places, those that no production has facing an end, and the end place, which faces the end mark
+-- as many places as there may be, those that no production has facing an end, and the end place, which faces the end mark
 unfoldable pub padded : List Place → List Place
 padded l = l ++ (replicate (maxPlaces - length l) nowhere ++ (at nobody (Token endMark) ∷ []))
 

@@ -23,7 +23,7 @@ maxPlaces = 255
 
 -- the place behind the start symbol; it faces the end mark
 abbrev pub endPlace : ℕ
-endPlace = 255
+endPlace = maxPlaces
 
 -- the token that ends every note
 abbrev pub endMark : ℕ
@@ -31,4 +31,4 @@ endMark = 0
 
 -- the owner of places that belong to no production
 abbrev pub nobody : ℕ
-nobody = 32
+nobody = maxNonterminals

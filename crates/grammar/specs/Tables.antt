@@ -1,8 +1,8 @@
--- The compiled tables: a grammar in 547 words of 16 bits. Every reader is total: any words at all say a grammar.
---   0 .. 255    the places, the end place last: 8 bits of symbol code, 6 bits of owner with the top one turned
---   256 .. 510  the first place of each production, in the order of the bytes
---   511 .. 543  for each nonterminal the number of its first production, counted over all; behind the last, the number of productions
---   544, 545, 546   the highest kind, the number of nonterminals, the number of places
+-- The compiled tables: a grammar in words of 16 bits. Every reader is total: any words at all say a grammar.
+--   from 0           the places, the end place last: the symbol's code, and above it the owner
+--   from firstsAt    the first place of each production, in the order of the bytes
+--   from rulesAt     for each nonterminal the number of its first production, counted over all; behind the last, the number of productions
+--   from kindsAt     the highest kind, the number of nonterminals, the number of places
 use mathlib.Core.Path.{_≡_}
 use Prim.Native.Nat.{ℕ, suc, _+_, _-_, _*_, _/_, _%_, _≤_, _<_}
 use mathlib.Core.List.{List, [], _∷_, map}
@@ -12,34 +12,41 @@ use lib.Seq.{slice}
 use lib.Dec.{eqb}
 use Rattle.base.specs.Rounds.{upFrom}
 use Rattle.grammar.specs.Types.{Symbol, Token, Nonterminal, End, Place}
-use Rattle.grammar.specs.Limits.{maxNonterminals}
+use Rattle.grammar.specs.Limits.{maxNonterminals, maxPlaces, endPlace, nobody}
 use Rattle.grammar.specs.Grammar.{Grammar, facing}
 
 -- the words that hold places, the end place among them
 abbrev pub placeWords : ℕ
-placeWords = 256
+placeWords = suc endPlace
 
 -- the words that hold the numbers of first productions, and behind the last the number of productions
 abbrev pub ruleWords : ℕ
-ruleWords = 33
+ruleWords = suc maxNonterminals
 
 abbrev pub firstsAt : ℕ
-firstsAt = 256
+firstsAt = placeWords
 
 abbrev pub rulesAt : ℕ
-rulesAt = 511
+rulesAt = firstsAt + maxPlaces
 
 abbrev pub kindsAt : ℕ
-kindsAt = 544
+kindsAt = rulesAt + ruleWords
 
 abbrev pub nonterminalsAt : ℕ
-nonterminalsAt = 545
+nonterminalsAt = suc kindsAt
 
 abbrev pub sizeAt : ℕ
-sizeAt = 546
+sizeAt = suc nonterminalsAt
 
 abbrev pub tableWords : ℕ
-tableWords = 547
+tableWords = suc sizeAt
+
+-- a place's word has so many symbol codes and so many owners
+abbrev pub codes : ℕ
+codes = 256
+
+abbrev pub owners : ℕ
+owners = 64
 
 -- a symbol's code: 0 for a production's end, else one more than the symbol as written
 abbrev pub codeOf : Symbol → ℕ
@@ -47,9 +54,9 @@ codeOf End = 0
 codeOf (Token t) = suc (2 * t)
 codeOf (Nonterminal a) = suc (suc (2 * a))
 
--- the word of a place
+-- the word of a place; owners are counted round from nobody, so that a word 0 is nobody's
 unfoldable pub wordOf : Place → ℕ
-wordOf x = codeOf (x .symbol) + (x .owner % 64 + 32) % 64 * 256
+wordOf x = codeOf (x .symbol) + (x .owner % owners + (owners - nobody)) % owners * codes
 
 unfoldable pub symbolOf : ℕ → Symbol
 symbolOf c = cond (eqb c 0) End (cond (eqb (c % 2) 1) (Token (c / 2)) (Nonterminal (c / 2 - 1)))
@@ -57,7 +64,7 @@ symbolOf c = cond (eqb c 0) End (cond (eqb (c % 2) 1) (Token (c / 2)) (Nontermin
 -- the place that a word says
 unfoldable pub placeOf : ℕ → Place
 unfolding symbolOf
-placeOf w = record { owner = (w / 256 + 32) % 64; symbol = symbolOf (w % 256) }
+placeOf w = record { owner = (w / codes + nobody) % owners; symbol = symbolOf (w % codes) }
 
 -- where the first places of the productions of nonterminal a begin in the tables, and with suc a, where they end
 unfoldable pub ruleAt : List ℕ → ℕ → ℕ

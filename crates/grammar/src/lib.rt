@@ -1,28 +1,51 @@
 // A grammar in tables of 16-bit words, and the places in it: what each faces, and whose production it is in.
 ghost use mathlib.Core.Path.{_≡_};
-ghost use Prim.Native.Nat.{_+_, _≤_, _<_};
+ghost use Prim.Native.Nat.{suc, _+_, _≤_, _<_};
 ghost use lib.ListN.{length, getD};
 ghost use Rattle.grammar.specs.Grammar.{placeAt, admits};
-ghost use Rattle.grammar.specs.Tables.{wordOf, symbolOf, placeOf, grammarIn, nonterminalsIn, ruleAt, tableWords};
+ghost use Rattle.grammar.specs.Tables.{codes, wordOf, symbolOf, placeOf, grammarIn, nonterminalsIn, ruleAt, tableWords};
 ghost use Rattle.grammar.specs.Limits.{maxNonterminals};
 ghost use Rattle.grammar.specs.Decode.{written};
 
+// The limits of a grammar: the highest token kind, nonterminals, productions of a nonterminal, symbols of a production, places of all productions.
+// specs/Limits has the same.
+pub const MAX_KINDS: usize = 100;
+
+pub const MAX_NONTERMINALS: usize = 32;
+
+pub const MAX_PRODUCTIONS: usize = 16;
+
+pub const MAX_LENGTH: usize = 30;
+
+pub const MAX_PLACES: usize = 255;
+
 // The place behind the start symbol, where the end mark is due; it is the last that the tables hold.
-pub const END_PLACE: usize = 255;
+pub const END_PLACE: usize = MAX_PLACES;
+
+// The owner of places that belong to no production.
+const NOBODY: usize = MAX_NONTERMINALS;
 
 // The tables: one word for each place, END_PLACE included; the first place of each production; for each nonterminal the number of its first
 // production, and behind the last nonterminal the number of all; then the number of kinds, of nonterminals and of places. specs/Tables has the same.
-pub const FIRSTS: usize = 256;
+pub const FIRSTS: usize = END_PLACE + 1;
 
-pub const RULES: usize = 511;
+pub const RULES: usize = FIRSTS + MAX_PLACES;
 
-pub const KINDS: usize = 544;
+pub const KINDS: usize = RULES + MAX_NONTERMINALS + 1;
 
-pub const NONTERMINALS: usize = 545;
+pub const NONTERMINALS: usize = KINDS + 1;
 
-pub const SIZE: usize = 546;
+pub const SIZE: usize = NONTERMINALS + 1;
 
-pub const TABLE_WORDS: usize = 547;
+pub const TABLE_WORDS: usize = SIZE + 1;
+
+// The word of a place: its symbol's code is below CODES, its owner below OWNERS. specs/Tables has the same.
+const CODES: usize = 256;
+
+const OWNERS: usize = 64;
+
+// What turns an owner so that nobody is 0.
+const TURN: usize = OWNERS - NOBODY;
 
 // What a place faces: a token, a nonterminal, or its production's end.
 pub enum Symbol {
@@ -51,30 +74,30 @@ fn symbol_of(code: usize) -> Symbol
     }
 }
 
-// The place of a word: the symbol's code in the low eight bits, the owner above them with its top bit turned, so that a word 0 is nobody's.
+// The place of a word: the symbol's code in the low bits, the owner above them, counted round from nobody, so that a word 0 is nobody's.
 pub fn place_of(word: u16) -> Place
     ensures { λ r. ⌜ r ≡ placeOf word ⌝ }
 {
     let w = base::index(word);
     Place {
-        owner: (w / 256 + 32) % 64,
-        symbol: symbol_of(w % 256),
+        owner: (w / CODES + NOBODY) % OWNERS,
+        symbol: symbol_of(w % CODES),
     }
 }
 
 // The word of a place of `owner` that faces the symbol written as v.
 pub fn symbol_word(owner: usize, v: usize) -> u16
-    requires { ⌜ v < 255 ⌝ }
+    requires { ⌜ suc v < codes ⌝ }
     ensures { λ r. ⌜ r ≡ wordOf (record { owner = owner; symbol = written v }) ⌝ }
 {
-    base::narrow(v + 1 + (owner % 64 + 32) % 64 * 256)
+    base::narrow(v + 1 + (owner % OWNERS + TURN) % OWNERS * CODES)
 }
 
 // The word of a place at the end of a production of `owner`.
 pub fn end_word(owner: usize) -> u16
     ensures { λ r. ⌜ r ≡ wordOf (record { owner = owner; symbol = Symbol.End }) ⌝ }
 {
-    base::narrow((owner % 64 + 32) % 64 * 256)
+    base::narrow((owner % OWNERS + TURN) % OWNERS * CODES)
 }
 
 // Place p. Behind the end place there is none: there a production's end is faced, and nobody owns it.

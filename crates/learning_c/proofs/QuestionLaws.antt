@@ -6,19 +6,17 @@ use lib.ListN.{length, getD}
 use borrow.Author.Tests.{lt-ltb, le-ltb}
 use Rattle.number.specs.declared.Refusal.{Refusal}
 use Rattle.grammar.specs.Limits.{maxKinds}
-use Rattle.grammar.specs.Decode.{Rules, Parsed, got, refused, decode}
-use Rattle.grammar.specs.Grammar.{Grammar, compile}
+use Rattle.grammar.specs.Grammar.{Grammar}
 use Rattle.grammar.specs.Tables.{grammarIn, nonterminalsIn}
 use Rattle.grammar.proofs.WordLaws.{length-starts-in}
 use Rattle.soundness.specs.declared.judgement.Verdict.{Verdict}
 use Rattle.soundness.specs.declared.judgement.Verdict.the-variants.{Sound, Refused}
-use Rattle.soundness.specs.Check.{judged}
 use Rattle.soundness.specs.Compiled.{Compiled}
-use Rattle.derivation.proofs.ReadyLaws.{verdict-is, sound-judged}
+use Rattle.derivation.proofs.ReadyLaws.{compiled-refuses, compiled-passes}
 use Rattle.words.specs.Layout.{minWords, slots, slotAt}
 use Rattle.words.specs.Words.{decision}
 use Rattle.cache.specs.Recording.{Learned, learned, askStart, askStep}
-use Rattle.learning_c.specs.Questions.{startIn, stepIn, onRules, startOf, stepOf}
+use Rattle.learning_c.specs.Questions.{startIn, stepIn, startOf, stepOf}
 
 -- ---- for a sound grammar
 module _ (t c : List ℕ) (a : ℕ) where
@@ -55,29 +53,19 @@ module _ (g : Grammar) (c : List ℕ) (s t : ℕ) where
     step-unknown l = rw (le-ltb maxKinds t h, le-ltb s (slots (length c)) l)
 
 -- ---- for any bytes
-judged-refused : (c : List ℕ) (ask : Grammar → Learned) (d : Parsed Rules) {q : Refusal} → judged d ≡ Refused q → learned 0 c ≡ onRules c ask d
-judged-refused c ask (refused r) e = refl
-judged-refused c ask (got r m) e = rw e
-
 module _ (s c : List ℕ) {v : Verdict} {t : List ℕ} (k : Compiled s v t) where
-  asked : (ask : Grammar → Learned) → v ≡ Sound → {x : Learned} → x ≡ ask (grammarIn t) → x ≡ onRules c ask (decode s)
-  asked ask e {x} q =
-      let j = sound-judged s k e in
-      let z : x ≡ ask (compile (j .rules)) = rw (j .says) at q in
-      rw (j .decoded, j .sound) z
-
   pub start-refused : (a : ℕ) {q : Refusal} → v ≡ Refused q → learned 0 c ≡ startOf s c a
   unfolding startOf
-  start-refused a e = judged-refused c (λ (g : Grammar). startIn g c a) (decode s) (verdict-is s k e)
+  start-refused a e = rw (compiled-refuses s k e)
 
   pub start-asked : {a b : ℕ} {x : Learned} → v ≡ Sound → b ≡ a → x ≡ startIn (grammarIn t) c b → x ≡ startOf s c a
   unfolding startOf
-  start-asked {a} e f q = asked (λ (g : Grammar). startIn g c a) e (rw f at q)
+  start-asked {a} e f q = rw (compiled-passes s k e) (rw f at q)
 
   pub step-refused : (n i : ℕ) {q : Refusal} → v ≡ Refused q → learned 0 c ≡ stepOf s c n i
   unfolding stepOf
-  step-refused n i e = judged-refused c (λ (g : Grammar). stepIn g c n i) (decode s) (verdict-is s k e)
+  step-refused n i e = rw (compiled-refuses s k e)
 
   pub step-asked : {n m i j : ℕ} {x : Learned} → v ≡ Sound → m ≡ n → j ≡ i → x ≡ stepIn (grammarIn t) c m j → x ≡ stepOf s c n i
   unfolding stepOf
-  step-asked {n} {m} {i} e f h q = asked (λ (g : Grammar). stepIn g c n i) e (rw (f, h) at q)
+  step-asked {n} {m} {i} e f h q = rw (compiled-passes s k e) (rw (f, h) at q)

@@ -5,11 +5,8 @@ use Prim.Native.Nat.{ℕ}
 use lib.Dec.{ltb}
 use lib.ListN.{length}
 use Rattle.grammar.specs.Limits.{maxKinds}
-use Rattle.grammar.specs.Decode.{Rules, Parsed, got, refused, decode}
-use Rattle.grammar.specs.Grammar.{Grammar, compile}
-use Rattle.soundness.specs.declared.judgement.Verdict.{Verdict}
-use Rattle.soundness.specs.declared.judgement.Verdict.the-variants.{Sound, Refused}
-use Rattle.soundness.specs.Check.{judgeOf}
+use Rattle.grammar.specs.Grammar.{Grammar}
+use Rattle.derivation.specs.Gate.{atGate, soundGate}
 use Rattle.words.specs.Layout.{minWords, slots}
 use Rattle.words.specs.Words.{decision}
 use Rattle.cache.specs.Recording.{Learned, learned, askStart, askStep}
@@ -30,21 +27,11 @@ stepIn g c s t =
     let known = cond (ltb s (slots (length c))) asked (learned 0 c) in
     cond (ltb maxKinds t) (learned 0 c) known
 
--- 6 and 7, and then the question
-abbrev pub onVerdict : List ℕ → Learned → Verdict → Learned
-onVerdict c asked Sound = asked
-onVerdict c asked (Refused r) = learned 0 c
-
--- 1 to 5, and then 6
-abbrev pub onRules : List ℕ → (Grammar → Learned) → Parsed Rules → Learned
-onRules c ask (refused r) = learned 0 c
-onRules c ask (got r m) = let asked = ask (compile r) in onVerdict c asked (judgeOf (compile r))
-
 -- asked of any bytes
 unfoldable pub startOf : List ℕ → List ℕ → ℕ → Learned
-unfolding decode compile judgeOf startIn
-startOf bytes c a = onRules c (λ (g : Grammar). startIn g c a) (decode bytes)
+unfolding soundGate startIn
+startOf bytes c a = atGate (λ n p. learned 0 c) (λ g. startIn g c a) (soundGate bytes)
 
 unfoldable pub stepOf : List ℕ → List ℕ → ℕ → ℕ → Learned
-unfolding decode compile judgeOf stepIn
-stepOf bytes c s t = onRules c (λ (g : Grammar). stepIn g c s t) (decode bytes)
+unfolding soundGate stepIn
+stepOf bytes c s t = atGate (λ n p. learned 0 c) (λ g. stepIn g c s t) (soundGate bytes)

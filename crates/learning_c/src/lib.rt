@@ -26,7 +26,7 @@ fn step(tables: &[u16], cache: &mut [u32], s: usize, t: usize) -> u32
     requires { ⌜ Ready (now tables) ⌝ }
     ensures { λ r. ⌜ learned r (now (cache .exit)) ≡ stepIn (grammarIn (now (tables .entry))) (now (cache .entry)) s t ⌝ }
 {
-    if 100 < t {
+    if grammar::MAX_KINDS < t {
         return 0;
     }
     if s < cache::slot_count(cache.len()) {

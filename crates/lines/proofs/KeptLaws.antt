@@ -1,4 +1,4 @@
--- A line's first 96 bytes say what the line says: a longer one is bad. So a line of any length is read by what is kept of it.
+-- A line's first maxKept bytes say what the line says: a longer one is bad. So a line of any length is read by what is kept of it.
 use mathlib.Core.Path.{_≡_, refl, sym, ap, _∙_}
 use mathlib.Core.Bool.{Bool, true, false, cond, _&&_}
 use mathlib.Core.List.{List, [], _∷_, _++_}
@@ -14,16 +14,16 @@ use borrow.Author.Tests.{leb-true, leb-false}
 use Rattle.base.proofs.Booleans.{clash, and-T, true→T}
 use Rattle.base.proofs.Bits.{same?}
 use Rattle.lines.proofs.LineLaws.{at-blank, at-digit, at-other}
-use Rattle.lines.specs.Line.{fits?, grown, put, ended, tokensFrom, few, lineOf}
+use Rattle.lines.specs.Line.{maxTokens, maxDigits, maxToken, maxKept, blank, fits?, grown, put, ended, tokensFrom, few, lineOf}
 
 -- ---- keeping a byte
-pub kept-full : (s : List ℕ) (k b : ℕ) → 96 ≤ k → k ≤ 96 → 96 ≤ length s → take k s ≡ take 96 (take k s ++ (b ∷ []))
-kept-full s k b h l e = sym (take-at (take k s) (b ∷ []) 96 (omega (arith, length-take k s)))
+pub kept-full : (s : List ℕ) (k b : ℕ) → maxKept ≤ k → k ≤ maxKept → maxKept ≤ length s → take k s ≡ take maxKept (take k s ++ (b ∷ []))
+kept-full s k b h l e = sym (take-at (take k s) (b ∷ []) maxKept (omega (arith, length-take k s)))
 
-pub kept-more : (s : List ℕ) (k b : ℕ) → k < 96 → 96 ≤ length s → take (k + 1) (set s k b) ≡ take 96 (take k s ++ (b ∷ []))
+pub kept-more : (s : List ℕ) (k b : ℕ) → k < maxKept → maxKept ≤ length s → take (k + 1) (set s k b) ≡ take maxKept (take k s ++ (b ∷ []))
 kept-more s k b h e =
     rw (add-one k, take-suc-set s k b (omega arith))
-    (sym (take-all 96 (take k s ++ (b ∷ [])) (omega (arith, length-append (take k s) (b ∷ []), length-take k s))))
+    (sym (take-all maxKept (take k s ++ (b ∷ [])) (omega (arith, length-append (take k s) (b ∷ []), length-take k s))))
 
 -- ---- a good line is short
 ended-some : (d v : ℕ) (o : Option (List ℕ)) {w : List ℕ} → ended d v o ≡ some w → (u : List ℕ) × (o ≡ some u) × (length w ≡ suc (length u))
@@ -35,47 +35,47 @@ ended-some d v o {w} e = go (eqb d 0) o e
     go false none q = clash (cc)
     go false (some u) q = let z : w ≡ v ∷ u = cc in (u, refl, ap length z)
 
-fits-few : (d v b : ℕ) → fits? d v b ≡ true → d < 5
+fits-few : (d v b : ℕ) → fits? d v b ≡ true → d < maxDigits
 unfolding fits?
 fits-few d v b e =
-    let x = and-T (leb 48 b) (leb b 57 && (ltb d 5 && leb (grown v b) 65535)) (true→T (fits? d v b) e) .1 in
-    let y = and-T (leb b 57) (ltb d 5 && leb (grown v b) 65535) x .1 in
-    ltb→lt d 5 (and-T (ltb d 5) (leb (grown v b) 65535) y .0)
+    let x = and-T (leb 48 b) (leb b 57 && (ltb d maxDigits && leb (grown v b) maxToken)) (true→T (fits? d v b) e) .1 in
+    let y = and-T (leb b 57) (ltb d maxDigits && leb (grown v b) maxToken) x .1 in
+    ltb→lt d maxDigits (and-T (ltb d maxDigits) (leb (grown v b) maxToken) y .0)
 
 -- a line's rest s says only notes of enough tokens
 abbrev Short : List ℕ → Type 0
-Short s = (d v : ℕ) (w : List ℕ) → tokensFrom d v s ≡ some w → d ≤ 5 → length s + d + 1 ≤ 6 * length w
+Short s = (d v : ℕ) (w : List ℕ) → tokensFrom d v s ≡ some w → d ≤ maxDigits → length s + d + 1 ≤ suc maxDigits * length w
 
 short-step : (b : ℕ) (s : List ℕ) → Short s → Short (b ∷ s)
-short-step b s ih d v w e h = go (same? b 32)
+short-step b s ih d v w e h = go (same? b blank)
   where
-    digit : (f : Bool) → (b ≡ 32 → ⊥) → fits? d v b ≡ f → suc (length s) + d + 1 ≤ 6 * length w
+    digit : (f : Bool) → (b ≡ blank → ⊥) → fits? d v b ≡ f → suc (length s) + d + 1 ≤ suc maxDigits * length w
     digit true n q = let z = ih (suc d) (grown v b) w (sym (at-digit d v b s n q) ∙ e) (omega (arith, fits-few d v b q)) in omega arith
     digit false n q = let z : none ≡ some w = sym (at-other d v b s n q) ∙ e in clash (cc)
 
-    go : (b ≡ 32) ⊎ (b ≡ 32 → ⊥) → suc (length s) + d + 1 ≤ 6 * length w
+    go : (b ≡ blank) ⊎ (b ≡ blank → ⊥) → suc (length s) + d + 1 ≤ suc maxDigits * length w
     go (inl q) =
         let (u, y, n) = ended-some d v (tokensFrom 0 0 s) (sym (at-blank d v b s q) ∙ e) in
         let z = ih 0 0 u y (omega arith) in
         omega arith
     go (inr n) = digit (fits? d v b) n refl
 
--- each token takes at most five bytes and a blank
+-- each token takes at most maxDigits bytes and a blank
 good-short : (s : List ℕ) → Short s
 unfolding tokensFrom
 good-short [] d v w e h = let (u, q, n) = ended-some d v (some []) e in omega arith
 good-short (b ∷ s) d v w e h = short-step b s (good-short s) d v w e h
 
-few-some : (o : Option (List ℕ)) {w : List ℕ} → few o ≡ some w → (o ≡ some w) × (length w ≤ 16)
+few-some : (o : Option (List ℕ)) {w : List ℕ} → few o ≡ some w → (o ≡ some w) × (length w ≤ maxTokens)
 unfolding few
 few-some none e = clash (cc)
-few-some (some u) {w} e = go (leb (length u) 16) refl e
+few-some (some u) {w} e = go (leb (length u) maxTokens) refl e
   where
-    go : (t : Bool) → leb (length u) 16 ≡ t → cond t (some u) none ≡ some w → (some u ≡ some w) × (length w ≤ 16)
-    go true q x = let z : u ≡ w = cc in (x, rw z at (leb-true (length u) 16 q))
+    go : (t : Bool) → leb (length u) maxTokens ≡ t → cond t (some u) none ≡ some w → (some u ≡ some w) × (length w ≤ maxTokens)
+    go true q x = let z : u ≡ w = cc in (x, rw z at (leb-true (length u) maxTokens q))
     go false q x = clash (cc)
 
-pub long-bad : (s : List ℕ) → 95 < length s → lineOf s ≡ none
+pub long-bad : (s : List ℕ) → maxKept ≤ length s → lineOf s ≡ none
 unfolding lineOf
 long-bad [] h = absurd (omega arith)
 long-bad (b ∷ s) h = go (few (tokensFrom 0 0 (b ∷ s))) refl
@@ -88,11 +88,11 @@ long-bad (b ∷ s) h = go (few (tokensFrom 0 0 (b ∷ s))) refl
         absurd (omega arith)
 
 -- what is kept of a line says what the line says
-pub kept-says : (s : List ℕ) → lineOf (take 96 s) ≡ lineOf s
-kept-says s = go (leb (length s) 96) refl
+pub kept-says : (s : List ℕ) → lineOf (take maxKept s) ≡ lineOf s
+kept-says s = go (leb (length s) maxKept) refl
   where
-    go : (t : Bool) → leb (length s) 96 ≡ t → lineOf (take 96 s) ≡ lineOf s
-    go true q = ap lineOf (take-all 96 s (leb-true (length s) 96 q))
+    go : (t : Bool) → leb (length s) maxKept ≡ t → lineOf (take maxKept s) ≡ lineOf s
+    go true q = ap lineOf (take-all maxKept s (leb-true (length s) maxKept q))
     go false q =
-        let h = leb-false (length s) 96 q in
-        long-bad (take 96 s) (omega (arith, length-take 96 s)) ∙ sym (long-bad s (omega arith))
+        let h = leb-false (length s) maxKept q in
+        long-bad (take maxKept s) (omega (arith, length-take maxKept s)) ∙ sym (long-bad s (omega arith))

@@ -11,7 +11,7 @@ use lib.ListN.{length, getD, set, take, drop, length-append, length-take, drop-o
 use lib.Seq.{take-suc-set, drop-cons, length-take-le}
 use borrow.Author.Tests.{lt-leb, le-leb, lt-ltb, le-ltb, eq-eqb, ne-eqb}
 use Rattle.base.proofs.Booleans.{and-none}
-use Rattle.lines.specs.Line.{fits?, grown, put, ended, tokensFrom, few, lineOf}
+use Rattle.lines.specs.Line.{maxTokens, maxDigits, maxToken, blank, fits?, grown, put, ended, tokensFrom, few, lineOf}
 
 -- tokens in front of others
 abbrev behind : List ℕ → Option (List ℕ) → Option (List ℕ)
@@ -26,24 +26,24 @@ behind-none : (o : Option (List ℕ)) → behind [] o ≡ o
 behind-none none = refl
 behind-none (some w) = refl
 
--- a seventeenth token
-too-many : (u : List ℕ) (v : ℕ) (o : Option (List ℕ)) → 16 ≤ length u → none ≡ few (behind u (put v o))
+-- a token too many
+too-many : (u : List ℕ) (v : ℕ) (o : Option (List ℕ)) → maxTokens ≤ length u → none ≡ few (behind u (put v o))
 unfolding few
 too-many u v none h = refl
-too-many u v (some w) h = simp (lt-leb (length (u ++ (v ∷ w))) 16 (omega (arith, length-append u (v ∷ w))))
+too-many u v (some w) h = simp (lt-leb (length (u ++ (v ∷ w))) maxTokens (omega (arith, length-append u (v ∷ w))))
 
 -- ---- one byte on
-pub at-blank : (d v b : ℕ) (s : List ℕ) → b ≡ 32 → tokensFrom d v (b ∷ s) ≡ ended d v (tokensFrom 0 0 s)
+pub at-blank : (d v b : ℕ) (s : List ℕ) → b ≡ blank → tokensFrom d v (b ∷ s) ≡ ended d v (tokensFrom 0 0 s)
 unfolding tokensFrom
-at-blank d v b s h = rw (eq-eqb b 32 h, tokensFrom)
+at-blank d v b s h = rw (eq-eqb b blank h, tokensFrom)
 
-pub at-digit : (d v b : ℕ) (s : List ℕ) → (b ≡ 32 → ⊥) → fits? d v b ≡ true → tokensFrom d v (b ∷ s) ≡ tokensFrom (suc d) (grown v b) s
+pub at-digit : (d v b : ℕ) (s : List ℕ) → (b ≡ blank → ⊥) → fits? d v b ≡ true → tokensFrom d v (b ∷ s) ≡ tokensFrom (suc d) (grown v b) s
 unfolding tokensFrom
-at-digit d v b s h q = rw (ne-eqb b 32 h, q, tokensFrom)
+at-digit d v b s h q = rw (ne-eqb b blank h, q, tokensFrom)
 
-pub at-other : (d v b : ℕ) (s : List ℕ) → (b ≡ 32 → ⊥) → fits? d v b ≡ false → tokensFrom d v (b ∷ s) ≡ none
+pub at-other : (d v b : ℕ) (s : List ℕ) → (b ≡ blank → ⊥) → fits? d v b ≡ false → tokensFrom d v (b ∷ s) ≡ none
 unfolding tokensFrom
-at-other d v b s h q = rw (ne-eqb b 32 h, q, tokensFrom)
+at-other d v b s h q = rw (ne-eqb b blank h, q, tokensFrom)
 
 -- k tokens are put down, and i bytes are read: d digits of the number v since the last blank
 unfoldable pub Going : List ℕ → List ℕ → ℕ → ℕ → ℕ → ℕ → Type 0
@@ -66,7 +66,7 @@ module _ (s note : List ℕ) (k d v i : ℕ) (x : Going s note k d v i) where
     unfolding ended few
     end-empty e = rw (eq-eqb d 0 e) at y
 
-    end-many : (d ≡ 0 → ⊥) → 16 ≤ k → k ≤ length note → none ≡ lineOf s
+    end-many : (d ≡ 0 → ⊥) → maxTokens ≤ k → k ≤ length note → none ≡ lineOf s
     unfolding ended
     end-many e h l =
         let z : few (behind (take k note) (put v o)) ≡ lineOf s = rw (ne-eqb d 0 e) at y in
@@ -84,21 +84,21 @@ module _ (s note : List ℕ) (k d v i : ℕ) (x : Going s note k d v i) where
     unfolding Going
     next = let z : drop i s ≡ b ∷ drop (suc i) s = rw e (drop-cons s i 0 l) in rw z at x
 
-    module _ (h : b ≡ 32) where
-      blank : few (behind (take k note) (ended d v (tokensFrom 0 0 (drop (suc i) s)))) ≡ lineOf s
-      blank = rw (at-blank d v b (drop (suc i) s) h) at next
+    module _ (h : b ≡ blank) where
+      ends : few (behind (take k note) (ended d v (tokensFrom 0 0 (drop (suc i) s)))) ≡ lineOf s
+      ends = rw (at-blank d v b (drop (suc i) s) h) at next
 
       pub blank-first : d ≡ 0 → none ≡ lineOf s
-      blank-first z = end-empty (tokensFrom 0 0 (drop (suc i) s)) blank z
+      blank-first z = end-empty (tokensFrom 0 0 (drop (suc i) s)) ends z
 
-      pub blank-many : (d ≡ 0 → ⊥) → 16 ≤ k → k ≤ length note → none ≡ lineOf s
-      blank-many z m q = end-many (tokensFrom 0 0 (drop (suc i) s)) blank z m q
+      pub blank-many : (d ≡ 0 → ⊥) → maxTokens ≤ k → k ≤ length note → none ≡ lineOf s
+      blank-many z m q = end-many (tokensFrom 0 0 (drop (suc i) s)) ends z m q
 
       pub blank-on : {t : ℕ} → (d ≡ 0 → ⊥) → k < length note → t ≡ v → Going s (set note k t) (k + 1) 0 0 (i + 1)
       unfolding Going
-      blank-on z q w = rw (add-one i) (end-token (tokensFrom 0 0 (drop (suc i) s)) blank z q w)
+      blank-on z q w = rw (add-one i) (end-token (tokensFrom 0 0 (drop (suc i) s)) ends z q w)
 
-    module _ (h : b ≡ 32 → ⊥) where
+    module _ (h : b ≡ blank → ⊥) where
       refused : fits? d v b ≡ false → none ≡ lineOf s
       unfolding few
       refused q = rw (at-other d v b (drop (suc i) s) h q) at next
@@ -111,18 +111,18 @@ module _ (s note : List ℕ) (k d v i : ℕ) (x : Going s note k d v i) where
       unfolding fits?
       digit-above q = refused (rw (lt-leb b 57 q) (and-none (leb 48 b)))
 
-      pub digit-sixth : 48 ≤ b → b ≤ 57 → 5 ≤ d → none ≡ lineOf s
+      pub digit-sixth : 48 ≤ b → b ≤ 57 → maxDigits ≤ d → none ≡ lineOf s
       unfolding fits?
-      digit-sixth m q z = refused (rw (le-leb 48 b m, le-leb b 57 q, le-ltb d 5 z))
+      digit-sixth m q z = refused (rw (le-leb 48 b m, le-leb b 57 q, le-ltb d maxDigits z))
 
-      pub digit-high : 48 ≤ b → b ≤ 57 → d < 5 → 65535 < grown v b → none ≡ lineOf s
+      pub digit-high : 48 ≤ b → b ≤ 57 → d < maxDigits → maxToken < grown v b → none ≡ lineOf s
       unfolding fits?
-      digit-high m q z u = refused (rw (le-leb 48 b m, le-leb b 57 q, lt-ltb d 5 z, lt-leb (grown v b) 65535 u))
+      digit-high m q z u = refused (rw (le-leb 48 b m, le-leb b 57 q, lt-ltb d maxDigits z, lt-leb (grown v b) maxToken u))
 
-      pub digit-on : {w : ℕ} → 48 ≤ b → b ≤ 57 → d < 5 → w ≡ grown v b → w ≤ 65535 → Going s note k (d + 1) w (i + 1)
+      pub digit-on : {w : ℕ} → 48 ≤ b → b ≤ 57 → d < maxDigits → w ≡ grown v b → w ≤ maxToken → Going s note k (d + 1) w (i + 1)
       unfolding Going fits?
       digit-on m q z a u =
-          let y : fits? d v b ≡ true = rw (le-leb 48 b m, le-leb b 57 q, lt-ltb d 5 z, le-leb (grown v b) 65535 (omega arith)) in
+          let y : fits? d v b ≡ true = rw (le-leb 48 b m, le-leb b 57 q, lt-ltb d maxDigits z, le-leb (grown v b) maxToken (omega arith)) in
           rw (add-one i, add-one d, a) (rw (at-digit d v b (drop (suc i) s) h y) at next)
 
   -- the line ends
@@ -134,13 +134,14 @@ module _ (s note : List ℕ) (k d v i : ℕ) (x : Going s note k d v i) where
     pub last-empty : d ≡ 0 → none ≡ lineOf s
     last-empty z = end-empty (some []) last z
 
-    pub last-many : (d ≡ 0 → ⊥) → 16 ≤ k → k ≤ length note → none ≡ lineOf s
+    pub last-many : (d ≡ 0 → ⊥) → maxTokens ≤ k → k ≤ length note → none ≡ lineOf s
     last-many z m q = end-many (some []) last z m q
 
-    pub last-good : {t : ℕ} → (d ≡ 0 → ⊥) → k < 16 → 16 ≤ length note → t ≡ v → some (take (k + 1) (set note k t)) ≡ lineOf s
+    pub last-good : {t : ℕ} → (d ≡ 0 → ⊥) → k < maxTokens → maxTokens ≤ length note → t ≡ v → some (take (k + 1) (set note k t))
+        ≡ lineOf s
     unfolding few
     last-good {t} z h q e =
         let u = take (k + 1) (set note k t) in
-        let n : length (u ++ []) ≤ 16 = omega (arith, length-append u [], length-take (k + 1) (set note k t)) in
+        let n : length (u ++ []) ≤ maxTokens = omega (arith, length-append u [], length-take (k + 1) (set note k t)) in
         let y : few (some (u ++ [])) ≡ lineOf s = end-token (some []) last z (omega arith) e in
-        ap {B = Option (List ℕ)} some (sym (append-nil u)) ∙ (rw (le-leb (length (u ++ [])) 16 n) at y)
+        ap {B = Option (List ℕ)} some (sym (append-nil u)) ∙ (rw (le-leb (length (u ++ [])) maxTokens n) at y)

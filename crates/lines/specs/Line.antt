@@ -1,10 +1,20 @@
--- What the bytes of a line say: up to 16 tokens, each of 1 to 5 digits and at most 65,535, single blanks between; anything else is bad.
+-- What the bytes of a line say: up to maxTokens tokens, each of 1 to maxDigits digits and at most maxToken, single blanks between; anything else is bad.
 use Prim.Native.Nat.{ℕ, suc, _+_, _*_, _-_}
 use mathlib.Core.Bool.{Bool, true, false, cond, _&&_}
 use mathlib.Core.List.{List, [], _∷_}
 use mathlib.Core.Option.{Option, none, some}
 use lib.ListN.{length}
 use lib.Dec.{eqb, leb, ltb}
+
+-- the most tokens of a line, the most digits of a token, and the highest token
+abbrev pub maxTokens : ℕ
+maxTokens = 16
+
+abbrev pub maxDigits : ℕ
+maxDigits = 5
+
+abbrev pub maxToken : ℕ
+maxToken = 65535
 
 -- the byte between two tokens
 abbrev pub blank : ℕ
@@ -16,7 +26,7 @@ grown v b = 10 * v + (b - 48)
 
 -- the byte b is a digit that may follow d digits of the number v
 unfoldable pub fits? : ℕ → ℕ → ℕ → Bool
-fits? d v b = leb 48 b && (leb b 57 && (ltb d 5 && leb (grown v b) 65535))
+fits? d v b = leb 48 b && (leb b 57 && (ltb d maxDigits && leb (grown v b) maxToken))
 
 -- a token in front of others
 abbrev pub put : ℕ → Option (List ℕ) → Option (List ℕ)
@@ -37,10 +47,6 @@ tokensFrom d v (b ∷ s) =
       | false ↦ elim (fits? d v b) [ true ↦ tokensFrom (suc d) (grown v b) s | false ↦ none ]
     ]
 
--- the most tokens of a line
-abbrev pub maxTokens : ℕ
-maxTokens = 16
-
 -- no more tokens than a line may have
 unfoldable pub few : Option (List ℕ) → Option (List ℕ)
 few none = none
@@ -52,6 +58,6 @@ unfolding few tokensFrom
 lineOf [] = some []
 lineOf (b ∷ s) = few (tokensFrom 0 0 (b ∷ s))
 
--- the bytes of a line that are kept: a good line has 5 for each token and a blank between two, and so fewer
+-- the bytes of a line that are kept: a good line has its digits for each token and a blank between two, and so fewer
 abbrev pub maxKept : ℕ
-maxKept = 96
+maxKept = maxTokens * suc maxDigits

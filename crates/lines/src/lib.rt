@@ -3,14 +3,18 @@ ghost use mathlib.Core.Path.{_≡_};
 ghost use mathlib.Core.List.{_++_, _∷_, []};
 ghost use Prim.Native.Nat.{_≤_};
 ghost use lib.ListN.{length, take};
-ghost use Rattle.lines.specs.Line.{lineOf, maxKept};
+ghost use Rattle.lines.specs.Line.{maxTokens, maxKept, lineOf};
 ghost use Rattle.lines.specs.Parsed.{noteIn, lineCount};
 
-// The most tokens of a line.
+// The most tokens of a line, the most digits of a token, and the highest token. specs/Line has the same.
 pub const MAX_TOKENS: usize = 16;
 
+const MAX_DIGITS: usize = 5;
+
+const MAX_TOKEN: usize = 65535;
+
 // The bytes of a line that are kept: one more than any good line has, so that a longer line is still bad.
-pub const KEPT_BYTES: usize = 96;
+pub const KEPT_BYTES: usize = MAX_TOKENS * (MAX_DIGITS + 1);
 
 // What a line says.
 pub enum Line {
@@ -20,11 +24,12 @@ pub enum Line {
     Bad,
 }
 
-// Reads a line, without its end: up to 16 tokens, each of 1 to 5 digits and at most 65,535, single blanks between. The tokens are put at the note's start.
+// Reads a line, without its end: up to MAX_TOKENS tokens, each of 1 to MAX_DIGITS digits and at most MAX_TOKEN, single blanks between. The tokens are put at
+// the note's start.
 pub fn parse(line: &[u8], note: &mut [u16]) -> Line
-    requires { ⌜ 16 ≤ length (now note) ⌝ }
+    requires { ⌜ maxTokens ≤ length (now note) ⌝ }
     ensures { λ r. ⌜ noteIn r (now (note .exit)) ≡ lineOf (now (line .entry)) ⌝ }
-    ensures { λ r. ⌜ lineCount r ≤ 16 ⌝ }
+    ensures { λ r. ⌜ lineCount r ≤ maxTokens ⌝ }
 {
     let n = line.len();
     if n == 0 {
@@ -55,11 +60,11 @@ pub fn parse(line: &[u8], note: &mut [u16]) -> Line
             if 57 < b {
                 return Line::Bad;
             }
-            if 5 <= digits {
+            if MAX_DIGITS <= digits {
                 return Line::Bad;
             }
             value = 10 * value + (b - 48);
-            if 65535 < value {
+            if MAX_TOKEN < value {
                 return Line::Bad;
             }
             digits += 1;
@@ -77,9 +82,9 @@ pub fn parse(line: &[u8], note: &mut [u16]) -> Line
 
 // Keeps one more byte of a line, if there is room, and answers how many are kept.
 pub fn keep(line: &mut [u8], kept: usize, byte: u8) -> usize
-    requires { ⌜ (kept ≤ 96) × (96 ≤ length (now line)) ⌝ }
+    requires { ⌜ (kept ≤ maxKept) × (maxKept ≤ length (now line)) ⌝ }
     ensures { λ r. ⌜ take r (now (line .exit)) ≡ take maxKept (take kept (now (line .entry)) ++ (byte ∷ [])) ⌝ }
-    ensures { λ r. ⌜ r ≤ 96 ⌝ }
+    ensures { λ r. ⌜ r ≤ maxKept ⌝ }
 {
     if KEPT_BYTES <= kept {
         return kept;

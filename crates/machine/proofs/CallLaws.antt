@@ -15,7 +15,7 @@ use Rattle.derivation.specs.Space.{frameWords, returnsOf}
 use Rattle.derivation.specs.Ready.{Ready}
 use Rattle.derivation.proofs.ReadyLaws.{ready-first}
 use Rattle.derivation.proofs.MarkedCells.{derives-inside}
-use Rattle.chart.specs.Chart.{Lent, LentAt, EndsOf}
+use Rattle.cells.specs.Chart.{Lent, LentAt, EndsOf}
 use Rattle.machine.specs.Frames.{EveryFrame, Serving, pushOf}
 use Rattle.machine.specs.Choice.{Leading, orZero, lowestIn}
 use Rattle.machine.specs.Space.{Named, pushIf, ground, opened}

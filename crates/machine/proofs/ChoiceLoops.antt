@@ -21,7 +21,7 @@ use Rattle.positions.specs.Positions.{positionCount, emptySet, member, withOf, 
 use Rattle.positions.specs.Words.{setAt}
 use Rattle.positions.proofs.SetLaws.{member-empty, member-with, length-with}
 use Rattle.derivation.specs.Ready.{Ready}
-use Rattle.chart.specs.Chart.{spot}
+use Rattle.cells.specs.Chart.{spot}
 use Rattle.derivation.proofs.FirstLaws.{rule-within, rules-are, first-at}
 use Rattle.machine.specs.Choice.{Leading, endsIn, orZero, lowestIn}
 

@@ -21,7 +21,7 @@ use Rattle.derivation.proofs.CompiledDepth.{end-quiet, compile-reads}
 use Rattle.derivation.proofs.FrameWords.{Held, held-pop, held-match, held-room, room, returns-length}
 use Rattle.derivation.proofs.Notes.{get-lt}
 use Rattle.derivation.proofs.ReadyLaws.{ready-ordered, ready-call}
-use Rattle.chart.specs.Chart.{Lent}
+use Rattle.cells.specs.Chart.{Lent}
 use Rattle.machine.specs.Frames.{Good}
 use Rattle.machine.specs.Space.{ground}
 use Rattle.machine.specs.Moves.{Moves, stay, popped, matched}

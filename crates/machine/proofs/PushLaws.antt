@@ -12,8 +12,8 @@ use Rattle.positions.specs.Positions.{positionCount, member}
 use Rattle.positions.specs.Words.{memberAt, putAt}
 use Rattle.positions.proofs.WordLaws.{length-put, put-word, put-same}
 use Rattle.derivation.specs.Space.{frameWords, Pushed}
-use Rattle.chart.proofs.Spots.{spot-below}
-use Rattle.chart.specs.Chart.{spot, cellsEnd, cellHas, ChartedFrom, Charted}
+use Rattle.cells.proofs.Spots.{spot-below}
+use Rattle.cells.specs.Chart.{spot, cellsEnd, cellHas, ChartedFrom, Charted}
 use Rattle.machine.specs.Frames.{frameHas, pushOf}
 
 -- words that agree below the frames have the same cells

@@ -28,7 +28,7 @@ use Rattle.derivation.proofs.CellLaws.{derives-sound, runs-iff}
 use Rattle.derivation.proofs.RunLaws.{der-le, der-in, run-token, run-end, run-empty}
 use Rattle.derivation.proofs.ReadyLaws.{ready-first, ready-next, ready-call, ready-ordered}
 use Rattle.derivation.proofs.MarkedCells.{length-marked, get-mark, derives-inside, derives-marked}
-use Rattle.chart.specs.Chart.{spot, cellHas, ChartedFrom, Charted, EndsOf}
+use Rattle.cells.specs.Chart.{spot, cellHas, ChartedFrom, Charted, EndsOf}
 use Rattle.machine.specs.Frames.{frameHas, EveryFrame, Good, Serving}
 use Rattle.machine.specs.Choice.{Leading, endsIn, orZero, lowestIn}
 use Rattle.machine.proofs.GoodLaws.{derives-call}

@@ -22,7 +22,7 @@ use Rattle.derivation.proofs.Entries.{open-start}
 use Rattle.derivation.proofs.FrameWords.{Held, held-pick, pushed-returns}
 use Rattle.derivation.proofs.ReadyLaws.{ready-ordered, ready-size, ready-call, ready-next}
 use Rattle.derivation.proofs.MarkedCells.{length-marked}
-use Rattle.chart.specs.Chart.{Lent}
+use Rattle.cells.specs.Chart.{Lent}
 use Rattle.machine.specs.Frames.{frameHas, Good}
 use Rattle.machine.specs.Space.{Roomy, ground, opened}
 use Rattle.machine.specs.Moves.{ToCall}

@@ -10,7 +10,7 @@ use Rattle.grammar.specs.Grammar.{alternatives, first}
 use Rattle.grammar.specs.Tables.{grammarIn}
 use Rattle.positions.specs.Positions.{member, meetsOf}
 use Rattle.positions.specs.Words.{setAt}
-use Rattle.chart.specs.Chart.{spot}
+use Rattle.cells.specs.Chart.{spot}
 
 -- r is the set of those members of `ends`, up to n, from which place q derives up to a member of `rest`
 unfoldable pub Leading : ℕ → List ℕ → ℕ → List ℕ → ℕ → List ℕ → List ℕ → Type 0

@@ -7,7 +7,7 @@ use lib.ListN.{length}
 use Rattle.grammar.specs.Grammar.{first}
 use Rattle.grammar.specs.Tables.{grammarIn}
 use Rattle.derivation.specs.Space.{frameWords, returnsOf}
-use Rattle.chart.specs.Chart.{cellsEnd}
+use Rattle.cells.specs.Chart.{cellsEnd}
 use Rattle.machine.specs.Frames.{pushOf}
 use Rattle.machine.specs.declared.steps.Space.{Space}
 

@@ -15,7 +15,7 @@ use Rattle.derivation.specs.Machine.{lowest}
 use Rattle.derivation.specs.Space.{Pushed}
 use Rattle.derivation.specs.Ready.{Ready}
 use Rattle.derivation.proofs.FrameWords.{Held}
-use Rattle.chart.specs.Chart.{Lent, Charted}
+use Rattle.cells.specs.Chart.{Lent, Charted}
 use Rattle.machine.specs.Frames.{frameHas, EveryFrame, Good}
 use Rattle.machine.specs.Choice.{orZero}
 use Rattle.machine.specs.Space.{ground, Spaced, opened}

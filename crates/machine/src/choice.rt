@@ -4,7 +4,7 @@ ghost use mathlib.Core.Path.{_≡_};
 ghost use Prim.Native.Nat.{_<_};
 ghost use Rattle.grammar.specs.Tables.{grammarIn, nonterminalsIn};
 ghost use Rattle.derivation.specs.Ready.{Ready};
-ghost use Rattle.chart.specs.Chart.{Lent, LentAt};
+ghost use Rattle.cells.specs.Chart.{Lent, LentAt};
 ghost use Rattle.machine.specs.Choice.{Leading, lowestIn};
 
 // The members of `ends`, up to the note's end at n, from which place q derives up to a member of `rest`.
@@ -22,7 +22,7 @@ pub fn serving(
     let mut r = Positions::empty();
     let mut m = positions::next(ends, 0);
     while m <= n {
-        let t = chart::cell(ws, places, q, m);
+        let t = cells::cell(ws, places, q, m);
         let here = m;
         m = positions::next(ends, m + 1);
         if t.meets(rest) {
@@ -45,7 +45,7 @@ pub fn lowest(tables: &[u16], ws: &[u32], a: usize, i: usize, s: Positions) -> u
     while start < left {
         let k = start + (end - left);
         let f = grammar::first_place(tables, k);
-        let t = chart::cell(ws, places, f, i);
+        let t = cells::cell(ws, places, f, i);
         left -= 1;
         if t.meets(s) {
             return k + 1 - start;

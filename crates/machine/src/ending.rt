@@ -9,7 +9,8 @@ ghost use Rattle.grammar.specs.Tables.{grammarIn};
 ghost use Rattle.derivation.specs.Plain.{sentence?, clear, onOutcome};
 ghost use Rattle.derivation.specs.ReachRounds.{wrongPlace};
 ghost use Rattle.gate.specs.Reading.{answered};
-ghost use Rattle.machine.specs.Ending.{Charting, outcomeIn, Counted};
+ghost use Rattle.reach.specs.Passes.{Given};
+ghost use Rattle.machine.specs.Ending.{outcomeIn, Counted};
 
 // How the machine stops: with so many entries of the row written; where nothing fits; where the row is full and a nonterminal waits.
 pub enum Outcome {
@@ -33,7 +34,7 @@ pub fn clear_from(row: &mut [u16], from: usize)
 
 // Whether the note is a sentence.
 fn is_sentence(tables: &[u16], note: &[u16], ws: &[u32]) -> bool
-    requires { ⌜ Charting (now tables) (now note) (now ws) ⌝ }
+    requires { ⌜ Given (now tables) (now note) (now ws) ⌝ }
     ensures { λ r. ⌜ r ≡ sentence? (grammarIn (now (tables .entry))) (now (note .entry)) ⌝ }
 {
     let s = Positions::empty().with(note.len());
@@ -42,11 +43,11 @@ fn is_sentence(tables: &[u16], note: &[u16], ws: &[u32]) -> bool
 
 // No sentence: zeros, and the place where the note goes wrong.
 fn no_sentence(tables: &[u16], note: &[u16], row: &mut [u16], ws: &[u32]) -> Reading
-    requires { ⌜ Charting (now tables) (now note) (now ws) ⌝ }
+    requires { ⌜ Given (now tables) (now note) (now ws) ⌝ }
     ensures { λ r. ⌜ answered r (now (row .exit)) ≡ clear 10 (wrongPlace (grammarIn (now (tables .entry))) (now (note .entry))) (now (row .entry)) ⌝ }
 {
     clear_from(row, 0);
-    let wrong = reach::wrong_place(tables, note, ws, grammar::size(tables));
+    let wrong = reach::wrong_place(tables, note, ws);
     Reading::NoSentence(wrong)
 }
 
@@ -58,7 +59,7 @@ pub fn finish(
     ws: &[u32],
     outcome: Outcome,
 ) -> Reading
-    requires { ⌜ Charting (now tables) (now note) (now ws) × Counted outcome (now row) ⌝ }
+    requires { ⌜ Given (now tables) (now note) (now ws) × Counted outcome (now row) ⌝ }
     ensures { λ r. ⌜ answered r (now (row .exit))
         ≡ onOutcome (grammarIn (now (tables .entry))) (now (note .entry)) (now (row .entry)) (outcomeIn outcome (now (row .entry))) ⌝ }
 {

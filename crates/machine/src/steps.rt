@@ -10,7 +10,7 @@ ghost use Rattle.grammar.specs.Tables.{grammarIn, nonterminalsIn};
 ghost use Rattle.derivation.specs.Runs.{marked};
 ghost use Rattle.derivation.specs.Space.{maxTokens, frameWords, returnsOf};
 ghost use Rattle.derivation.specs.Ready.{Ready};
-ghost use Rattle.chart.specs.Chart.{LentAt};
+ghost use Rattle.cells.specs.Chart.{LentAt};
 ghost use Rattle.machine.specs.Frames.{Serving};
 ghost use Rattle.machine.specs.Choice.{lowestIn};
 ghost use Rattle.machine.specs.Space.{Named, Roomy, pushIf, ground, Spaced};
@@ -136,7 +136,7 @@ fn ahead(tables: &[u16], note: &[u16], ws: &[u32], space: Space, at: At, a: usiz
     if at.depth == 0 {
         return Positions::empty().with(n);
     }
-    let ends = chart::ends_of(tables, ws, space.places, a, at.position);
+    let ends = cells::ends_of(tables, ws, a, at.position);
     let rest = crate::frames::rest(ws, space.base, at.depth - 1);
     crate::choice::serving(ws, space.places, n, ends, at.place, rest)
 }

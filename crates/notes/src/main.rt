@@ -5,18 +5,22 @@ use libc::STDOUT_FILENO;
 use lines::Line;
 ghost use Prim.Native.Nat.{_≤_};
 ghost use lib.ListN.{length};
+ghost use Rattle.lines.specs.Line.{maxKept};
 
-// The entries of a row.
-const ROW_ENTRIES: usize = 16;
+// The entries of a row: by G1 a note has as many as tokens.
+const ROW_ENTRIES: usize = lines::MAX_TOKENS;
 
 // The words of the cache: it has six slots.
 const CACHE_WORDS: usize = 3968;
 
-// The words that refusal 11 asks for: G1 has 10 places and a line at most 16 tokens, so 8,192 + 8 × 10 × 17.
-const SPACE_WORDS: usize = 9552;
-
 // Grammar G1: tokens 1 and 2; nonterminal 0 is [1] or [1, less], nonterminal 1 is [grade] or [grade, less].
 const G1: [u8; 14] = [2, 2, 2, 1, 3, 2, 3, 4, 2, 1, 2, 2, 2, 4];
+
+// The places of G1.
+const G1_PLACES: usize = 10;
+
+// The words that refusal 11 asks for.
+const SPACE_WORDS: usize = 8192 + 8 * (G1_PLACES * (lines::MAX_TOKENS + 1));
 
 // Writes a blank and a number.
 fn write_number(n: u64) {
@@ -69,8 +73,8 @@ fn answer(line: &[u8], cache: &mut [u32], space: &mut [u32]) {
 
 // One byte more: a line that it ends is answered, and answers how many bytes are kept of the line that is open then.
 fn step(byte: u8, line: &mut [u8], kept: usize, cache: &mut [u32], space: &mut [u32]) -> usize
-    requires { ⌜ (kept ≤ 96) × (96 ≤ length (now line)) ⌝ }
-    ensures { λ r. ⌜ r ≤ 96 ⌝ }
+    requires { ⌜ (kept ≤ maxKept) × (maxKept ≤ length (now line)) ⌝ }
+    ensures { λ r. ⌜ r ≤ maxKept ⌝ }
 {
     if byte != 10 {
         return lines::keep(line, kept, byte);
@@ -81,8 +85,8 @@ fn step(byte: u8, line: &mut [u8], kept: usize, cache: &mut [u32], space: &mut [
 
 // The bytes of one reading of the input.
 fn feed(bytes: &[u8], line: &mut [u8], kept: usize, cache: &mut [u32], space: &mut [u32]) -> usize
-    requires { ⌜ (kept ≤ 96) × (96 ≤ length (now line)) ⌝ }
-    ensures { λ r. ⌜ r ≤ 96 ⌝ }
+    requires { ⌜ (kept ≤ maxKept) × (maxKept ≤ length (now line)) ⌝ }
+    ensures { λ r. ⌜ r ≤ maxKept ⌝ }
 {
     let n = bytes.len();
     let mut k = kept;

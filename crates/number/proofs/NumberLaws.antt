@@ -1,7 +1,7 @@
 -- `numberAt` and the tests of a number by cases, as the code meets them; the join of two groups; what a number that passed is known to be.
 use mathlib.Core.Path.{_≡_, refl, sym, _∙_}
 use mathlib.Core.Bool.{Bool, true, false, cond, _&&_, not}
-use Prim.Native.Nat.{ℕ, _+_, _*_, _/_, _%_, _≤_, _<_}
+use Prim.Native.Nat.{ℕ, suc, _+_, _*_, _/_, _%_, _≤_, _<_}
 use mathlib.Core.List.{List}
 use native.Mathlib.Nat.{add-comm}
 use native.Mathlib.Omega.{arith}
@@ -68,7 +68,8 @@ module _ (s : List ℕ) (at : ℕ) where
               )
 
           pub three : {v : ℕ} → at + 1 + 1 < length s → 0 < getD s (at + 1 + 1) 0 → getD s (at + 1 + 1) 0 ≤ 3
-              → v ≡ getD s at 0 % 128 + (getD s (at + 1) 0 % 128 + getD s (at + 1 + 1) 0 * 128) * 128 → Value v (cursor (at + 1 + 1 + 1)) ≡ numberAt s at
+              → v ≡ getD s at 0 % 128 + (getD s (at + 1) 0 % 128 + getD s (at + 1 + 1) 0 * 128) * 128 → Value v (cursor (at + 1 + 1 + 1))
+              ≡ numberAt s at
           unfolding numberAt secondByte thirdByte
           three h2 p q e =
               rw e (simp (
@@ -153,18 +154,20 @@ tested-is ok f (Value w d) {v} {c} e = go (ok w) refl
     go false q = let z : Refused f ≡ Value v c = rw q at e in clash (cc)
 tested-is ok f (Refused r) e = clash (cc)
 
-pub limited-is : (s : List ℕ) (lo hi at : ℕ) {n : Read} {v : ℕ} {c : Cursor} → n ≡ limitedAt s lo hi at → n ≡ Value v c → (lo ≤ v) × (v ≤ hi)
+pub limited-is : (s : List ℕ) (lo hi at : ℕ) {n : Read} {v : ℕ} {c : Cursor} → n ≡ limitedAt s lo hi at → n ≡ Value v c → (lo ≤ v)
+    × (v ≤ hi)
 unfolding limitedAt
 limited-is s lo hi at {n} {v} {c} e h =
-    let t = and-T (leb lo v) (leb v hi) (true→T (leb lo v && leb v hi) (tested-is (λ v. leb lo v && leb v hi) (OverLimit at) (numberAt s at) (sym e ∙ h))) in
+    let t = and-T (leb lo v) (leb v hi)
+    (true→T (leb lo v && leb v hi) (tested-is (λ v. leb lo v && leb v hi) (OverLimit at) (numberAt s at) (sym e ∙ h))) in
     (leb→le lo v (t .0), leb→le v hi (t .1))
 
--- a legal symbol's number, the kinds and nonterminals being within limits
-legal-low : (t n v : ℕ) → legal t n v ≡ true → t ≤ 100 → n ≤ 32 → v < 255
+-- a legal symbol's number is below m, if those of the highest token and of the highest nonterminal are
+legal-low : (t n v m : ℕ) → legal t n v ≡ true → 2 * suc t ≤ m → 2 * n ≤ m → v < m
 unfolding legal
-legal-low t n v h kt kn = go (eqb (v % 2) 0) h
+legal-low t n v m h kt kn = go (eqb (v % 2) 0) h
   where
-    go : (b : Bool) → cond b (leb 1 (v / 2) && leb (v / 2) t) (ltb (v / 2) n) ≡ true → v < 255
+    go : (b : Bool) → cond b (leb 1 (v / 2) && leb (v / 2) t) (ltb (v / 2) n) ≡ true → v < m
     go true q = let l = leb→le (v / 2) t (and-T (leb 1 (v / 2)) (leb (v / 2) t) (true→T (leb 1 (v / 2) && leb (v / 2) t) q) .1) in omega arith
     go false q = let l = ltb→lt (v / 2) n (true→T (ltb (v / 2) n) q) in omega arith
 
@@ -172,5 +175,6 @@ pub symbol-legal : (s : List ℕ) (t n at : ℕ) {x : Read} {v : ℕ} {c : Curso
 unfolding symbolAt
 symbol-legal s t n at e h = tested-is (legal t n) (UnknownSymbol at) (numberAt s at) (sym e ∙ h)
 
-pub symbol-low : (s : List ℕ) (t n at : ℕ) {x : Read} {v : ℕ} {c : Cursor} → t ≤ 100 → n ≤ 32 → x ≡ symbolAt s t n at → x ≡ Value v c → v < 255
-symbol-low s t n at {x} {v} kt kn e h = legal-low t n v (symbol-legal s t n at e h) kt kn
+pub symbol-low : (s : List ℕ) (t n at : ℕ) {x : Read} {v : ℕ} {c : Cursor} (m : ℕ) → 2 * suc t ≤ m → 2 * n ≤ m → x ≡ symbolAt s t n at
+    → x ≡ Value v c → v < m
+symbol-low s t n at {x} {v} m kt kn e h = legal-low t n v m (symbol-legal s t n at e h) kt kn

@@ -37,7 +37,8 @@ module _ (pre : List ℕ) where
   at-2 : (x y z : ℕ) (r : List ℕ) → getD (pre ++ (x ∷ y ∷ z ∷ r)) (length pre + 1 + 1) 0 ≡ z
   at-2 x y z r = let e : length pre + 1 + 1 ≡ length pre + 2 = omega arith in rw e (getD-append-add pre (x ∷ y ∷ z ∷ r) 2 0)
 
-  pub reads-shortest : (v : ℕ) (rest : List ℕ) → v ≤ maxNumber → numberAt (pre ++ (shortest v ++ rest)) (length pre) ≡ Value v (cursor (length pre + length (shortest v)))
+  pub reads-shortest : (v : ℕ) (rest : List ℕ) → v ≤ maxNumber → numberAt (pre ++ (shortest v ++ rest)) (length pre)
+      ≡ Value v (cursor (length pre + length (shortest v)))
   reads-shortest v rest h = go (decLt v 128) (decLt v 16384)
     where
       short : v < 128 → numberAt (pre ++ (shortest v ++ rest)) (length pre) ≡ Value v (cursor (length pre + length (shortest v)))
@@ -124,7 +125,8 @@ module _ (s : List ℕ) (bytes : (i : ℕ) → getD s i 0 < 256) (at : ℕ) {v :
       let p : v < 128 = omega (arith, q .0) in
       (omega arith, rw (shortest-one v p, q .0, q .1) (tail at h))
 
-  on-last : at < length s → 128 ≤ low → at + 1 < length s → 128 ≤ middle → Dec (length s ≤ at + 1 + 1) → Dec (0 < last) → Dec (last ≤ 3) → Spelled
+  on-last : at < length s → 128 ≤ low → at + 1 < length s → 128 ≤ middle → Dec (length s ≤ at + 1 + 1) → Dec (0 < last) → Dec (last ≤ 3)
+      → Spelled
   on-last h b d f (yes g) z k = let q = cut2 s at h b d f g in clash (cc)
   on-last h b d f (no g) (no z) k = let q = long2 s at h b d f (omega arith) (omega arith) in clash (cc)
   on-last h b d f (no g) (yes z) (no k) = let q = high s at h b d f (omega arith) (omega arith) in clash (cc)

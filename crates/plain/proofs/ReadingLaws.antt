@@ -12,9 +12,10 @@ use Rattle.gate.specs.Passing.{gateIn, Admitted, Gated}
 use Rattle.gate.specs.declared.reading.Reading.{Reading}
 use Rattle.gate.specs.declared.passing.Gate.{Gate}
 use Rattle.gate.specs.declared.passing.Gate.the-variants.{Passed, Shut}
-use Rattle.chart.specs.Chart.{Lent, Filled}
-use Rattle.chart.proofs.Spots.{lent-kept}
-use Rattle.machine.specs.Ending.{Charting, outcomeIn}
+use Rattle.cells.specs.Chart.{Lent, Filled}
+use Rattle.cells.proofs.Spots.{lent-kept}
+use Rattle.reach.specs.Passes.{Given}
+use Rattle.machine.specs.Ending.{outcomeIn}
 use Rattle.machine.specs.declared.ending.Outcome.{Outcome}
 use Rattle.machine.proofs.EndingLaws.{outcome-length}
 use Rattle.plain.specs.Run.{PlainRan}
@@ -25,12 +26,12 @@ module _ (t w : List ℕ) {ws : List ℕ} (h : Admitted t w (length ws)) where
   lent = record { short = h .short; room = h .room }
 
   -- the cells are worked out
-  pub charting : {after : List ℕ} → Filled t w ws after → Charting t w after
+  pub charting : {after : List ℕ} → Filled t w ws after → Given t w after
   charting x = record { ready = h .ready; lent = lent-kept (x .kept) lent; charted = x .charted }
 
   -- and stand when the machine stops
   pub charting-still : {row after row′ ws′ : List ℕ} {r : Outcome} → Filled t w ws after → PlainRan t w row after r row′ ws′
-      → Charting t w ws′
+      → Given t w ws′
   charting-still x y = record { ready = h .ready; lent = lent-kept (y .ran .space-kept ∙ x .kept) lent; charted = y .charted }
 
 pub read-is : (t w row ws : List ℕ) {o : Outcome} {row′ ws′ : List ℕ} {x : Answer} → PlainRan t w row ws o row′ ws′

@@ -11,13 +11,13 @@ use Rattle.derivation.specs.Runs.{marked}
 use Rattle.derivation.specs.Machine.{plainly, lowest}
 use Rattle.derivation.specs.Space.{frameWords, returnsOf}
 use Rattle.derivation.proofs.FrameWords.{pushed-returns}
-use Rattle.chart.specs.Chart.{Lent, Charted}
-use Rattle.chart.proofs.Spots.{lent-kept}
+use Rattle.cells.specs.Chart.{Lent, Charted}
+use Rattle.cells.proofs.Spots.{lent-kept}
 use Rattle.machine.specs.Frames.{EveryFrame}
 use Rattle.machine.specs.Space.{Named, ground, opened, Spaced}
 use Rattle.machine.specs.Moves.{Entered}
 use Rattle.machine.specs.Waits.{Waits, Calling, Called}
-use Rattle.machine.specs.Ending.{Charting}
+use Rattle.reach.specs.Passes.{Given}
 use Rattle.machine.specs.Going.{Going}
 use Rattle.machine.specs.declared.steps.At.{At}
 use Rattle.machine.specs.declared.steps.Space.{Space}
@@ -40,7 +40,7 @@ pub record Turning (t w row₀ ws₀ row ws : List ℕ) (count : ℕ) (at : At) 
   pub space-kept : length ws ≡ length ws₀
 
 -- a reading begins with nonterminal 0 over the end place
-pub turning-begins : (t w row ws : List ℕ) → Charting t w ws → Turning t w row ws row ws 0 (record { place = 255; position = 0; depth = 0 }) 0
+pub turning-begins : (t w row ws : List ℕ) → Given t w ws → Turning t w row ws row ws 0 (record { place = 255; position = 0; depth = 0 }) 0
 unfolding returnsOf
 turning-begins t w row ws h =
     record {
@@ -51,7 +51,7 @@ turning-begins t w row ws h =
       space-kept = refl;
     }
 
-module _ (t w row₀ ws₀ : List ℕ) (h : Charting t w ws₀) {row ws : List ℕ} {count : ℕ} {at : At} {a : ℕ}
+module _ (t w row₀ ws₀ : List ℕ) (h : Given t w ws₀) {row ws : List ℕ} {count : ℕ} {at : At} {a : ℕ}
     (x : Turning t w row₀ ws₀ row ws count at a) where
   lent : Lent (grammarIn t .size) (length w) ws
   lent = lent-kept (x .space-kept) (h .lent)

@@ -5,7 +5,7 @@ use lib.ListN.{length}
 use Rattle.grammar.specs.Tables.{grammarIn}
 use Rattle.derivation.specs.Runs.{marked}
 use Rattle.derivation.specs.Machine.{plainly, Ended, reading}
-use Rattle.chart.specs.Chart.{Charted}
+use Rattle.cells.specs.Chart.{Charted}
 use Rattle.machine.specs.Going.{Ran}
 use Rattle.machine.specs.declared.ending.Outcome.{Outcome}
 

@@ -10,12 +10,12 @@ ghost use Rattle.grammar.specs.Tables.{grammarIn};
 ghost use Rattle.derivation.specs.Plain.{readNote, plainReading};
 ghost use Rattle.gate.specs.Reading.{answered};
 ghost use Rattle.gate.specs.Passing.{Admitted};
-ghost use Rattle.machine.specs.Ending.{Charting};
+ghost use Rattle.reach.specs.Passes.{Given};
 ghost use Rattle.plain.specs.Run.{PlainRan};
 
 // The machine from nonterminal 0 over the end place on: at each nonterminal the lowest alternative that serves.
 fn run(tables: &[u16], note: &[u16], row: &mut [u16], ws: &mut [u32]) -> Outcome
-    requires { ⌜ Charting (now tables) (now note) (now ws) ⌝ }
+    requires { ⌜ Given (now tables) (now note) (now ws) ⌝ }
     ensures { λ r. ⌜ PlainRan (now (tables .entry)) (now (note .entry)) (now (row .entry)) (now (ws .entry)) r (now (row .exit)) (now (ws .exit)) ⌝ }
 {
     let space = machine::space_of(tables, note);
@@ -53,7 +53,7 @@ fn read(tables: &[u16], note: &[u16], row: &mut [u16], ws: &mut [u32]) -> Readin
     requires { ⌜ Admitted (now tables) (now note) (length (now ws)) ⌝ }
     ensures { λ r. ⌜ answered r (now (row .exit)) ≡ readNote (grammarIn (now (tables .entry))) (now (note .entry)) (now (row .entry)) ⌝ }
 {
-    chart::fill(tables, note, ws, grammar::size(tables));
+    chart::fill(tables, note, ws);
     let outcome = run(tables, note, row, ws);
     machine::finish(tables, note, row, ws, outcome)
 }

@@ -61,7 +61,8 @@ put-set : (ws : List ℕ) (at : ℕ) → putAt ws at (setAt ws at) ≡ ws
 unfolding putAt
 put-set ws at = ap (λ (l : List ℕ). sets ws at l) (five-set ws at ∙ set-read ws at) ∙ sets-read ws at 5
 
-total-put : (ws : List ℕ) (at : ℕ) (s : List ℕ) → at + setWords ≤ length ws → total (putAt ws at s) + total (setAt ws at) ≡ total ws + total (five s)
+total-put : (ws : List ℕ) (at : ℕ) (s : List ℕ) → at + setWords ≤ length ws → total (putAt ws at s) + total (setAt ws at)
+    ≡ total ws + total (five s)
 unfolding putAt
 total-put ws at s h = rw (set-read ws at) (total-sets ws at (five s) h)
 
@@ -71,7 +72,8 @@ xor-zero x y e = omega (arith, xor-add-and x y, and-le-l x y, and-le-r x y)
 
 same-words : (a b : List ℕ) → sameOf a b ≡ true → five a ≡ five b
 unfolding sameOf
-same-words a b t = λ i. word 0 (omega arith) i ∷ word 1 (omega arith) i ∷ word 2 (omega arith) i ∷ word 3 (omega arith) i ∷ word 4 (omega arith) i ∷ []
+same-words a b t = λ i. word 0 (omega arith) i ∷ word 1 (omega arith) i ∷ word 2 (omega arith) i ∷ word 3 (omega arith) i ∷ word 4 (omega arith) i
+    ∷ []
   where
     word : (k : ℕ) → k < setWords → getD a k 0 ≡ getD b k 0
     word k l = xor-zero _ _ (omega (arith, word-le (differing a b) k l, eqb-true (allWords (differing a b)) 0 t))
@@ -104,7 +106,8 @@ module _ (a b : List ℕ) where
       go (no l) = absurd (true≢false (sym (stays (omega arith)) ∙ n))
 
 -- ---- the two ways out of a join
-module _ (ws : List ℕ) (at : ℕ) (s : List ℕ) {old new : List ℕ} {r : Bool} (e : old ≡ setAt ws at) (f : new ≡ unionOf old s) (q : r ≡ sameOf new old) where
+module _ (ws : List ℕ) (at : ℕ) (s : List ℕ) {old new : List ℕ} {r : Bool} (e : old ≡ setAt ws at) (f : new ≡ unionOf old s)
+    (q : r ≡ sameOf new old) where
   told : r ≡ sameOf (unionOf (setAt ws at) s) (setAt ws at)
   told = rw (f, e) at q
 

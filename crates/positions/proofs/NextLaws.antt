@@ -8,7 +8,7 @@ use native.Mathlib.Omega.{arith}
 use native.Mathlib.Decide.{decLt}
 use lib.ListN.{getD}
 use lib.Count.{trailingZeros}
-use Rattle.base.specs.Bits.{testBit}
+use Rattle.base.specs.Bits.{wordBits, testBit}
 use Rattle.base.proofs.Bits.{test-shr, test-none, test-high, trailing-none, trailing-found}
 use Rattle.positions.specs.Positions.{positionCount, setWords, member, FromBit, NextOf}
 
@@ -17,7 +17,7 @@ module _ (x k : ℕ) where
   shifted : (m : ℕ) → k ≤ m → testBit x m ≡ testBit (x / 2 ^ k) (m - k)
   shifted m h = let e : m ≡ k + (m - k) = omega arith in ap (λ (z : ℕ). testBit x z) e ∙ sym (test-shr x k (m - k))
 
-  pub from-none : x / 2 ^ k ≡ 0 → FromBit x k 32
+  pub from-none : x / 2 ^ k ≡ 0 → FromBit x k wordBits
   from-none e =
       record {
         most = omega arith;
@@ -26,19 +26,19 @@ module _ (x k : ℕ) where
         none = λ m a b. shifted m a ∙ ap (λ (z : ℕ). testBit z (m - k)) e ∙ test-none (m - k);
       }
 
-  pub from-some : {t : ℕ} → x < 2 ^ 32 → (x / 2 ^ k ≡ 0 → ⊥) → t ≡ trailingZeros 32 (x / 2 ^ k) → FromBit x k (k + t)
+  pub from-some : {t : ℕ} → x < 2 ^ wordBits → (x / 2 ^ k ≡ 0 → ⊥) → t ≡ trailingZeros wordBits (x / 2 ^ k) → FromBit x k (k + t)
   from-some {t} w n e =
       record {
-        most = omega (arith, low (decLt (k + t) 32));
+        most = omega (arith, low (decLt (k + t) wordBits));
         above = λ _. omega arith;
         found = λ _. here;
-        none = λ m a b. shifted m a ∙ trailing-none 32 (x / 2 ^ k) (m - k) (omega arith);
+        none = λ m a b. shifted m a ∙ trailing-none wordBits (x / 2 ^ k) (m - k) (omega arith);
       }
     where
       here : testBit x (k + t) ≡ true
-      here = sym (test-shr x k t) ∙ (rw e (trailing-found 32 (x / 2 ^ k) (omega arith) (omega (arith, div-le-self x (2 ^ k)))))
+      here = sym (test-shr x k t) ∙ (rw e (trailing-found wordBits (x / 2 ^ k) (omega arith) (omega (arith, div-le-self x (2 ^ k)))))
 
-      low : Dec (k + t < 32) → k + t < 32
+      low : Dec (k + t < wordBits) → k + t < wordBits
       low (yes l) = l
       low (no l) = absurd (true≢false (sym here ∙ test-high x (k + t) w (omega arith)))
 
@@ -60,23 +60,23 @@ all-clear s from v h c =
 pub none-left : (s : List ℕ) (from : ℕ) → positionCount ≤ from → NextOf s from positionCount
 none-left s from h = all-clear s from from h (clear-none s from from (omega arith))
 
-module _ (s : List ℕ) (from v k r : ℕ) (c : Clear s from (v * 32 + k)) (b : FromBit (getD s v 0) k r) where
-  upto : Clear s from (v * 32 + r)
+module _ (s : List ℕ) (from v k r : ℕ) (c : Clear s from (v * wordBits + k)) (b : FromBit (getD s v 0) k r) where
+  upto : Clear s from (v * wordBits + r)
   unfolding Clear member
-  upto m a e = go (decLt m (v * 32 + k))
+  upto m a e = go (decLt m (v * wordBits + k))
     where
-      go : Dec (m < v * 32 + k) → member s m ≡ false
+      go : Dec (m < v * wordBits + k) → member s m ≡ false
       go (yes l) = c m a l
-      go (no l) = let most = b .most in let q : m / 32 ≡ v = omega arith in rw q (b .none (m % 32) (omega arith) (omega arith))
+      go (no l) = let most = b .most in let q : m / wordBits ≡ v = omega arith in rw q (b .none (m % wordBits) (omega arith) (omega arith))
 
-  pub word-found : from ≤ v * 32 + k → v < setWords → r < 32 → NextOf s from (v * 32 + r)
+  pub word-found : from ≤ v * wordBits + k → v < setWords → r < wordBits → NextOf s from (v * wordBits + r)
   unfolding Clear member
   word-found l h g =
-      let d : (v * 32 + r) / 32 ≡ v = omega arith in
-      let m : (v * 32 + r) % 32 ≡ r = omega arith in
+      let d : (v * wordBits + r) / wordBits ≡ v = omega arith in
+      let m : (v * wordBits + r) % wordBits ≡ r = omega arith in
       let a = b .above g in
       record { most = omega arith; above = λ _. omega arith; found = λ _. rw (d, m) (b .found g); none = upto }
 
-  pub word-clear : 32 ≤ r → Clear s from ((v + 1) * 32 + 0)
+  pub word-clear : wordBits ≤ r → Clear s from ((v + 1) * wordBits + 0)
   unfolding Clear
   word-clear g m a e = upto m a (let most = b .most in omega arith)

@@ -12,14 +12,15 @@ use lib.Bits.{bitOr, bitXor, and-le-l, or-lt}
 use lib.Count.{trailingZeros}
 use lib.Dec.{T, eqb}
 use borrow.Author.Tests.{ne-eqb, eqb-false, not-true, not-false}
-use Rattle.base.specs.Bits.{testBit}
-use Rattle.base.proofs.Bits.{same?, eqb-iff, test-or, test-and, test-set, test-none, test-high, or-ge, or-ge-r, or-pos, set-fits, trailing-found, test-opposite}
+use Rattle.base.specs.Bits.{wordBits, testBit}
+use Rattle.base.proofs.Bits.{same?, eqb-iff, test-or, test-and, test-set, test-none, test-high, or-ge, or-ge-r, or-pos, set-fits, trailing-found}
+use Rattle.base.proofs.Bits.{test-opposite}
 use Rattle.base.proofs.Booleans.{T→true, true→T, and-T, T-and, or-none}
 use Rattle.positions.specs.Positions.{positionCount, setWords, emptySet, member, withOf, unionOf, meetsOf, allWords, common, oppositeOf, Full, NextOf}
 
--- every word of s has 32 bits
+-- every word of s has wordBits bits
 abbrev pub Fit : List ℕ → Type 0
-Fit s = (k : ℕ) → getD s k 0 < 2 ^ 32
+Fit s = (k : ℕ) → getD s k 0 < 2 ^ wordBits
 
 -- ---- the empty set
 empty-word : (i : ℕ) → getD emptySet i 0 ≡ 0
@@ -32,22 +33,27 @@ empty-word (suc (suc (suc (suc (suc i))))) = refl
 
 pub member-empty : (j : ℕ) → member emptySet j ≡ false
 unfolding member
-member-empty j = rw (empty-word (j / 32)) (test-none _)
+member-empty j = rw (empty-word (j / wordBits)) (test-none _)
 
 -- ---- one member more
 pub length-with : (s : List ℕ) (k : ℕ) → length (withOf s k) ≡ length s
 unfolding withOf
 length-with s k = length-set s _ _
 
-pub member-with : (s : List ℕ) (k j : ℕ) → k < length s * 32 → member (withOf s k) j ≡ (member s j || eqb j k)
+pub member-with : (s : List ℕ) (k j : ℕ) → k < length s * wordBits → member (withOf s k) j ≡ (member s j || eqb j k)
 unfolding member withOf
-member-with s k j h = ⊎-elim here there (same? (j / 32) (k / 32))
+member-with s k j h = ⊎-elim here there (same? (j / wordBits) (k / wordBits))
   where
-    there : (j / 32 ≡ k / 32 → ⊥) → member (withOf s k) j ≡ (member s j || eqb j k)
-    there ne = rw (getD-set-other s (k / 32) (j / 32) _ 0 ne, ne-eqb j k (λ e. ne (ap (λ (x : ℕ). x / 32) e))) (sym (or-none _))
+    there : (j / wordBits ≡ k / wordBits → ⊥) → member (withOf s k) j ≡ (member s j || eqb j k)
+    there ne = rw (getD-set-other s (k / wordBits) (j / wordBits) _ 0 ne, ne-eqb j k (λ e. ne (ap (λ (x : ℕ). x / wordBits) e))) (sym (or-none _))
 
-    here : j / 32 ≡ k / 32 → member (withOf s k) j ≡ (member s j || eqb j k)
-    here e = rw (e, getD-set-same s (k / 32) _ 0 (omega arith), test-set, eqb-iff (j % 32) (k % 32) j k (λ f. omega arith) (λ f. omega arith))
+    here : j / wordBits ≡ k / wordBits → member (withOf s k) j ≡ (member s j || eqb j k)
+    here e = rw (
+      e,
+      getD-set-same s (k / wordBits) _ 0 (omega arith),
+      test-set,
+      eqb-iff (j % wordBits) (k % wordBits) j k (λ f. omega arith) (λ f. omega arith),
+    )
 
 -- ---- unions
 pub length-union : (a b : List ℕ) → length (unionOf a b) ≡ 5
@@ -65,15 +71,15 @@ union-word a b (suc (suc (suc (suc (suc i))))) h = absurd (omega arith)
 
 pub member-union : (a b : List ℕ) (j : ℕ) → j < positionCount → member (unionOf a b) j ≡ (member a j || member b j)
 unfolding member
-member-union a b j h = rw (union-word a b (j / 32) (omega arith)) (test-or _ _ _)
+member-union a b j h = rw (union-word a b (j / wordBits) (omega arith)) (test-or _ _ _)
 
 -- ---- meeting
--- bit k of word i is position i * 32 + k
-at-word : (s : List ℕ) (i k : ℕ) → k < 32 → T (testBit (getD s i 0) k) → T (member s (i * 32 + k))
+-- bit k of word i is position i * wordBits + k
+at-word : (s : List ℕ) (i k : ℕ) → k < wordBits → T (testBit (getD s i 0) k) → T (member s (i * wordBits + k))
 unfolding member
 at-word s i k h t =
-    let d : (i * 32 + k) / 32 ≡ i = omega arith in
-    let m : (i * 32 + k) % 32 ≡ k = omega arith in
+    let d : (i * wordBits + k) / wordBits ≡ i = omega arith in
+    let m : (i * wordBits + k) % wordBits ≡ k = omega arith in
     rw (d, m) t
 
 -- the bits of all five words, and the words
@@ -138,35 +144,36 @@ module _ (a b : List ℕ) where
   met : Fit a → Held (common a b) → Met
   met w (i, l, h) =
       let x = common a b i in
-      let k = trailingZeros 32 x in
-      let f : x < 2 ^ 32 = omega (arith, w i, and-le-l (getD a i 0) (getD b i 0)) in
-      let t : T (testBit x k) = true→T _ (trailing-found 32 x h f) in
+      let k = trailingZeros wordBits x in
+      let f : x < 2 ^ wordBits = omega (arith, w i, and-le-l (getD a i 0) (getD b i 0)) in
+      let t : T (testBit x k) = true→T _ (trailing-found wordBits x h f) in
       let u : T (testBit (getD a i 0) k) × T (testBit (getD b i 0) k) = and-T (testBit (getD a i 0) k) (testBit (getD b i 0) k) (rw test-and at t) in
-      low (decLt k 32) u
+      low (decLt k wordBits) u
     where
-      low : {k : ℕ} → Dec (k < 32) → T (testBit (getD a i 0) k) × T (testBit (getD b i 0) k) → Met
-      low {k} (yes m) u = (i * 32 + k, omega arith, at-word a i k m (u .0), at-word b i k m (u .1))
+      low : {k : ℕ} → Dec (k < wordBits) → T (testBit (getD a i 0) k) × T (testBit (getD b i 0) k) → Met
+      low {k} (yes m) u = (i * wordBits + k, omega arith, at-word a i k m (u .0), at-word b i k m (u .1))
       low {k} (no m) u = absurd (rw (test-high (getD a i 0) k (w i) (omega arith)) at (u .0))
 
-  -- sets that meet share a member; the words must have 32 bits, for a higher bit is no position
+  -- sets that meet share a member; the words must have wordBits bits, for a higher bit is no position
   pub meets-out : Fit a → T (meetsOf a b) → (j : ℕ) × (j < positionCount) × T (member a j) × T (member b j)
   unfolding meetsOf
-  meets-out w t = met w (word-held (common a b) (⊎-elim (λ z. absurd (eqb-false _ 0 (not-true _ (T→true _ t)) z)) (λ n. omega arith) (same? (allWords (common a b)) 0)))
+  meets-out w t = met w (word-held (common a b)
+      (⊎-elim (λ z. absurd (eqb-false _ 0 (not-true _ (T→true _ t)) z)) (λ n. omega arith) (same? (allWords (common a b)) 0)))
 
   pub meets-in : (j : ℕ) → j < positionCount → T (member a j) → T (member b j) → T (meetsOf a b)
   unfolding member meetsOf
   meets-in j l s t =
-      let i = j / 32 in
-      let k = j % 32 in
+      let i = j / wordBits in
+      let k = j % wordBits in
       let u : T (testBit (common a b i) k) = rw test-and (T-and (member a j) (member b j) s t) in
       let n : common a b i ≡ 0 → ⊥ = λ z. absurd (rw (z, test-none k) at u) in
       rw (ne-eqb (allWords (common a b)) 0 (λ z. n (omega (arith, word-le (common a b) i (omega arith))))) tt
 
--- ---- the words of sets have 32 bits
+-- ---- the words of sets have wordBits bits
 pub fit-empty : Fit emptySet
 fit-empty k = omega (arith, empty-word k)
 
-pub fit-store : (s : List ℕ) (i v : ℕ) → v < 2 ^ 32 → Fit s → Fit (set s i v)
+pub fit-store : (s : List ℕ) (i v : ℕ) → v < 2 ^ wordBits → Fit s → Fit (set s i v)
 fit-store [] i v l h k = h k
 fit-store (x ∷ s) zero v l h zero = l
 fit-store (x ∷ s) zero v l h (suc k) = h (suc k)
@@ -175,19 +182,19 @@ fit-store (x ∷ s) (suc i) v l h (suc k) = fit-store s i v l (λ k. h (suc k)) 
 
 pub fit-with : (s : List ℕ) (j : ℕ) → Fit s → Fit (withOf s j)
 unfolding withOf
-fit-with s j h = fit-store s (j / 32) _ (set-fits _ _ (h (j / 32)) (omega arith)) h
+fit-with s j h = fit-store s (j / wordBits) _ (set-fits _ _ (h (j / wordBits)) (omega arith)) h
 
 pub fit-union : (a b : List ℕ) → Fit a → Fit b → Fit (unionOf a b)
 unfolding unionOf
-fit-union a b f g zero = or-lt 32 _ _ (f 0) (g 0)
-fit-union a b f g (suc zero) = or-lt 32 _ _ (f 1) (g 1)
-fit-union a b f g (suc (suc zero)) = or-lt 32 _ _ (f 2) (g 2)
-fit-union a b f g (suc (suc (suc zero))) = or-lt 32 _ _ (f 3) (g 3)
-fit-union a b f g (suc (suc (suc (suc zero)))) = or-lt 32 _ _ (f 4) (g 4)
+fit-union a b f g zero = or-lt wordBits _ _ (f 0) (g 0)
+fit-union a b f g (suc zero) = or-lt wordBits _ _ (f 1) (g 1)
+fit-union a b f g (suc (suc zero)) = or-lt wordBits _ _ (f 2) (g 2)
+fit-union a b f g (suc (suc (suc zero))) = or-lt wordBits _ _ (f 3) (g 3)
+fit-union a b f g (suc (suc (suc (suc zero)))) = or-lt wordBits _ _ (f 4) (g 4)
 fit-union a b f g (suc (suc (suc (suc (suc k))))) = omega arith
 
 -- ---- what a set does not hold
-opposite-word : (s : List ℕ) (i : ℕ) → i < setWords → getD (oppositeOf s) i 0 ≡ bitXor (getD s i 0) (2 ^ 32 - 1)
+opposite-word : (s : List ℕ) (i : ℕ) → i < setWords → getD (oppositeOf s) i 0 ≡ bitXor (getD s i 0) (2 ^ wordBits - 1)
 unfolding oppositeOf
 opposite-word s zero l = refl
 opposite-word s (suc zero) l = refl
@@ -198,8 +205,13 @@ opposite-word s (suc (suc (suc (suc (suc i))))) l = absurd (omega arith)
 
 pub member-opposite : (s : List ℕ) (j : ℕ) → j < positionCount → member (oppositeOf s) j ≡ not (member s j)
 unfolding member
-member-opposite s j l = ap (λ (x : ℕ). testBit x (j % 32)) (opposite-word s (j / 32) (omega arith)) ∙ test-opposite (getD s (j / 32) 0) (j % 32) (omega arith)
+member-opposite s j l = ap (λ (x : ℕ). testBit x (j % wordBits)) (opposite-word s (j / wordBits) (omega arith))
+    ∙ test-opposite (getD s (j / wordBits) 0) (j % wordBits) (omega arith)
 
 -- what stands before the first position that is missing is held
-pub full-is : (s c : List ℕ) (from n m : ℕ) {r : Bool} → n < positionCount → c ≡ oppositeOf s → NextOf c from m → (r ≡ true → n < m) → Full r s from n
-full-is s c from n m h e x t = record { all = λ q k a b. not-false (member s k) (sym (member-opposite s k (omega arith)) ∙ (ap (λ (l : List ℕ). member l k) (sym e) ∙ x .none k a (let z = t q in omega arith))) }
+pub full-is : (s c : List ℕ) (from n m : ℕ) {r : Bool} → n < positionCount → c ≡ oppositeOf s → NextOf c from m → (r ≡ true → n < m)
+    → Full r s from n
+full-is s c from n m h e x t = record {
+  all = λ q k a b. not-false (member s k)
+      (sym (member-opposite s k (omega arith)) ∙ (ap (λ (l : List ℕ). member l k) (sym e) ∙ x .none k a (let z = t q in omega arith)));
+}

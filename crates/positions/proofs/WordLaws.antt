@@ -7,6 +7,7 @@ use Prim.Native.Nat.{ℕ, zero, suc, _+_, _*_, _/_, _^_, _≤_, _<_}
 use native.Mathlib.Omega.{arith}
 use lib.ListN.{length, getD, set, length-set}
 use lib.Seq.{sets, length-sets, getD-set-same, getD-set-other}
+use Rattle.base.specs.Bits.{wordBits}
 use Rattle.positions.specs.Positions.{positionCount, setWords, five, member, unionOf}
 use Rattle.positions.specs.Words.{memberAt, setAt, putAt, total, Joined}
 use Rattle.positions.proofs.SetLaws.{Fit, fit-store, member-union}
@@ -18,7 +19,8 @@ sets-out ws at (v ∷ vs) k h =
     sets-out (set ws at v) (suc at) vs k (⊎-elim (λ l. inl (omega arith)) (λ l. inr (omega arith)) h)
     ∙ getD-set-other ws at k v 0 (λ e. ⊎-elim (λ l. omega arith) (λ l. omega arith) h)
 
-sets-in : (ws : List ℕ) (at : ℕ) (vs : List ℕ) (i : ℕ) → at + length vs ≤ length ws → i < length vs → getD (sets ws at vs) (at + i) 0 ≡ getD vs i 0
+sets-in : (ws : List ℕ) (at : ℕ) (vs : List ℕ) (i : ℕ) → at + length vs ≤ length ws → i < length vs → getD (sets ws at vs) (at + i) 0
+    ≡ getD vs i 0
 sets-in ws at [] i h l = absurd (omega arith)
 sets-in ws at (v ∷ vs) zero h l =
     let e : at + 0 ≡ at = omega arith in
@@ -43,7 +45,7 @@ length-at ws at = refl
 
 pub member-set : (ws : List ℕ) (at j : ℕ) → j < positionCount → member (setAt ws at) j ≡ memberAt ws at j
 unfolding member memberAt
-member-set ws at j h = rw (set-word ws at (j / 32) (omega arith))
+member-set ws at j h = rw (set-word ws at (j / wordBits) (omega arith))
 
 -- ---- a set that is put
 five-word : (s : List ℕ) (i : ℕ) → i < setWords → getD (five s) i 0 ≡ getD s i 0
@@ -62,15 +64,17 @@ pub put-word : (ws : List ℕ) (at k : ℕ) (s : List ℕ) → (k < at) ⊎ (at 
 unfolding putAt
 put-word ws at k s h = sets-out ws at (five s) k h
 
-pub put-same : (ws : List ℕ) (at : ℕ) (s : List ℕ) (j : ℕ) → at + setWords ≤ length ws → j < positionCount → memberAt (putAt ws at s) at j ≡ member s j
+pub put-same : (ws : List ℕ) (at : ℕ) (s : List ℕ) (j : ℕ) → at + setWords ≤ length ws → j < positionCount → memberAt (putAt ws at s) at j
+    ≡ member s j
 unfolding memberAt putAt member
-put-same ws at s j h l = rw (sets-in ws at (five s) (j / 32) h (omega arith), five-word s (j / 32) (omega arith))
+put-same ws at s j h l = rw (sets-in ws at (five s) (j / wordBits) h (omega arith), five-word s (j / wordBits) (omega arith))
 
-pub put-other : (ws : List ℕ) (at at′ : ℕ) (s : List ℕ) (j : ℕ) → j < positionCount → (at′ + setWords ≤ at) ⊎ (at + setWords ≤ at′) → memberAt (putAt ws at s) at′ j ≡ memberAt ws at′ j
+pub put-other : (ws : List ℕ) (at at′ : ℕ) (s : List ℕ) (j : ℕ) → j < positionCount → (at′ + setWords ≤ at) ⊎ (at + setWords ≤ at′)
+    → memberAt (putAt ws at s) at′ j ≡ memberAt ws at′ j
 unfolding memberAt
-put-other ws at at′ s j l h = rw (put-word ws at (at′ + j / 32) s (⊎-elim (λ b. inl (omega arith)) (λ b. inr (omega arith)) h))
+put-other ws at at′ s j l h = rw (put-word ws at (at′ + j / wordBits) s (⊎-elim (λ b. inl (omega arith)) (λ b. inr (omega arith)) h))
 
--- ---- words of 32 bits stay such
+-- ---- words of wordBits bits stay such
 fit-sets : (ws : List ℕ) (at : ℕ) (vs : List ℕ) → Fit ws → Fit vs → Fit (sets ws at vs)
 fit-sets ws at [] f g = f
 fit-sets ws at (v ∷ vs) f g = fit-sets (set ws at v) (suc at) vs (fit-store ws at v (g 0) f) (λ k. g (suc k))
@@ -97,7 +101,7 @@ fit-put ws at s f g = fit-sets ws at (five s) f five-fit
     five-fit (suc (suc (suc (suc (suc k))))) = omega arith
 
 -- ---- sums
-pub total-le : (ws : List ℕ) → ((k : ℕ) → getD ws k 0 < 2 ^ 32) → total ws ≤ length ws * 2 ^ 32
+pub total-le : (ws : List ℕ) → ((k : ℕ) → getD ws k 0 < 2 ^ wordBits) → total ws ≤ length ws * 2 ^ wordBits
 unfolding total
 total-le [] h = omega arith
 total-le (x ∷ ws) h = omega (arith, h 0, total-le ws (λ k. h (suc k)))
@@ -118,7 +122,8 @@ module _ {r : Bool} {ws after : List ℕ} {at : ℕ} {s : List ℕ} (h : Joined 
       go true e = omega (arith, h .grown e)
       go false e = omega (arith, ap total (h .same e))
 
-  pub joined-other : (at′ j : ℕ) → j < positionCount → (at′ + setWords ≤ at) ⊎ (at + setWords ≤ at′) → memberAt after at′ j ≡ memberAt ws at′ j
+  pub joined-other : (at′ j : ℕ) → j < positionCount → (at′ + setWords ≤ at) ⊎ (at + setWords ≤ at′) → memberAt after at′ j
+      ≡ memberAt ws at′ j
   joined-other at′ j l d = rw (h .words) (put-other ws at at′ _ j l d)
 
   pub joined-same : (j : ℕ) → j < positionCount → at + setWords ≤ length ws → memberAt after at j ≡ (memberAt ws at j || member s j)

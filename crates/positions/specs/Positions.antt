@@ -1,19 +1,19 @@
--- Sets of positions as words: position j is bit j % 32 of word j / 32.
+-- Sets of positions as words: position j is bit j % wordBits of word j / wordBits.
 use mathlib.Core.Bool.{Bool, true, false, not}
 use mathlib.Core.Path.{_≡_}
 use mathlib.Core.List.{List, [], _∷_}
-use Prim.Native.Nat.{ℕ, _-_, _/_, _%_, _^_, _≤_, _<_}
+use Prim.Native.Nat.{ℕ, _-_, _*_, _/_, _%_, _^_, _≤_, _<_}
 use lib.ListN.{getD, set}
 use lib.Bits.{bitOr, bitAnd, bitXor}
 use lib.Dec.{eqb}
-use Rattle.base.specs.Bits.{testBit, setBit}
+use Rattle.base.specs.Bits.{wordBits, testBit, setBit}
 
--- positions that a set can hold, and the words that hold them
-abbrev pub positionCount : ℕ
-positionCount = 160
-
+-- the words of a set, and the positions that they can hold
 abbrev pub setWords : ℕ
 setWords = 5
+
+abbrev pub positionCount : ℕ
+positionCount = setWords * wordBits
 
 -- the first five of any words
 abbrev pub five : List ℕ → List ℕ
@@ -21,7 +21,7 @@ five s = getD s 0 0 ∷ getD s 1 0 ∷ getD s 2 0 ∷ getD s 3 0 ∷ getD s 4 0 
 
 -- j is a member
 unfoldable pub member : List ℕ → ℕ → Bool
-member s j = testBit (getD s (j / 32) 0) (j % 32)
+member s j = testBit (getD s (j / wordBits) 0) (j % wordBits)
 
 -- no member
 abbrev pub emptySet : List ℕ
@@ -29,7 +29,7 @@ emptySet = 0 ∷ 0 ∷ 0 ∷ 0 ∷ 0 ∷ []
 
 -- the set with the member j
 unfoldable pub withOf : List ℕ → ℕ → List ℕ
-withOf s j = set s (j / 32) (setBit (getD s (j / 32) 0) (j % 32))
+withOf s j = set s (j / wordBits) (setBit (getD s (j / wordBits) 0) (j % wordBits))
 
 -- what is in one of two sets or in both
 unfoldable pub unionOf : List ℕ → List ℕ → List ℕ
@@ -59,11 +59,11 @@ meetsOf a b = not (eqb (allWords (common a b)) 0)
 unfoldable pub sameOf : List ℕ → List ℕ → Bool
 sameOf a b = eqb (allWords (differing a b)) 0
 
--- r is the lowest bit of the word x from k on, or 32 if there is none
+-- r is the lowest bit of the word x from k on, or wordBits if there is none
 pub record FromBit (x k r : ℕ) : Type 0 where
-  pub most : r ≤ 32
-  pub above : r < 32 → k ≤ r
-  pub found : r < 32 → testBit x r ≡ true
+  pub most : r ≤ wordBits
+  pub above : r < wordBits → k ≤ r
+  pub found : r < wordBits → testBit x r ≡ true
   pub none : (m : ℕ) → k ≤ m → m < r → testBit x m ≡ false
 
 -- r is the least member from `from` on, or positionCount if there is none
@@ -76,11 +76,11 @@ pub record NextOf (s : List ℕ) (from r : ℕ) : Type 0 where
 -- the positions that a set does not hold
 unfoldable pub oppositeOf : List ℕ → List ℕ
 oppositeOf s =
-    bitXor (getD s 0 0) (2 ^ 32 - 1) ∷
-    bitXor (getD s 1 0) (2 ^ 32 - 1) ∷
-    bitXor (getD s 2 0) (2 ^ 32 - 1) ∷
-    bitXor (getD s 3 0) (2 ^ 32 - 1) ∷
-    bitXor (getD s 4 0) (2 ^ 32 - 1) ∷ []
+    bitXor (getD s 0 0) (2 ^ wordBits - 1) ∷
+    bitXor (getD s 1 0) (2 ^ wordBits - 1) ∷
+    bitXor (getD s 2 0) (2 ^ wordBits - 1) ∷
+    bitXor (getD s 3 0) (2 ^ wordBits - 1) ∷
+    bitXor (getD s 4 0) (2 ^ wordBits - 1) ∷ []
 
 -- r, if it is true, says that s holds every position from `from` up to n
 pub record Full (r : Bool) (s : List ℕ) (from n : ℕ) : Type 0 where

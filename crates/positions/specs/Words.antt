@@ -5,12 +5,12 @@ use mathlib.Core.List.{List, [], _∷_}
 use Prim.Native.Nat.{ℕ, _+_, _/_, _%_, _<_}
 use lib.ListN.{getD}
 use lib.Seq.{sets}
-use Rattle.base.specs.Bits.{testBit}
+use Rattle.base.specs.Bits.{wordBits, testBit}
 use Rattle.positions.specs.Positions.{five, unionOf}
 
 -- j is a member of the set that stands at `at`
 unfoldable pub memberAt : List ℕ → ℕ → ℕ → Bool
-memberAt ws at j = testBit (getD ws (at + j / 32) 0) (j % 32)
+memberAt ws at j = testBit (getD ws (at + j / wordBits) 0) (j % wordBits)
 
 -- the set that stands at `at`
 unfoldable pub setAt : List ℕ → ℕ → List ℕ

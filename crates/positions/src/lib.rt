@@ -1,25 +1,27 @@
-// Sets of positions of a note, 0 to 159, as the bits of five words: by value, and in lent words. No proof above this crate sees a bit of them.
+// Sets of positions of a note, each below COUNT, as the bits of five words: by value, and in lent words. No proof above this crate sees a bit of them.
 ghost use mathlib.Core.Path.{_≡_};
 ghost use Prim.Native.Nat.{_+_, _≤_, _<_};
 ghost use lib.ListN.{length};
-ghost use Rattle.positions.specs.Positions.{positionCount, setWords, emptySet, member, withOf, unionOf, meetsOf, oppositeOf, Full, sameOf, FromBit, NextOf};
+ghost use Rattle.base.specs.Bits.{wordBits};
+ghost use Rattle.positions.specs.Positions.{positionCount, setWords, emptySet, member, withOf, unionOf, meetsOf, oppositeOf, Full, sameOf, FromBit};
+ghost use Rattle.positions.specs.Positions.{NextOf};
 ghost use Rattle.positions.specs.Words.{memberAt, setAt, putAt, Joined};
 
-// Positions that a set can hold: no note has more.
-pub const COUNT: usize = 160;
-
-// Words of a set.
+// Words of a set. specs/Positions has the same.
 pub const WORDS: usize = 5;
 
+// Positions that a set can hold: no note has more.
+pub const COUNT: usize = WORDS * base::WORD_BITS;
+
 pub struct Positions {
-    pub words: [u32; 5],
+    pub words: [u32; WORDS],
 }
 
 impl Positions {
     pub fn empty() -> Self
         ensures { λ r. ⌜ r .words ≡ emptySet ⌝ }
     {
-        Positions { words: [0; 5] }
+        Positions { words: [0; WORDS] }
     }
 
     // Whether j is a member.
@@ -27,8 +29,8 @@ impl Positions {
         requires { ⌜ j < positionCount ⌝ }
         ensures { λ r. ⌜ r ≡ member (self .words) j ⌝ }
     {
-        let i = j / 32;
-        base::has(self.words[i], j % 32)
+        let i = j / base::WORD_BITS;
+        base::has(self.words[i], j % base::WORD_BITS)
     }
 
     // The set with the member j.
@@ -37,8 +39,8 @@ impl Positions {
         ensures { λ r. ⌜ r .words ≡ withOf (self .words) j ⌝ }
     {
         let mut s = self;
-        let i = j / 32;
-        s.words[i] = base::with(s.words[i], j % 32);
+        let i = j / base::WORD_BITS;
+        s.words[i] = base::with(s.words[i], j % base::WORD_BITS);
         s
     }
 
@@ -82,14 +84,14 @@ fn same(a: Positions, b: Positions) -> bool
         == 0
 }
 
-// The lowest bit of x from k on; 32 if there is none.
+// The lowest bit of x from k on; WORD_BITS if there is none.
 fn from_bit(x: u32, k: usize) -> usize
-    requires { ⌜ k < 32 ⌝ }
+    requires { ⌜ k < wordBits ⌝ }
     ensures { λ r. ⌜ FromBit x k r ⌝ }
 {
     let y = x >> k;
     if y == 0 {
-        return 32;
+        return base::WORD_BITS;
     }
     k + base::number(u32::trailing_zeros(y))
 }
@@ -101,12 +103,12 @@ pub fn next(s: Positions, from: usize) -> usize
     if COUNT <= from {
         return COUNT;
     }
-    let mut w = from / 32;
-    let mut k = from % 32;
+    let mut w = from / base::WORD_BITS;
+    let mut k = from % base::WORD_BITS;
     while w < WORDS {
         let r = from_bit(s.words[w], k);
-        if r < 32 {
-            return w * 32 + r;
+        if r < base::WORD_BITS {
+            return w * base::WORD_BITS + r;
         }
         k = 0;
         w += 1;
@@ -153,7 +155,7 @@ pub fn holds(ws: &[u32], at: usize, j: usize) -> bool
     requires { ⌜ (at + setWords ≤ length (now ws)) × (j < positionCount) ⌝ }
     ensures { λ r. ⌜ r ≡ memberAt (now (ws .entry)) at j ⌝ }
 {
-    base::has(ws[at + j / 32], j % 32)
+    base::has(ws[at + j / base::WORD_BITS], j % base::WORD_BITS)
 }
 
 // The set s, put at `at`.

@@ -11,11 +11,11 @@ use Rattle.base.proofs.Booleans.{T-or-r}
 use Rattle.positions.specs.Positions.{positionCount, member}
 use Rattle.positions.specs.Words.{setAt, putAt}
 use Rattle.derivation.specs.Space.{frameWords}
-use Rattle.chart.specs.Chart.{spot, cellsEnd, cellHas}
-use Rattle.chart.specs.Ends.{throughOf}
-use Rattle.chart.specs.Row.{Onward}
-use Rattle.chart.proofs.LeadLaws.{through-in}
-use Rattle.chart.proofs.Spots.{cell-member}
+use Rattle.cells.specs.Chart.{spot, cellsEnd, cellHas}
+use Rattle.cells.specs.Through.{throughOf}
+use Rattle.cells.specs.Through.{Onward}
+use Rattle.cells.proofs.ThroughLaws.{through-in}
+use Rattle.cells.proofs.Spots.{cell-member}
 use Rattle.plain.specs.Frames.{frameHas}
 use Rattle.quick.specs.Sets.{returnAt, SetsOnly, Framed, AskedDown}
 use Rattle.quick.proofs.RestLaws.{rest-put, rest-other, only-none, only-put, only-has}

@@ -22,7 +22,7 @@ use Rattle.derivation.proofs.ReadyLaws.{ready-first}
 use Rattle.derivation.proofs.MarkedCells.{derives-inside}
 use Rattle.cache.specs.Recording.{learned}
 use Rattle.cache.specs.Predict.{predict}
-use Rattle.chart.specs.Chart.{Lent, Filled}
+use Rattle.cells.specs.Chart.{Lent, Filled}
 use Rattle.plain.specs.Frames.{Serving}
 use Rattle.plain.specs.Choice.{orZero, lowestIn}
 use Rattle.plain.specs.Machine.{pushIf, ground}
@@ -31,7 +31,7 @@ use Rattle.plain.proofs.CallLaws.{pushed-if, push-kept}
 use Rattle.plain.proofs.PushLaws.{push-pushed, push-has, push-charted}
 use Rattle.quick.specs.Machine.{Picked, picked, settle, quickChoice}
 use Rattle.quick.specs.Going.{Began}
-use Rattle.quick.proofs.ChoiceLaws.{choice-decided, choice-single}
+use Rattle.adaptive.proofs.ChoiceLaws.{choice-decided, choice-single}
 use Rattle.derivation.proofs.CountLaws.{count-is, one-at-least}
 use Rattle.quick.proofs.PickLaws.{settle-named, settle-full}
 

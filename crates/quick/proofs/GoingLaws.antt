@@ -21,7 +21,7 @@ use Rattle.derivation.proofs.Entries.{Open}
 use Rattle.derivation.proofs.ReadyLaws.{ready-ordered}
 use Rattle.derivation.proofs.MarkedCells.{length-marked}
 use Rattle.words.specs.Layout.{minWords}
-use Rattle.chart.specs.Chart.{Charted}
+use Rattle.cells.specs.Chart.{Charted}
 use Rattle.plain.specs.Frames.{FramesBelow, frameHas}
 use Rattle.plain.specs.Machine.{ground, waiting}
 use Rattle.plain.specs.Going.{steps}

@@ -1,9 +1,4 @@
 -- Laws of the quick reading, one subject a file.
-pub mod ChoiceLaws
-pub mod StepLaws
-pub mod LockStep
-pub mod NoteLaws
-pub mod Demand3Laws
 pub mod RunSteps
 pub mod PredictSteps
 pub mod GoingLaws
@@ -17,7 +12,6 @@ pub mod ChoseLaws
 pub mod OpeningLaws
 pub mod BeginLaws
 pub mod ReplyLaws
-pub mod EffectLaws
 pub mod WholeLaws
 pub mod AskLaws
 pub mod ServeLaws

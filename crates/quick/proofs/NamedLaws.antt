@@ -21,7 +21,7 @@ use Rattle.cache.proofs.LengthLaws.{length-askStart, length-askStep}
 use Rattle.cache.proofs.FollowLaws.{follow-unsure, follow-sure, follow-over, follow-on}
 use Rattle.plain.specs.Machine.{Named}
 use Rattle.quick.specs.Machine.{Picked, picked, named?, settle, quickChoice}
-use Rattle.quick.proofs.ChoiceLaws.{settle-words, choice-decided, choice-single}
+use Rattle.adaptive.proofs.ChoiceLaws.{settle-words, choice-decided, choice-single}
 use Rattle.derivation.proofs.CountLaws.{one-at-least, first-within}
 
 -- ---- an alternative

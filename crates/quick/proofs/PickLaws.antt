@@ -33,7 +33,7 @@ use Rattle.quick.specs.Machine.{Picked, picked, named?, settle}
 use Rattle.quick.specs.Going.{Calls, Tabled, Prepared, Found, choiceAt, Chose}
 use Rattle.quick.specs.Sets.{Unsettled, Settled}
 use Rattle.derivation.proofs.CountLaws.{count-is, one-at-least, first-within}
-use Rattle.quick.proofs.ChoiceLaws.{choice-decided, choice-single}
+use Rattle.adaptive.proofs.ChoiceLaws.{choice-decided, choice-single}
 use Rattle.quick.proofs.TableLaws.{calls-floored, calls-position, calls-place, calls-frames}
 
 -- ---- the definition, by what a prediction said

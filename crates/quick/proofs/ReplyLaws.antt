@@ -23,13 +23,13 @@ use Rattle.words.specs.Layout.{minWords}
 use Rattle.words.specs.Begin.{begun?}
 use Rattle.plain.specs.declared.machine.Outcome.{Outcome}
 use Rattle.plain.specs.declared.reading.Reading.the-variants as reading
-use Rattle.plain.specs.declared.tokens.Tokens.{Tokens}
-use Rattle.plain.specs.declared.tokens.Tokens.the-variants as tokens
+use Rattle.gate.specs.declared.tokens.Tokens.{Tokens}
+use Rattle.gate.specs.declared.tokens.Tokens.the-variants as tokens
 use Rattle.plain.specs.Machine.{outcomeIn}
-use Rattle.plain.specs.Reading.{tokensOf}
+use Rattle.gate.specs.Reading.{tokensOf}
 use Rattle.plain.proofs.FinishLaws.{outcome-length, unknown-of, known-of}
 use Rattle.derivation.specs.Demand2.{Known}
-use Rattle.quick.specs.Quick.{Reply, reply, quickNote, answered, quick13, quick12, quick11, quick9, quick8, replyUnknown, replyRules, quickReading}
+use Rattle.adaptive.specs.Quick.{Reply, reply, quickNote, answered, quick13, quick12, quick11, quick9, quick8, replyUnknown, replyRules, quickReading}
 use Rattle.quick.specs.declared.machine.Stop.{Stop}
 use Rattle.quick.specs.Stop.{stopOutcome, stopKnown}
 use Rattle.quick.specs.Going.{Ran}

@@ -12,8 +12,8 @@ use Rattle.positions.specs.Positions.{positionCount, setWords, member}
 use Rattle.positions.specs.Words.{memberAt, setAt, putAt}
 use Rattle.positions.proofs.WordLaws.{length-put, put-word, put-same, put-other}
 use Rattle.derivation.specs.Space.{frameWords, returnsOf}
-use Rattle.chart.specs.Chart.{spot, cellsEnd, cellHas, Charted}
-use Rattle.chart.proofs.Spots.{spot-below, lent-kept}
+use Rattle.cells.specs.Chart.{spot, cellsEnd, cellHas, Charted}
+use Rattle.cells.proofs.Spots.{spot-below, lent-kept}
 use Rattle.plain.specs.Frames.{frameHas}
 use Rattle.plain.proofs.PushLaws.{low-charted}
 use Rattle.quick.specs.Sets.{SetsOnly, Framed}

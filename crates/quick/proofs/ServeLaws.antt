@@ -12,7 +12,7 @@ use Rattle.positions.specs.Positions.{positionCount, member, meetsOf}
 use Rattle.positions.specs.Words.{setAt, putAt}
 use Rattle.positions.proofs.WordLaws.{member-set}
 use Rattle.derivation.specs.Space.{frameWords}
-use Rattle.chart.specs.Chart.{spot, cellsEnd}
+use Rattle.cells.specs.Chart.{spot, cellsEnd}
 use Rattle.plain.specs.Frames.{frameHas}
 use Rattle.plain.specs.Choice.{Leading}
 use Rattle.quick.specs.Sets.{returnAt, Framed, ServedUp}

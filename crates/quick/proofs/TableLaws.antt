@@ -12,7 +12,7 @@ use Rattle.derivation.specs.Cells.{runs?}
 use Rattle.derivation.specs.Space.{frameWords, spareWords, returnsOf}
 use Rattle.derivation.specs.Ready.{Ready}
 use Rattle.derivation.proofs.ReadyLaws.{ready-call}
-use Rattle.chart.specs.Chart.{Filled}
+use Rattle.cells.specs.Chart.{Filled}
 use Rattle.plain.specs.Frames.{FramesBelow, frameHas}
 use Rattle.plain.specs.Machine.{ground}
 use Rattle.plain.proofs.GoodLaws.{good-fewer}

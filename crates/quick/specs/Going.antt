@@ -14,7 +14,7 @@ use Rattle.derivation.specs.Runs.{marked}
 use Rattle.derivation.specs.Cells.{derives?, runs?}
 use Rattle.derivation.specs.Space.{frameWords, returnsOf, Pushed}
 use Rattle.derivation.proofs.FrameWords.{Held}
-use Rattle.chart.specs.Chart.{Lent, Charted}
+use Rattle.cells.specs.Chart.{Lent, Charted}
 use Rattle.plain.specs.Choice.{orZero}
 use Rattle.plain.specs.Frames.{FramesBelow, frameHas, Good}
 use Rattle.plain.specs.declared.machine.Outcome.{Outcome}

@@ -4,10 +4,10 @@ use mathlib.Core.List.{List}
 use Prim.Native.Nat.{ℕ}
 use lib.ListN.{length}
 use Rattle.grammar.specs.Grammar.{Grammar}
-use Rattle.chart.specs.Chart.{Charted}
+use Rattle.cells.specs.Chart.{Charted}
 use Rattle.plain.specs.declared.reading.Reading.{Reading}
-use Rattle.plain.specs.Reading as plain
-use Rattle.quick.specs.Quick.{Reply, reply, quickNote, answered}
+use Rattle.gate.specs.Reading as plain
+use Rattle.adaptive.specs.Quick.{Reply, reply, quickNote, answered}
 
 -- a reading, the row and the cache that it left
 abbrev pub replied : Reading → List ℕ → List ℕ → Reply

@@ -11,7 +11,7 @@ use Rattle.positions.specs.Positions.{positionCount, meetsOf}
 use Rattle.positions.specs.Words.{setAt}
 use Rattle.derivation.specs.Runs.{marked}
 use Rattle.derivation.specs.Space.{frameWords, returnsOf}
-use Rattle.chart.specs.Chart.{spot, cellsEnd, cellHas, Lent, Charted}
+use Rattle.cells.specs.Chart.{spot, cellsEnd, cellHas, Lent, Charted}
 use Rattle.plain.specs.Frames.{frameHas, EveryFrame, FramesBelow, Good}
 use Rattle.plain.specs.Machine.{ground}
 

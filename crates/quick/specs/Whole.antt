@@ -8,9 +8,9 @@ use Rattle.derivation.specs.Space.{spaceWords}
 use Rattle.derivation.specs.Plain.{plainReading}
 use Rattle.lookahead.specs.Configs.{In}
 use Rattle.plain.specs.declared.reading.Reading.{Reading}
-use Rattle.plain.specs.Reading.{readingNumber, readingPlace, readingCount, answered}
-use Rattle.quick.specs.Quick.{quickReading}
-use Rattle.quick.specs.Demand3.{Call, taught, taughtAll}
+use Rattle.gate.specs.Reading.{readingNumber, readingPlace, readingCount, answered}
+use Rattle.adaptive.specs.Quick.{quickReading}
+use Rattle.adaptive.specs.Demand3.{Call, taught, taughtAll}
 use Rattle.quick.specs.Replied.{replied}
 
 -- a quick call, and a plain call with the same note, an equal row and as much working space: what they were lent, answered and left

@@ -47,7 +47,7 @@ fn table(
     ensures { λ r. ⌜ Tabled (now (tables .entry)) (now (note .entry)) (now (ws .entry)) (now (ws .exit)) d p i r ⌝ }
 {
     if known == 0 {
-        chart::fill(tables, note, ws, places);
+        chart::fill(tables, note, ws);
         let s = Positions::empty().with(note.len());
         plain::frames::put_rest(ws, base, 0, s);
         return 1;

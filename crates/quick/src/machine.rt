@@ -9,10 +9,10 @@ ghost use lib.ListN.{length};
 ghost use Rattle.grammar.specs.Tables.{grammarIn};
 ghost use Rattle.derivation.specs.Ready.{Ready};
 ghost use Rattle.words.specs.Layout.{minWords};
-ghost use Rattle.chart.specs.Chart.{Lent};
+ghost use Rattle.cells.specs.Chart.{Lent};
 ghost use Rattle.plain.specs.Machine.{ground};
 ghost use Rattle.derivation.specs.Demand2.{Known};
-ghost use Rattle.quick.specs.Quick.{quickNote};
+ghost use Rattle.adaptive.specs.Quick.{quickNote};
 ghost use Rattle.quick.specs.Going.{Going, Began, ahead, Ran};
 ghost use Rattle.quick.specs.Stop.{stopOutcome, stopKnown};
 
@@ -54,7 +54,7 @@ fn begin(
             };
         }
     }
-    chart::fill(tables, note, ws, places);
+    chart::fill(tables, note, ws);
     let s = Positions::empty().with(note.len());
     let b = plain::machine::choose(tables, ws, places, base, 0, grammar::END_PLACE, 0, 0, s);
     Pick {

@@ -11,11 +11,11 @@ ghost use Rattle.grammar.specs.Tables.{grammarIn};
 ghost use Rattle.derivation.specs.Ready.{Ready};
 ghost use Rattle.derivation.specs.Plain.{onOutcome};
 ghost use Rattle.words.specs.Layout.{minWords};
-ghost use Rattle.chart.specs.Chart.{Lent, Charted, Filled};
+ghost use Rattle.cells.specs.Chart.{Lent, Charted, Filled};
 ghost use Rattle.plain.specs.Machine.{outcomeIn, Counted};
-ghost use Rattle.plain.specs.Reading.{answered};
+ghost use Rattle.gate.specs.Reading.{answered};
 ghost use Rattle.derivation.specs.Demand2.{Known};
-ghost use Rattle.quick.specs.Quick.{quickNote, quick12, quick11, quick8, quickReading};
+ghost use Rattle.adaptive.specs.Quick.{quickNote, quick12, quick11, quick8, quickReading};
 ghost use Rattle.quick.specs.Stop.{stopOutcome, stopKnown};
 ghost use Rattle.quick.specs.Replied.{replied, readingOf, Tabled};
 
@@ -25,7 +25,7 @@ fn table(tables: &[u16], note: &[u16], ws: &mut [u32], places: usize, known: usi
     ensures { λ _. ⌜ Tabled (now (tables .entry)) (now (note .entry)) (now (ws .entry)) (now (ws .exit)) ⌝ }
 {
     if known == 0 {
-        chart::fill(tables, note, ws, places);
+        chart::fill(tables, note, ws);
     }
 }
 

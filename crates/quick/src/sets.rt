@@ -21,13 +21,13 @@ fn ask_down(
     requires { ⌜ Framed places n base known d (now ws) × (p < places) × (i ≤ n) ⌝ }
     ensures { λ _. ⌜ AskedDown places n base known d p i (now (ws .entry)) (now (ws .exit)) ⌝ }
 {
-    let mut s = chart::cell(ws, places, p, i);
+    let mut s = cells::cell(ws, places, p, i);
     let mut k = d;
     while known < k {
         k -= 1;
         plain::frames::put_rest(ws, base, k, s);
         let q = plain::frames::return_place(ws, base, k);
-        s = chart::onward(ws, places, n, s, Positions::empty(), 0, q);
+        s = cells::onward(ws, places, n, s, Positions::empty(), 0, q);
     }
 }
 

@@ -30,7 +30,8 @@ apart q p n = go (decLt p q)
 abbrev Then : List ℕ → List ℕ → ℕ → List ℕ → ℕ → ℕ → Type 0
 Then ws after q s p j = (stands after p j ≡ stands ws p j) ⊎ ((p ≡ q) × (stands after p j ≡ (stands ws p j || member s j)))
 
-module _ {r : Bool} {ws after : List ℕ} {q : ℕ} {s : List ℕ} (long : length ws ≡ setsWords) (l : q < maxPlaces) (h : Joined r ws after (setWords * q) s) where
+module _ {r : Bool} {ws after : List ℕ} {q : ℕ} {s : List ℕ} (long : length ws ≡ setsWords) (l : q < maxPlaces)
+    (h : Joined r ws after (setWords * q) s) where
   joins : (p j : ℕ) → Inside p j → (p ≡ q) ⊎ (p ≡ q → ⊥) → Then ws after q s p j
   unfolding stands
   joins p j (_, m) (inl e) = inr (e, rw e (joined-same h j m (omega arith)))
@@ -59,7 +60,8 @@ module _ {r : Bool} {ws after : List ℕ} {q : ℕ} {s : List ℕ} (long : lengt
       }
 
 -- ---- other words for the points that are added
-pub added-as : {P Q : ℕ → ℕ → Type 0} {r : Bool} {ws after : List ℕ} → ((p j : ℕ) → Inside p j → P p j → Q p j) → ((p j : ℕ) → Inside p j → Q p j → P p j)
+pub added-as : {P Q : ℕ → ℕ → Type 0} {r : Bool} {ws after : List ℕ} → ((p j : ℕ) → Inside p j → P p j → Q p j)
+    → ((p j : ℕ) → Inside p j → Q p j → P p j)
     → Added P r ws after → Added Q r ws after
 added-as to from h =
     record {
@@ -77,7 +79,8 @@ one-out i j l m t = eqb→eq j i (rw (member-with emptySet i j (omega arith), me
 one-in : (i j : ℕ) → i < positionCount → j ≡ i → T (member (withOf emptySet i) j)
 one-in i j m e = rw (e, member-with emptySet i i (omega arith)) (T-or-r (member emptySet i) (eqb i i) (eqb-refl i))
 
-pub mark-adds : {r : Bool} {ws after : List ℕ} {q i : ℕ} {e s : List ℕ} → length ws ≡ setsWords → q < maxPlaces → i < positionCount → e ≡ emptySet → s ≡ withOf e i
+pub mark-adds : {r : Bool} {ws after : List ℕ} {q i : ℕ} {e s : List ℕ} → length ws ≡ setsWords → q < maxPlaces → i < positionCount → e
+    ≡ emptySet → s ≡ withOf e i
     → Joined r ws after (setWords * q) s → Added (PointOf q i) r ws after
 mark-adds {q = q} {i = i} {e = e} {s = s} long l m z y h =
     added-as (λ p j x u. (u .0, one-out i j (x .1) m (rw (y, z) at (u .1)))) (λ p j x u. (u .0, rw (y, z) (one-in i j m (u .1)))) (join-adds long l h)

@@ -72,7 +72,8 @@ module _ (t : List ℕ) (s e k i : ℕ) {r u : Bool} {f : ℕ} {ws₀ ws after :
   pub enter-old : u ≡ false → Added (Opened t s e (k + 1) i) r ws₀ after
   enter-old z = rw (or-first r u z) at next
 
-pub enter-end : (t : List ℕ) → Ready t → (a : ℕ) {s e : ℕ} (k i : ℕ) {r : Bool} {ws after : List ℕ} → a < nonterminalsIn t → s ≡ ruleAt t a → e ≡ ruleAt t (a + 1)
+pub enter-end : (t : List ℕ) → Ready t → (a : ℕ) {s e : ℕ} (k i : ℕ) {r : Bool} {ws after : List ℕ} → a < nonterminalsIn t → s
+    ≡ ruleAt t a → e ≡ ruleAt t (a + 1)
     → e ≤ k → Added (Opened t s e k i) r ws after → Added (Opening (grammarIn t) a i) r ws after
 enter-end t ready a {s} {e} k i l ps pe m h = added-as (λ p j _ x. to p j x) (λ p j _ x. from p j x) h
   where

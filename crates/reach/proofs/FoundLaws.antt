@@ -11,7 +11,7 @@ use lib.Dec.{T}
 use lib.ListN.{length, replicate, getD-replicate}
 use Rattle.base.proofs.Bits.{test-none}
 use Rattle.base.proofs.Booleans.{clash, same, false→¬T}
-use Rattle.grammar.specs.Grammar.{Grammar, first}
+use Rattle.grammar.specs.Grammar.{first}
 use Rattle.grammar.specs.Tables.{grammarIn}
 use Rattle.positions.specs.Positions.{positionCount, setWords, member}
 use Rattle.positions.specs.Words.{memberAt}
@@ -26,10 +26,10 @@ use Rattle.reach.specs.Passes.{Opening, Leads, match, call, return, Soun
 use Rattle.reach.proofs.PassLaws.{leads-inside}
 
 -- all that can be reached before position i is found, and all that it leads to
-pub record FoundTo (g : Grammar) (w : List ℕ) (m i : ℕ) (ws : List ℕ) : Type 0 where
-  pub sound : Sound g w ws
-  pub starts : (b f : ℕ) → first g 0 b ≡ some f → T (stands ws f 0)
-  pub closed : (j : ℕ) → j < i → Closed g w m j ws
+pub record FoundTo (t w : List ℕ) (i : ℕ) (ws : List ℕ) : Type 0 where
+  pub sound : Sound (grammarIn t) w ws
+  pub starts : (b f : ℕ) → first (grammarIn t) 0 b ≡ some f → T (stands ws f 0)
+  pub closed : (j : ℕ) → j < i → Closed (grammarIn t) w (grammarIn t .size) j ws
 
 -- ---- at first nobody stands anywhere
 nobody-stands : (n p j : ℕ) → n ≡ setsWords → Inside p j → stands (replicate n 0) p j ≡ false
@@ -37,9 +37,8 @@ unfolding stands memberAt
 nobody-stands n p j e (l, m) = rw (getD-replicate {A = ℕ} n (setWords * p + j / 32) 0 0 (omega arith)) (test-none (j % 32))
 
 module _ (t w : List ℕ) (ready : Ready t) (short : length w < positionCount) where
-  pub found-begin : (m n : ℕ) {r : Bool} {ws : List ℕ} → n ≡ setsWords → Added (Opening (grammarIn t) 0 0) r (replicate n 0) ws
-      → FoundTo (grammarIn t) w m 0 ws
-  found-begin m n {r} {ws} e h =
+  pub found-begin : (n : ℕ) {r : Bool} {ws : List ℕ} → n ≡ setsWords → Added (Opening (grammarIn t) 0 0) r (replicate n 0) ws → FoundTo t w 0 ws
+  found-begin n {r} {ws} e h =
       record {
         sound = λ p j o s. ⊎-elim (λ v. absurd (false→¬T (stands (replicate n 0) p j) (nobody-stands n p j e o) v)) (λ v. from p j v) (h .only p j o s);
         starts = λ b f d. h .held f 0 (omega (arith, ready-first t ready 0 b f d, ready-size t ready), omega arith) (b, d, omega arith);
@@ -50,18 +49,17 @@ module _ (t w : List ℕ) (ready : Ready t) (short : length w < positionCount) w
       from p j (b, d, z) = rw z (Reach.start b d)
 
   -- passes at i leave what was closed before i closed: they add nothing there
-  pub found-next : (m i : ℕ) {ws after : List ℕ} → m ≡ grammarIn t .size → i ≤ length w → FoundTo (grammarIn t) w m i ws
-      → Settled (grammarIn t) w m i ws after → FoundTo (grammarIn t) w m (i + 1) after
-  found-next m i {ws} {after} e l h k =
+  pub found-next : (i : ℕ) {ws after : List ℕ} → i ≤ length w → FoundTo t w i ws → Settled t w i ws after → FoundTo t w (i + 1) after
+  found-next i {ws} {after} l h k =
       record {
         sound = k .sets .sound (h .sound);
         starts = λ b f d. k .sets .kept f 0 (omega (arith, ready-first t ready 0 b f d, ready-size t ready), omega arith) (h .starts b f d);
         closed = λ j n. at j n (decLt j i);
       }
     where
-      at : (j : ℕ) → j < i + 1 → Dec (j < i) → Closed (grammarIn t) w m j after
+      at : (j : ℕ) → j < i + 1 → Dec (j < i) → Closed (grammarIn t) w (grammarIn t .size) j after
       at j z (yes y) =
-          λ p q n o s x. k .sets .kept q n (leads-inside t w ready short (omega arith) (omega arith) x)
+          λ p q n o s x. k .sets .kept q n (leads-inside t w ready short o (omega arith) x)
           (h .closed j y p q n o (k .sets .early p j (omega (arith, ready-size t ready), omega arith) y s) x)
       at j u (no y) = let z : j ≡ i = omega arith in rw z (k .closed)
 
@@ -72,9 +70,9 @@ module _ (t w : List ℕ) (ready : Ready t) (short : length w < positionCount) w
   reach-place (Reach.call {a = a} {f = f} b x e d) = ready-first t ready a b f d
   reach-place (Reach.return {p = p} b x e d y) = ready-next t ready p (reach-place x) (λ z. clash (cc))
 
-  module _ (m i : ℕ) {ws : List ℕ} (z : m ≡ grammarIn t .size) (past : length w < i) (h : FoundTo (grammarIn t) w m i ws) where
+  module _ (i : ℕ) {ws : List ℕ} (past : length w < i) (h : FoundTo t w i ws) where
     on : {p k q j : ℕ} → Reach (grammarIn t) w p k → T (stands ws p k) → Leads (grammarIn t) w p k q j → T (stands ws q j)
-    on {p} {k} {q} {j} x s y = let l = reach-in x in h .closed k (omega arith) p q j (omega (arith, reach-place x)) s y
+    on {p} {k} {q} {j} x s y = let l = reach-in x in h .closed k (omega arith) p q j (reach-place x) s y
 
     found : {p k : ℕ} → Reach (grammarIn t) w p k → T (stands ws p k)
     found (Reach.start {f = f} b e) = h .starts b f e
@@ -83,9 +81,10 @@ module _ (t w : List ℕ) (ready : Ready t) (short : length w < positionCount) w
     found (Reach.return b x e d y) = on x (found x) (return b e d y)
 
     -- the positions at which a reader can stand somewhere are those at which something arrives
-    pub found-all : (all : List ℕ) → Anywhere ws m all → (k : ℕ) → k ≤ length w → member all k ≡ arrives? (grammarIn t) w k
+    pub found-all : (all : List ℕ) {m : ℕ} → m ≡ grammarIn t .size → Anywhere ws m all → (k : ℕ) → k ≤ length w → member all k ≡ arrives? (grammarIn t) w k
     unfolding Anywhere
-    found-all all y k l = same (member all k) (arrives? (grammarIn t) w k) (λ u. to (y k (omega arith) .0 u)) (λ u. from (arrives-iff (grammarIn t) w k .0 u))
+    found-all all {m} z y k l =
+        same (member all k) (arrives? (grammarIn t) w k) (λ u. to (y k (omega arith) .0 u)) (λ u. from (arrives-iff (grammarIn t) w k .0 u))
       where
         to : (p : ℕ) × (p < m) × T (stands ws p k) → T (arrives? (grammarIn t) w k)
         to (p, u, s) = arrives-iff (grammarIn t) w k .1 (p, h .sound p k (omega (arith, ready-size t ready), omega arith) s)

@@ -28,12 +28,14 @@ any-begin ws {s} e j l = (λ t. none (rw e at t), λ x. some x)
     some : (p : ℕ) × (p < 0) × T (stands ws p j) → T (member s j)
     some (p, m, t) = absurd (omega arith)
 
-pub any-next : (ws : List ℕ) (m : ℕ) (s : List ℕ) {h r : List ℕ} → h ≡ setAt ws (setWords * m) → r ≡ unionOf s h → Anywhere ws m s → Anywhere ws (m + 1) r
+pub any-next : (ws : List ℕ) (m : ℕ) (s : List ℕ) {h r : List ℕ} → h ≡ setAt ws (setWords * m) → r ≡ unionOf s h → Anywhere ws m s
+    → Anywhere ws (m + 1) r
 unfolding Anywhere stands
 any-next ws m s {h} {r} e d x j l = (λ t. to (or-T (member s j) (stands ws m j) (rw both at t)), from)
   where
     both : member r j ≡ (member s j || stands ws m j)
-    both = ap (λ (r : List ℕ). member r j) d ∙ member-union s h j l ∙ ap (λ (b : Bool). member s j || b) (ap (λ (h : List ℕ). member h j) e ∙ member-set ws (setWords * m) j l)
+    both = ap (λ (r : List ℕ). member r j) d ∙ member-union s h j l
+        ∙ ap (λ (b : Bool). member s j || b) (ap (λ (h : List ℕ). member h j) e ∙ member-set ws (setWords * m) j l)
 
     to : T (member s j) ⊎ T (stands ws m j) → (p : ℕ) × (p < m + 1) × T (stands ws p j)
     to (inl t) = let y = x j l .0 t in (y .0, let k = y .1 in omega arith, y .2)
@@ -77,7 +79,8 @@ highest-same : (p q : ℕ → Bool) (n : ℕ) → ((k : ℕ) → k ≤ n → p k
 unfolding highestTo
 highest-same p q zero h = refl
 highest-same p q (suc n) h =
-    ap₂ (λ (b : Bool) (o : ℕ). elim b as (λ _. ℕ) [ true ↦ suc n | false ↦ o ]) (h (suc n) (omega arith)) (highest-same p q n (λ k l. h k (omega arith)))
+    ap₂ (λ (b : Bool) (o : ℕ). elim b as (λ _. ℕ) [ true ↦ suc n | false ↦ o ]) (h (suc n) (omega arith))
+    (highest-same p q n (λ k l. h k (omega arith)))
 
 pub wrong-is : (g : Grammar) (w all : List ℕ) {r : ℕ} → r ≡ highestTo (member all) (length w)
     → ((k : ℕ) → k ≤ length w → member all k ≡ arrives? g w k) → r ≡ wrongPlace g w

@@ -1,16 +1,17 @@
 -- Passes at one position, as their loops meet them.
 use mathlib.Core.Path.{_≡_, refl, sym, ap, subst, _∙_}
-use mathlib.Core.Logic.{_⊎_, inl, inr, ⊎-elim}
+use mathlib.Core.Logic.{_⊎_, ⊎-elim}
 use mathlib.Core.Bool.{Bool, true, false, true≢false, false≢true}
 use mathlib.Core.List.{List}
 use Prim.Native.Nat.{ℕ, zero, suc, _+_, _*_, _≤_, _<_}
 use native.Mathlib.Omega.{arith}
 use native.Mathlib.Decide.{decLt}
 use lib.Dec.{T}
-use lib.ListN.{length, getD, set, replicate}
+use lib.ListN.{length, getD, set, replicate, length-set, length-replicate}
 use lib.Seq.{getD-set-other}
 use Rattle.base.proofs.Bits.{same?}
 use Rattle.base.proofs.Booleans.{true→T, false→¬T}
+use Rattle.grammar.specs.Limits.{maxPlaces}
 use Rattle.grammar.specs.Grammar.{Grammar}
 use Rattle.grammar.specs.Tables.{grammarIn}
 use Rattle.positions.specs.Positions.{positionCount, setWords}
@@ -18,7 +19,7 @@ use Rattle.positions.specs.Words.{memberAt, total}
 use Rattle.derivation.specs.Ready.{Ready}
 use Rattle.derivation.proofs.ReadyLaws.{ready-size}
 use Rattle.reach.specs.Sets.{Inside, stands, Added}
-use Rattle.reach.specs.Passes.{Leads, Closed, Grown, Passed, Settled, Stepped}
+use Rattle.reach.specs.Passes.{Leads, Closed, Grown, PassedTo, Passed, Settled, Stepped}
 use Rattle.reach.proofs.StepLaws.{leads-le, leads-in, leads-reach, leads-place}
 
 -- ---- one word of a set that is read
@@ -54,7 +55,7 @@ pub leads-inside : (t w : List ℕ) → Ready t → length w < positionCount →
 leads-inside t w ready short l m x = let a = leads-place t w ready l x in let b = leads-in m x in (omega (arith, ready-size t ready), omega arith)
 
 -- ---- the loop of a pass
-pub pass-begin : (g : Grammar) (w : List ℕ) (i : ℕ) (ws : List ℕ) → Passed g w 0 i false ws ws
+pub pass-begin : (g : Grammar) (w : List ℕ) (i : ℕ) (ws : List ℕ) → PassedTo g w 0 i false ws ws
 pass-begin g w i ws =
     record {
       sets = grown-none g w i ws;
@@ -63,7 +64,7 @@ pass-begin g w i ws =
       closed = λ _ p q j l s x. absurd (omega arith);
     }
 
-passed-rises : {g : Grammar} {w : List ℕ} {m i : ℕ} {r : Bool} {ws after : List ℕ} → Passed g w m i r ws after → total ws ≤ total after
+passed-rises : {g : Grammar} {w : List ℕ} {m i : ℕ} {r : Bool} {ws after : List ℕ} → PassedTo g w m i r ws after → total ws ≤ total after
 passed-rises {r = r} {ws = ws} {after = after} h = go r refl
   where
     go : (t : Bool) → r ≡ t → total ws ≤ total after
@@ -71,7 +72,8 @@ passed-rises {r = r} {ws = ws} {after = after} h = go r refl
     go false e = omega (arith, ap total (h .same e))
 
 -- closed also at place p
-closed-more : (g : Grammar) (w : List ℕ) (p i : ℕ) (ws : List ℕ) → Closed g w p i ws → ((q j : ℕ) → T (stands ws p i) → Leads g w p i q j → T (stands ws q j))
+closed-more : (g : Grammar) (w : List ℕ) (p i : ℕ) (ws : List ℕ) → Closed g w p i ws
+    → ((q j : ℕ) → T (stands ws p i) → Leads g w p i q j → T (stands ws q j))
     → Closed g w (p + 1) i ws
 closed-more g w p i ws h k p′ q j l s x = go (decLt p′ p)
   where
@@ -79,10 +81,11 @@ closed-more g w p i ws h k p′ q j l s x = go (decLt p′ p)
     go (yes m) = h p′ q j m s x
     go (no m) = let z : p′ ≡ p = omega arith in k q j (rw z at s) (rw z at x)
 
-module _ (t w : List ℕ) (p i : ℕ) {r : Bool} {ws₀ ws : List ℕ} (ready : Ready t) (short : length w < positionCount) (l : p < grammarIn t .size) (m : i ≤ length w)
-    (h : Passed (grammarIn t) w p i r ws₀ ws) {b : Bool} (q : b ≡ stands ws p i) where
+module _ (t w : List ℕ) (p i : ℕ) {r : Bool} {ws₀ ws : List ℕ} (ready : Ready t) (short : length w < positionCount) (l : p < grammarIn t .size)
+    (m : i ≤ length w)
+    (h : PassedTo (grammarIn t) w p i r ws₀ ws) {b : Bool} (q : b ≡ stands ws p i) where
   -- nobody stands at place p
-  pub pass-out : b ≡ false → Passed (grammarIn t) w (p + 1) i r ws₀ ws
+  pub pass-out : b ≡ false → PassedTo (grammarIn t) w (p + 1) i r ws₀ ws
   pass-out e =
       record {
         sets = h .sets;
@@ -97,7 +100,7 @@ module _ (t w : List ℕ) (p i : ℕ) {r : Bool} {ws₀ ws : List ℕ} (ready : 
         grown-both (grammarIn t) w i (h .sets)
         (step-grown (grammarIn t) w i p (omega (arith, ready-size t ready), omega arith) (true→T (stands ws p i) (sym q ∙ e)) x)
 
-    pub pass-new : u ≡ true → Passed (grammarIn t) w (p + 1) i true ws₀ after
+    pub pass-new : u ≡ true → PassedTo (grammarIn t) w (p + 1) i true ws₀ after
     pass-new d =
         record {
           sets = further;
@@ -106,7 +109,7 @@ module _ (t w : List ℕ) (p i : ℕ) {r : Bool} {ws₀ ws : List ℕ} (ready : 
           closed = λ z. absurd (true≢false z);
         }
 
-    pub pass-old : u ≡ false → Passed (grammarIn t) w (p + 1) i r ws₀ after
+    pub pass-old : u ≡ false → PassedTo (grammarIn t) w (p + 1) i r ws₀ after
     pass-old d =
         record {
           sets = further;
@@ -118,20 +121,19 @@ module _ (t w : List ℕ) (p i : ℕ) {r : Bool} {ws₀ ws : List ℕ} (ready : 
         }
 
   -- a step was made from p before
-  pub pass-before : (marks : List ℕ) → Stepped (grammarIn t) w i marks ws → ¬ (getD marks p 0 ≡ 0) → Passed (grammarIn t) w (p + 1) i r ws₀ ws
-  unfolding Stepped
+  pub pass-before : (marks : List ℕ) → Stepped t w i marks ws → ¬ (getD marks p 0 ≡ 0) → PassedTo (grammarIn t) w (p + 1) i r ws₀ ws
   pass-before marks y n =
       record {
         sets = h .sets;
         same = h .same;
         grown = h .grown;
-        closed = λ z. closed-more (grammarIn t) w p i ws (h .closed z) (λ q′ j s x. y p q′ j n l x);
+        closed = λ z. closed-more (grammarIn t) w p i ws (h .closed z) (λ q′ j s x. y .made p q′ j n l x);
       }
 
 -- ---- marks
-pub stepped-none : (g : Grammar) (w : List ℕ) (i n : ℕ) (ws : List ℕ) → Stepped g w i (replicate n 0) ws
-unfolding Stepped
-stepped-none g w i n ws p q j h l x = absurd (h (zeros n p))
+pub stepped-none : (t w : List ℕ) (i : ℕ) (ws : List ℕ) → Stepped t w i (replicate maxPlaces 0) ws
+stepped-none t w i ws =
+    record { long = length-replicate {A = ℕ} maxPlaces 0; made = λ p q j h l x. absurd (h (zeros maxPlaces p)) }
   where
     zeros : (n p : ℕ) → getD {A = ℕ} (replicate n 0) p 0 ≡ 0
     zeros zero p = refl
@@ -139,22 +141,27 @@ stepped-none g w i n ws p q j h l x = absurd (h (zeros n p))
     zeros (suc n) (suc p) = zeros n p
 
 -- a step is made from p, and p is marked
-pub stepped-more : (t w : List ℕ) (p i : ℕ) {u : Bool} {ws after : List ℕ} → Ready t → length w < positionCount → i ≤ length w → (marks : List ℕ) (v : ℕ)
-    → Stepped (grammarIn t) w i marks ws → Added (Leads (grammarIn t) w p i) u ws after → Stepped (grammarIn t) w i (set marks p v) after
-unfolding Stepped
-stepped-more t w p i {after = after} ready short m marks v y x p′ q j n l z = go (same? p′ p)
+pub stepped-more : (t w : List ℕ) (p i : ℕ) {u : Bool} {ws after : List ℕ} → Ready t → length w < positionCount → i ≤ length w
+    → (marks : List ℕ) (v : ℕ)
+    → Stepped t w i marks ws → Added (Leads (grammarIn t) w p i) u ws after → Stepped t w i (set marks p v) after
+stepped-more t w p i {after = after} ready short m marks v y x = record { long = length-set marks p v ∙ y .long; made = made }
   where
-    inside : Inside q j
-    inside = leads-inside t w ready short l m z
+    made : (p′ q j : ℕ) → ¬ (getD (set marks p v) p′ 0 ≡ 0) → p′ < grammarIn t .size → Leads (grammarIn t) w p′ i q j
+        → T (stands after q j)
+    made p′ q j n l z = ⊎-elim (λ e. x .held q j inside (rw e at z))
+        (λ d. x .kept q j inside (y .made p′ q j (λ e. n (getD-set-other marks p p′ v 0 d ∙ e)) l z))
+        (same? p′ p)
+      where
+        inside : Inside q j
+        inside = leads-inside t w ready short l m z
 
-    go : (p′ ≡ p) ⊎ (p′ ≡ p → ⊥) → T (stands after q j)
-    go (inl e) = x .held q j inside (rw e at z)
-    go (inr d) = x .kept q j inside (y p′ q j (λ e. n (getD-set-other marks p p′ v 0 d ∙ e)) l z)
-
-pub pass-end : (g : Grammar) (w : List ℕ) (p m i : ℕ) {r : Bool} {ws after : List ℕ} → p ≡ m → Passed g w p i r ws after → Passed g w m i r ws after
-pass-end g w p m i e h = rw e at h
+-- all places have had their turn
+pub pass-end : (t w : List ℕ) (p i : ℕ) {m : ℕ} {r : Bool} {ws after marks : List ℕ} → m ≡ grammarIn t .size → p ≡ m
+    → PassedTo (grammarIn t) w p i r ws after → Stepped t w i marks after → Passed t w i r ws after marks
+pass-end t w p i s e h y = record { to = rw (e, s) at h; stepped = y }
 
 -- ---- passes
-pub settle-end : {g : Grammar} {w : List ℕ} {m i : ℕ} {r : Bool} {ws₀ ws after : List ℕ} → Grown g w i ws₀ ws → Passed g w m i r ws after → r ≡ false
-    → Settled g w m i ws₀ after
-settle-end {g} {w} {m} {i} h k e = record { sets = grown-both g w i h (k .sets); closed = k .closed e }
+pub settle-end : {t w : List ℕ} {i : ℕ} {r : Bool} {ws₀ ws after marks : List ℕ} → Grown (grammarIn t) w i ws₀ ws
+    → Passed t w i r ws after marks → r ≡ false
+    → Settled t w i ws₀ after
+settle-end {t} {w} {i} h k e = record { sets = grown-both (grammarIn t) w i h (k .to .sets); closed = k .to .closed e }

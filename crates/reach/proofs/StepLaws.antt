@@ -1,20 +1,21 @@
 -- Where one step leads, and the points that the code adds for it.
-use mathlib.Core.Path.{_≡_}
+use mathlib.Core.Path.{_≡_, sym, _∙_}
 use mathlib.Core.Logic.{_⊎_, inl, inr}
-use mathlib.Core.Bool.{Bool, true, false, _||_}
+use mathlib.Core.Bool.{Bool, true, false, not, _||_}
 use mathlib.Core.Option.{some}
 use mathlib.Core.List.{List}
 use Prim.Native.Nat.{ℕ, suc, _+_, _≤_, _<_}
 use native.Mathlib.Omega.{arith}
-use lib.Dec.{T, eqb→eq}
-use lib.ListN.{length, getD}
-use Rattle.base.proofs.Booleans.{clash}
+use lib.Dec.{T}
+use lib.ListN.{length, getElem?}
+use borrow.Author.Tests.{not-true, not-false}
+use Rattle.base.proofs.Booleans.{clash, true→T, false→¬T}
 use Rattle.base.proofs.Lists.{Found, anyOf-T, T-anyOf}
 use Rattle.grammar.specs.declared.Symbol.the-variants.{Token, Nonterminal, End}
 use Rattle.grammar.specs.Limits.{maxPlaces}
 use Rattle.grammar.specs.Grammar.{Grammar, facing, admits, first, alternatives}
 use Rattle.grammar.specs.Tables.{grammarIn}
-use Rattle.grammar.proofs.GrammarLaws.{admits-self, first-pos}
+use Rattle.grammar.proofs.GrammarLaws.{first-pos}
 use Rattle.positions.specs.Positions.{positionCount, member}
 use Rattle.derivation.specs.Cells.{derives?}
 use Rattle.derivation.specs.Ready.{Ready}
@@ -23,12 +24,12 @@ use Rattle.derivation.proofs.Notes.{get-lt}
 use Rattle.derivation.proofs.RunLaws.{der-le, der-in}
 use Rattle.derivation.proofs.CellLaws.{derives-sound, derives-complete}
 use Rattle.derivation.proofs.ReadyLaws.{ready-first, ready-next, ready-size}
-use Rattle.chart.specs.Chart.{cellHas, ChartedFrom, Charted, EndsOf}
-use Rattle.derivation.proofs.FirstLaws.{get-some}
+use Rattle.cells.specs.Chart.{cellHas, ChartedFrom, Charted, EndsOf}
+use Rattle.cells.specs.Matches.{matchesAt}
+use Rattle.cells.proofs.MatchLaws.{matches-in, matches-out}
 use Rattle.reach.specs.Sets.{Inside, Added, PointOf}
 use Rattle.reach.specs.Passes.{Opening, Leads, match, call, return}
 use Rattle.reach.proofs.AddLaws.{added-as, none-added, both-added, or-true}
-use Rattle.reach.proofs.EnterLaws.{get-is}
 
 -- ---- steps go forward, stay in the note and in the productions, and lead to what can be reached
 module _ {g : Grammar} {w : List ℕ} {p i : ℕ} where
@@ -73,38 +74,20 @@ module _ (g : Grammar) (w : List ℕ) (p i : ℕ) where
       none (return b e′ d x) = clash (cc)
 
   module _ {k : ℕ} (e : facing g p ≡ Token k) where
-    pub step-over : (ws : List ℕ) → i ≡ length w → Added (Leads g w p i) false ws ws
-    step-over ws l = none-added ws (λ q j x. none x)
+    pub step-other : (ws : List ℕ) {m : Bool} → m ≡ matchesAt g w i k → not m ≡ true → Added (Leads g w p i) false ws ws
+    step-other ws {m} q n = none-added ws (λ q j x. none x)
       where
         none : {q j : ℕ} → Leads g w p i q j → ⊥
-        none (match e′ d a) = let h = get-lt w i d in omega arith
+        none (match {k = k′} e′ d a) = let h : k′ ≡ k = cc in false→¬T (matchesAt g w i k) (sym q ∙ not-true m n) (matches-in g w i k d (rw h at a))
         none (call b e′ d) = clash (cc)
         none (return b e′ d x) = clash (cc)
 
-    -- the token that matches is the one that is faced
-    pub step-other : (ws : List ℕ) {x : ℕ} → x ≡ getD w i 0 → (x ≡ k → ⊥) → Added (Leads g w p i) false ws ws
-    unfolding admits
-    step-other ws {x} z n = none-added ws (λ q j y. none y)
-      where
-        none : {q j : ℕ} → Leads g w p i q j → ⊥
-        none (match {k = k′} {t = u} e′ d a) =
-            let h : k′ ≡ k = cc in
-            let m : k′ ≡ u = eqb→eq k′ u a in
-            let o : u ≡ getD w i 0 = get-is w i d in
-            n (omega arith)
-        none (call b e′ d) = clash (cc)
-        none (return b e′ d y) = clash (cc)
-
-    pub step-match : {x : ℕ} {r : Bool} {ws after : List ℕ} → i < length w → x ≡ getD w i 0 → x ≡ k → Added (PointOf (p + 1) (i + 1)) r ws after
+    pub step-match : {m r : Bool} {ws after : List ℕ} → m ≡ matchesAt g w i k → not m ≡ false → Added (PointOf (p + 1) (i + 1)) r ws after
         → Added (Leads g w p i) r ws after
-    step-match {x} l z y h = added-as (λ q j _ u. to q j u) (λ q j _ u. from u) h
+    step-match {m} z n h = added-as (λ q j _ u. to q j u (matches-out g w i k (true→T (matchesAt g w i k) (sym z ∙ not-false m n)))) (λ q j _ u. from u) h
       where
-        to : (q j : ℕ) → PointOf (p + 1) (i + 1) q j → Leads g w p i q j
-        to q j (u, v) =
-            let s : q ≡ suc p = omega arith in
-            let o : j ≡ suc i = omega arith in
-            let m : getD w i 0 ≡ k = omega arith in
-            rw (s, o) (match {k = k} {t = k} e (rw m at (get-some w i l)) (admits-self g k))
+        to : (q j : ℕ) → PointOf (p + 1) (i + 1) q j → (x : ℕ) × (getElem? w i ≡ some x) × T (admits g k x) → Leads g w p i q j
+        to q j (u, v) (x, d, a) = let s : q ≡ suc p = omega arith in let o : j ≡ suc i = omega arith in rw (s, o) (match e d a)
 
         from : {q j : ℕ} → Leads g w p i q j → PointOf (p + 1) (i + 1) q j
         from (match e′ d a) = (omega arith, omega arith)

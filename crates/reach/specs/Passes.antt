@@ -3,22 +3,31 @@ use mathlib.Core.Path.{_≡_}
 use mathlib.Core.Bool.{Bool, true, false}
 use mathlib.Core.Option.{some}
 use mathlib.Core.List.{List}
-use Prim.Native.Nat.{ℕ, suc, _<_}
+use Prim.Native.Nat.{ℕ, suc, _≤_, _<_}
 use lib.Dec.{T}
 use lib.ListN.{length, getElem?, getD}
 use Rattle.grammar.specs.declared.Symbol.the-variants.{Token, Nonterminal}
+use Rattle.grammar.specs.Limits.{maxPlaces}
 use Rattle.grammar.specs.Grammar.{Grammar, facing, admits, first}
 use Rattle.grammar.specs.Tables.{grammarIn}
 use Rattle.positions.specs.Words.{total}
 use Rattle.derivation.specs.Ready.{Ready}
 use Rattle.derivation.specs.Runs.{Der}
 use Rattle.derivation.specs.Viable.{Reach}
-use Rattle.chart.specs.Chart.{Lent, Charted}
-use Rattle.reach.specs.Sets.{Inside, stands}
+use Rattle.cells.specs.Chart.{Lent, Charted}
+use Rattle.reach.specs.Sets.{setsWords, Inside, stands}
 
--- what the code goes by: tables of P places, a note w, and its derivation cells
-abbrev pub Given : List ℕ → List ℕ → List ℕ → ℕ → Type 0
-Given t w cs P = Ready t × (P ≡ grammarIn t .size) × Lent P (length w) cs × Charted t w cs
+-- what the code goes by: tables, a note w, and its derivation cells
+pub record Given (t w cs : List ℕ) : Type 0 where
+  pub ready : Ready t
+  pub lent : Lent (grammarIn t .size) (length w) cs
+  pub charted : Charted t w cs
+
+-- and at position i the sets of the places
+pub record Standing (t w cs : List ℕ) (i : ℕ) (sets : List ℕ) : Type 0 where
+  pub given : Given t w cs
+  pub here : i ≤ length w
+  pub long : length sets ≡ setsWords
 
 -- the first places of the productions of nonterminal a, at position i
 abbrev pub Opening : Grammar → ℕ → ℕ → ℕ → ℕ → Type 0
@@ -45,18 +54,24 @@ pub record Grown (g : Grammar) (w : List ℕ) (i : ℕ) (before after : List ℕ
   pub early : (p j : ℕ) → Inside p j → j < i → T (stands after p j) → T (stands before p j)
   pub sound : Sound g w before → Sound g w after
 
+-- the sets hold all that one step leads to at position i from the places that are marked
+pub record Stepped (t w : List ℕ) (i : ℕ) (marks ws : List ℕ) : Type 0 where
+  pub long : length marks ≡ maxPlaces
+  pub made : (p q j : ℕ) → ¬ (getD marks p 0 ≡ 0) → p < grammarIn t .size → Leads (grammarIn t) w p i q j → T (stands ws q j)
+
 -- a pass over the places below m at position i; r says whether anything is new
-pub record Passed (g : Grammar) (w : List ℕ) (m i : ℕ) (r : Bool) (before after : List ℕ) : Type 0 where
+pub record PassedTo (g : Grammar) (w : List ℕ) (m i : ℕ) (r : Bool) (before after : List ℕ) : Type 0 where
   pub sets : Grown g w i before after
   pub same : r ≡ false → after ≡ before
   pub grown : r ≡ true → total before < total after
   pub closed : r ≡ false → Closed g w m i after
 
--- passes until nothing is new
-pub record Settled (g : Grammar) (w : List ℕ) (m i : ℕ) (before after : List ℕ) : Type 0 where
-  pub sets : Grown g w i before after
-  pub closed : Closed g w m i after
+-- a pass over all places
+pub record Passed (t w : List ℕ) (i : ℕ) (r : Bool) (before after marks : List ℕ) : Type 0 where
+  pub to : PassedTo (grammarIn t) w (grammarIn t .size) i r before after
+  pub stepped : Stepped t w i marks after
 
--- the sets hold all that one step leads to at position i from the places that are marked
-unfoldable pub Stepped : Grammar → List ℕ → ℕ → List ℕ → List ℕ → Type 0
-Stepped g w i marks ws = (p q j : ℕ) → ¬ (getD marks p 0 ≡ 0) → p < g .size → Leads g w p i q j → T (stands ws q j)
+-- passes until nothing is new
+pub record Settled (t w : List ℕ) (i : ℕ) (before after : List ℕ) : Type 0 where
+  pub sets : Grown (grammarIn t) w i before after
+  pub closed : Closed (grammarIn t) w (grammarIn t .size) i after

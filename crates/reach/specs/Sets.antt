@@ -12,7 +12,7 @@ use Rattle.positions.specs.Words.{memberAt, total}
 
 -- the words of the sets of all places
 abbrev pub setsWords : ℕ
-setsWords = 1275
+setsWords = setWords * maxPlaces
 
 -- the points that the sets can hold
 abbrev pub Inside : ℕ → ℕ → Type 0

@@ -11,10 +11,10 @@ ghost use Rattle.positions.specs.Positions.{positionCount, member};
 ghost use Rattle.derivation.specs.Ready.{Ready};
 ghost use Rattle.derivation.specs.ReachRounds.{highestTo, wrongPlace};
 ghost use Rattle.reach.specs.Sets.{setsWords, Added, PointOf, Anywhere};
-ghost use Rattle.reach.specs.Passes.{Stepped, Given, Opening, Leads, Passed, Settled};
+ghost use Rattle.reach.specs.Passes.{Stepped, Given, Standing, Opening, Leads, Passed, Settled};
 
-// Words of the sets of 255 places.
-pub const SETS: usize = 1275;
+// Words of the sets of all places. specs/Sets has the same.
+const SETS: usize = positions::WORDS * grammar::MAX_PLACES;
 
 // A reader can stand at place q at position j. Whether that is new.
 fn mark(sets: &mut [u32], q: usize, j: usize) -> bool
@@ -49,16 +49,8 @@ fn enter(tables: &[u16], sets: &mut [u32], a: usize, i: usize) -> bool
 
 // Where a reader can stand next, if it stands at place p at position i: behind a token that matches; in the productions of a nonterminal, and behind it
 // wherever they end. Whether any of that is new.
-fn step(
-    tables: &[u16],
-    note: &[u16],
-    ws: &[u32],
-    sets: &mut [u32],
-    places: usize,
-    p: usize,
-    i: usize,
-) -> bool
-    requires { ⌜ Given (now tables) (now note) (now ws) places × (p < places) × (i ≤ length (now note)) × (length (now sets) ≡ setsWords) ⌝ }
+fn step(tables: &[u16], note: &[u16], ws: &[u32], sets: &mut [u32], p: usize, i: usize) -> bool
+    requires { ⌜ Standing (now tables) (now note) (now ws) i (now sets) × (p < grammarIn (now tables) .size) ⌝ }
     ensures { λ r. ⌜ Added (Leads (grammarIn (now (tables .entry))) (now (note .entry)) p i) r (now (sets .entry)) (now (sets .exit)) ⌝ }
 {
     let place = grammar::place_at(tables, p);
@@ -66,16 +58,13 @@ fn step(
     match symbol {
         Symbol::End => false,
         Symbol::Token(k) => {
-            if i == note.len() {
-                return false;
-            }
-            if base::index(note[i]) != k {
+            if !cells::matches(tables, note, k, i) {
                 return false;
             }
             mark(sets, p + 1, i + 1)
         }
         Symbol::Nonterminal(a) => {
-            let ends = chart::ends_of(tables, ws, places, a, i);
+            let ends = cells::ends_of(tables, ws, a, i);
             let entered = enter(tables, sets, a, i);
             let returned = positions::join(sets, positions::WORDS * (p + 1), ends);
             entered || returned
@@ -90,12 +79,12 @@ fn pass(
     ws: &[u32],
     sets: &mut [u32],
     stepped: &mut [u32],
-    places: usize,
     i: usize,
 ) -> bool
-    requires { ⌜ Given (now tables) (now note) (now ws) places × (i ≤ length (now note)) × (length (now sets) ≡ setsWords) × (length (now stepped) ≡ maxPlaces) × Stepped (grammarIn (now tables)) (now note) i (now stepped) (now sets) ⌝ }
-    ensures { λ r. ⌜ Passed (grammarIn (now (tables .entry))) (now (note .entry)) places i r (now (sets .entry)) (now (sets .exit)) × Stepped (grammarIn (now (tables .entry))) (now (note .entry)) i (now (stepped .exit)) (now (sets .exit)) ⌝ }
+    requires { ⌜ Standing (now tables) (now note) (now ws) i (now sets) × Stepped (now tables) (now note) i (now stepped) (now sets) ⌝ }
+    ensures { λ r. ⌜ Passed (now (tables .entry)) (now (note .entry)) i r (now (sets .entry)) (now (sets .exit)) (now (stepped .exit)) ⌝ }
 {
+    let places = grammar::size(tables);
     let mut grown = false;
     let mut p = 0;
     while p < places {
@@ -105,7 +94,7 @@ fn pass(
         if here {
             if stepped[q] == 0 {
                 stepped[q] = 1;
-                if step(tables, note, ws, sets, places, q, i) {
+                if step(tables, note, ws, sets, q, i) {
                     grown = true;
                 }
             }
@@ -115,13 +104,13 @@ fn pass(
 }
 
 // All that can be reached from position i, by passes until nothing changes. A step from the same place would lead nowhere new, so none is made twice.
-fn settle(tables: &[u16], note: &[u16], ws: &[u32], sets: &mut [u32], places: usize, i: usize)
-    requires { ⌜ Given (now tables) (now note) (now ws) places × (i ≤ length (now note)) × (length (now sets) ≡ setsWords) ⌝ }
-    ensures { λ _. ⌜ Settled (grammarIn (now (tables .entry))) (now (note .entry)) places i (now (sets .entry)) (now (sets .exit)) ⌝ }
+fn settle(tables: &[u16], note: &[u16], ws: &[u32], sets: &mut [u32], i: usize)
+    requires { ⌜ Standing (now tables) (now note) (now ws) i (now sets) ⌝ }
+    ensures { λ _. ⌜ Settled (now (tables .entry)) (now (note .entry)) i (now (sets .entry)) (now (sets .exit)) ⌝ }
 {
-    let mut stepped = [0u32; 255];
+    let mut stepped = [0u32; grammar::MAX_PLACES];
     loop {
-        if !pass(tables, note, ws, sets, &mut stepped, places, i) {
+        if !pass(tables, note, ws, sets, &mut stepped, i) {
             return;
         }
     }
@@ -158,8 +147,8 @@ fn highest(s: Positions, n: usize) -> usize
 }
 
 // Where a note that is no sentence goes wrong.
-pub fn wrong_place(tables: &[u16], note: &[u16], ws: &[u32], places: usize) -> usize
-    requires { ⌜ Given (now tables) (now note) (now ws) places ⌝ }
+pub fn wrong_place(tables: &[u16], note: &[u16], ws: &[u32]) -> usize
+    requires { ⌜ Given (now tables) (now note) (now ws) ⌝ }
     ensures { λ r. ⌜ r ≡ wrongPlace (grammarIn (now (tables .entry))) (now (note .entry)) ⌝ }
 {
     let mut sets = [0u32; SETS];
@@ -167,9 +156,9 @@ pub fn wrong_place(tables: &[u16], note: &[u16], ws: &[u32], places: usize) -> u
     let n = note.len();
     let mut i = 0;
     while i <= n {
-        settle(tables, note, ws, &mut sets, places, i);
+        settle(tables, note, ws, &mut sets, i);
         i += 1;
     }
-    let all = anywhere(&sets, places);
+    let all = anywhere(&sets, grammar::size(tables));
     highest(all, n)
 }

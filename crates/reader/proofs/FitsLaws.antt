@@ -18,7 +18,8 @@ use Rattle.reader.proofs.TableLaws.{C, A, B, D, held, length-A, length-
 pub compile-named : (r : Rules) → Limited r → (p a : ℕ) → facing (compile r) p ≡ Nonterminal a → a < length (r .productions)
 compile-named r limits p a e = go (facing (compile r) p) e (compile-faces r limits p)
   where
-    go : (s : Symbol) → s ≡ Nonterminal a → Faces (r .kinds) (length (r .productions)) (sizeAll (r .productions)) endPlace p s → a < length (r .productions)
+    go : (s : Symbol) → s ≡ Nonterminal a → Faces (r .kinds) (length (r .productions)) (sizeAll (r .productions)) endPlace p s
+        → a < length (r .productions)
     go s q (Faces.end x) = clash (cc)
     go s q (Faces.mark l x) = clash (cc)
     go s q (Faces.legal l h) = rw q at h

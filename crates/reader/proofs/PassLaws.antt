@@ -14,7 +14,8 @@ use Rattle.base.proofs.Lists.{sets-sets, sets-append}
 use Rattle.reader.specs.Types.{Read, Cursor, Value, Refused, OverLimit, Trailing, Symbol, Token, Nonterminal}
 use Rattle.grammar.specs.Limits.{maxKinds, maxNonterminals, maxProductions, maxLength, maxPlaces}
 use Rattle.number.specs.Number.{limitedAt, symbolAt, legal, cursor}
-use Rattle.grammar.specs.Decode.{Rules, AllOf, Legal, Production, Alternatives, Mark, mark, Parsed, got, refused, andThen, times, fromRead, limited, written, symbol, production, nonterminal, ending, decode}
+use Rattle.grammar.specs.Decode.{Rules, AllOf, Legal, Production, Alternatives, Mark, mark, Parsed, got, refused, andThen, times, fromRead, limited, written}
+use Rattle.grammar.specs.Decode.{symbol, production, nonterminal, ending, decode}
 use Rattle.grammar.specs.Grammar.{at, layOne, layEach, layAll, sizeEach, sizeAll, startsEach, Limited}
 use Rattle.grammar.specs.Tables.{wordOf, firstsAt, rulesAt}
 use Rattle.grammar.proofs.CompileLaws.{length-one, length-each}
@@ -26,19 +27,22 @@ abbrev pub Same : {A : Type 0} → Out → (A → Mark → Out) → (A → Mark 
 Same o f Q (got y m) = (o ≡ f y m) × Q y m
 Same o f Q (refused r) = o .answer ≡ Refused r
 
-same-read : {A : Type 0} (t : List ℕ) (x : Read) (p : ℕ) (K : ℕ → Cursor → Out) (h : ℕ → Mark → Parsed A) (f : A → Mark → Out) (Q : A → Mark → Type 0)
+same-read : {A : Type 0} (t : List ℕ) (x : Read) (p : ℕ) (K : ℕ → Cursor → Out) (h : ℕ → Mark → Parsed A) (f : A → Mark → Out)
+    (Q : A → Mark → Type 0)
     → ((v : ℕ) (c : Cursor) → x ≡ Value v c → Same (K v c) f Q (h v (mark (c .at) p))) → Same (onRead t x K) f Q (andThen (fromRead p x) h)
 unfolding onRead andThen
 same-read t (Value v c) p K h f Q g = g v c refl
 same-read t (Refused r) p K h f Q g = refl
 
-same-then : {A B : Type 0} (o : Out) (x : Parsed A) (f : A → Mark → Out) (Q : A → Mark → Type 0) (h : A → Mark → Parsed B) (f′ : B → Mark → Out) (Q′ : B → Mark → Type 0)
+same-then : {A B : Type 0} (o : Out) (x : Parsed A) (f : A → Mark → Out) (Q : A → Mark → Type 0) (h : A → Mark → Parsed B)
+    (f′ : B → Mark → Out) (Q′ : B → Mark → Type 0)
     → Same o f Q x → ((y : A) (m : Mark) → o ≡ f y m → Q y m → Same o f′ Q′ (h y m)) → Same o f′ Q′ (andThen x h)
 unfolding andThen
 same-then o (got y m) f Q h f′ Q′ e g = g y m (e .0) (e .1)
 same-then o (refused r) f Q h f′ Q′ e g = e
 
-same-out : {A B : Type 0} (o : Out) (x : Parsed A) (f : A → Mark → Out) (Q : A → Mark → Type 0) (K : ℕ → Cursor → List ℕ → Out) (h : A → Mark → Parsed B)
+same-out : {A B : Type 0} (o : Out) (x : Parsed A) (f : A → Mark → Out) (Q : A → Mark → Type 0) (K : ℕ → Cursor → List ℕ → Out)
+    (h : A → Mark → Parsed B)
     (f′ : B → Mark → Out) (Q′ : B → Mark → Type 0)
     → Same o f Q x → ((y : A) (m : Mark) → Q y m → Same (onOut (f y m) K) f′ Q′ (h y m)) → Same (onOut o K) f′ Q′ (andThen x h)
 unfolding andThen onRead
@@ -92,7 +96,8 @@ module _ (s : List ℕ) (kt nt : ℕ) where
   abbrev Symbols : ℕ → List Symbol → Mark → Type 0
   Symbols n l m = (length l ≡ n) × AllOf (Legal kt nt) l
 
-  symbols-push : (a p : ℕ) (t : List ℕ) (v : ℕ) (l : List Symbol) (m : Mark) → symbolsOut a (p + 1) (set t p (wordOf (at a (written v)))) l m ≡ symbolsOut a p t (written v ∷ l) m
+  symbols-push : (a p : ℕ) (t : List ℕ) (v : ℕ) (l : List Symbol) (m : Mark) → symbolsOut a (p + 1) (set t p (wordOf (at a (written v)))) l m
+      ≡ symbolsOut a p t (written v ∷ l) m
   unfolding layOne
   symbols-push a p t v l m =
       let e : p + 1 + suc (length l) ≡ p + suc (suc (length l)) = omega arith in
@@ -100,7 +105,8 @@ module _ (s : List ℕ) (kt nt : ℕ) where
       rw (e, f)
 
   abbrev SymbolsSame : ℕ → ℕ → Type 0
-  SymbolsSame n a = (c : Cursor) (p : ℕ) (t : List ℕ) (b : ℕ) → Same (symbolsOf s kt nt a n c p t) (symbolsOut a p t) (Symbols n) (times n (symbol s kt nt) (mark (c .at) b))
+  SymbolsSame n a = (c : Cursor) (p : ℕ) (t : List ℕ) (b : ℕ)
+      → Same (symbolsOf s kt nt a n c p t) (symbolsOut a p t) (Symbols n) (times n (symbol s kt nt) (mark (c .at) b))
 
   symbols-same : (n a : ℕ) → SymbolsSame n a
   unfolding symbolsOf times layOne symbol andThen onRead
@@ -109,7 +115,8 @@ module _ (s : List ℕ) (kt nt : ℕ) where
     where
       go : (x : Read) → symbolAt s kt nt (c .at) ≡ x → SymbolsSame n a
           → Same (onRead t x (λ v next. symbolsOf s kt nt a n next (p + 1) (set t p (wordOf (at a (written v)))))) (symbolsOut a p t) (Symbols (suc n))
-          (andThen (andThen (fromRead b x) (λ v m′. got (written v) m′)) (λ x m′. andThen (times n (symbol s kt nt) m′) (λ l m″. got (x ∷ l) m″)))
+          (andThen (andThen (fromRead b x) (λ v m′. got (written v) m′))
+          (λ x m′. andThen (times n (symbol s kt nt) m′) (λ l m″. got (x ∷ l) m″)))
       go (Value v next) e ih =
           same-then (symbolsOf s kt nt a n next (p + 1) (set t p (wordOf (at a (written v))))) (times n (symbol s kt nt) (mark (next .at) b))
           (symbolsOut a (p + 1) (set t p (wordOf (at a (written v))))) (Symbols n) (λ l m″. got (written v ∷ l) m″) (symbolsOut a p t) (Symbols (suc n))
@@ -126,7 +133,8 @@ module _ (s : List ℕ) (kt nt : ℕ) where
   Productions n p l m = (length l ≡ n) × (m .places ≡ p + sizeEach l) × (m .places ≤ maxPlaces) × AllOf (Production kt nt) l
 
   -- one production behind which others follow
-  productions-push : (a p k : ℕ) (t : List ℕ) (β : List Symbol) (l : List (List Symbol)) (p′ : ℕ) → p′ ≡ p + suc (length β) → p′ ≤ maxPlaces
+  productions-push : (a p k : ℕ) (t : List ℕ) (β : List Symbol) (l : List (List Symbol)) (p′ : ℕ) → p′ ≡ p + suc (length β)
+      → p′ ≤ maxPlaces
       → sets (sets (sets (set t (firstsAt + k) p) p (map wordOf (layOne a β))) (firstsAt + (k + 1)) (startsEach p′ l)) p′ (map wordOf (layEach a l))
       ≡ sets (sets t (firstsAt + k) (startsEach p (β ∷ l))) p (map wordOf (layEach a (β ∷ l)))
   unfolding startsEach layEach
@@ -138,7 +146,8 @@ module _ (s : List ℕ) (kt nt : ℕ) where
       (sets-sets (set t (firstsAt + k) p) (firstsAt + (k + 1)) (startsEach p′ l) p W (inl (omega (arith, w))))
       ∙ ap (λ (q : ℕ). sets (sets (sets (set t (firstsAt + k) p) (firstsAt + (k + 1)) (startsEach p′ l)) p W) q (map wordOf (layEach a l))) w
       ∙ sym (sets-append (sets (set t (firstsAt + k) p) (firstsAt + (k + 1)) (startsEach p′ l)) p W (map wordOf (layEach a l)))
-      ∙ ap (λ (r : List ℕ). sets (sets (set t (firstsAt + k) p) (firstsAt + (k + 1)) (startsEach p′ l)) p r) (sym (map-append wordOf (layOne a β) (layEach a l)))
+      ∙ ap (λ (r : List ℕ). sets (sets (set t (firstsAt + k) p) (firstsAt + (k + 1)) (startsEach p′ l)) p r)
+      (sym (map-append wordOf (layOne a β) (layEach a l)))
       ∙ (rw (f, e))
 
   -- the symbols of a production, and the mark behind it
@@ -149,9 +158,11 @@ module _ (s : List ℕ) (kt nt : ℕ) where
   One p k β m = (length β ≡ k) × AllOf (Legal kt nt) β × (m .places ≡ p + suc k)
 
   one-same : (a k : ℕ) (c : Cursor) (p : ℕ) (t : List ℕ)
-      → Same (symbolsOf s kt nt a k c p t) (oneOut a p t) (One p k) (andThen (times k (symbol s kt nt) (mark (c .at) p)) (λ l m. got l (mark (m .byte) (p + suc k))))
+      → Same (symbolsOf s kt nt a k c p t) (oneOut a p t) (One p k)
+      (andThen (times k (symbol s kt nt) (mark (c .at) p)) (λ l m. got l (mark (m .byte) (p + suc k))))
   one-same a k c p t =
-      same-then (symbolsOf s kt nt a k c p t) (times k (symbol s kt nt) (mark (c .at) p)) (symbolsOut a p t) (Symbols k) (λ l m. got l (mark (m .byte) (p + suc k))) (oneOut a p t) (One p k)
+      same-then (symbolsOf s kt nt a k c p t) (times k (symbol s kt nt) (mark (c .at) p)) (symbolsOut a p t) (Symbols k)
+      (λ l m. got l (mark (m .byte) (p + suc k))) (oneOut a p t) (One p k)
       (symbols-same k a c p t p)
       (λ l m q h. (q ∙ ap (λ (n : ℕ). out (Value (p + suc n) (cursor (m .byte))) (sets t p (map wordOf (layOne a l)))) (h .0), (h .0, h .1, refl)))
 
@@ -162,7 +173,8 @@ module _ (s : List ℕ) (kt nt : ℕ) where
   -- what decoding does behind a length, and behind a production
   abbrev behindLength : Cursor → ℕ → ℕ → Mark → Parsed (List Symbol)
   behindLength c p k m′ =
-      cond (ltb maxPlaces (p + suc k)) (refused (OverLimit (c .at))) (andThen (times k (symbol s kt nt) m′) (λ l m″. got l (mark (m″ .byte) (p + suc k))))
+      cond (ltb maxPlaces (p + suc k)) (refused (OverLimit (c .at)))
+      (andThen (times k (symbol s kt nt) m′) (λ l m″. got l (mark (m″ .byte) (p + suc k))))
 
   abbrev behindOne : ℕ → List Symbol → Mark → Parsed (List (List Symbol))
   behindOne n β m′ = andThen (times n (production s kt nt) m′) (λ l m″. got (β ∷ l) m″)
@@ -173,31 +185,39 @@ module _ (s : List ℕ) (kt nt : ℕ) where
   productions-same (suc n) a c p k t l = go (limitedAt s 0 maxLength (c .at)) refl (productions-same n a)
     where
       next-one : ProductionsSame n a → (len : ℕ) → len ≤ maxLength → p + suc len ≤ maxPlaces → (β : List Symbol) (m : Mark) → One p len β m
-          → Same (onOut (oneOut a p (set t (firstsAt + k) p) β m) (λ q c′ t′. productionsOf s kt nt a n c′ q (k + 1) t′)) (productionsOut a p k t) (Productions (suc n) p) (behindOne n β m)
+          → Same (onOut (oneOut a p (set t (firstsAt + k) p) β m) (λ q c′ t′. productionsOf s kt nt a n c′ q (k + 1) t′)) (productionsOut a p k t)
+          (Productions (suc n) p) (behindOne n β m)
       next-one ih len most fits β m h =
           let b : m .places ≡ p + suc (length β) = omega (arith, h .0, h .2) in
           let T : List ℕ = sets (set t (firstsAt + k) p) p (map wordOf (layOne a β)) in
-          same-then (productionsOf s kt nt a n (cursor (m .byte)) (m .places) (k + 1) T) (times n (production s kt nt) m) (productionsOut a (m .places) (k + 1) T) (Productions n (m .places))
+          same-then (productionsOf s kt nt a n (cursor (m .byte)) (m .places) (k + 1) T) (times n (production s kt nt) m)
+          (productionsOut a (m .places) (k + 1) T) (Productions n (m .places))
           (λ l m″. got (β ∷ l) m″) (productionsOut a p k t) (Productions (suc n) p)
           (ih (cursor (m .byte)) (m .places) (k + 1) T (omega (arith, h .2)))
           (λ l m″ q g. (
-            q ∙ ap (λ (r : List ℕ). out (Value (m″ .places) (cursor (m″ .byte))) r) (productions-push a p k t β l (m .places) b (omega (arith, h .2))),
+            q ∙ ap (λ (r : List ℕ). out (Value (m″ .places) (cursor (m″ .byte))) r)
+                (productions-push a p k t β l (m .places) b (omega (arith, h .2))),
             (ap suc (g .0), omega (arith, b, g .1), g .2, ((omega (arith, h .0), h .1), g .3)),
           ))
 
       by-room : ProductionsSame n a → (len : ℕ) (next : Cursor) → len ≤ maxLength → (b : Bool) → ltb maxPlaces (p + suc len) ≡ b
-          → Same (cond b (out (Refused (OverLimit (c .at))) t) (onOut (symbolsOf s kt nt a len next p (set t (firstsAt + k) p)) (λ q c′ t′. productionsOf s kt nt a n c′ q (k + 1) t′)))
+          → Same (cond b (out (Refused (OverLimit (c .at))) t)
+          (onOut (symbolsOf s kt nt a len next p (set t (firstsAt + k) p)) (λ q c′ t′. productionsOf s kt nt a n c′ q (k + 1) t′)))
           (productionsOut a p k t) (Productions (suc n) p)
-          (andThen (cond b (refused (OverLimit (c .at))) (andThen (times len (symbol s kt nt) (mark (next .at) p)) (λ l m″. got l (mark (m″ .byte) (p + suc len))))) (behindOne n))
+          (andThen (cond b (refused (OverLimit (c .at)))
+          (andThen (times len (symbol s kt nt) (mark (next .at) p)) (λ l m″. got l (mark (m″ .byte) (p + suc len))))) (behindOne n))
       by-room ih len next most true e = refl
       by-room ih len next most false e =
-          same-out (symbolsOf s kt nt a len next p (set t (firstsAt + k) p)) (andThen (times len (symbol s kt nt) (mark (next .at) p)) (λ l m″. got l (mark (m″ .byte) (p + suc len))))
-          (oneOut a p (set t (firstsAt + k) p)) (One p len) (λ q c′ t′. productionsOf s kt nt a n c′ q (k + 1) t′) (behindOne n) (productionsOut a p k t) (Productions (suc n) p)
+          same-out (symbolsOf s kt nt a len next p (set t (firstsAt + k) p))
+          (andThen (times len (symbol s kt nt) (mark (next .at) p)) (λ l m″. got l (mark (m″ .byte) (p + suc len))))
+          (oneOut a p (set t (firstsAt + k) p)) (One p len) (λ q c′ t′. productionsOf s kt nt a n c′ q (k + 1) t′) (behindOne n)
+          (productionsOut a p k t) (Productions (suc n) p)
           (one-same a len next p (set t (firstsAt + k) p))
           (next-one ih len most (ltb-false maxPlaces (p + suc len) e))
 
       go : (x : Read) → limitedAt s 0 maxLength (c .at) ≡ x → ProductionsSame n a
-          → Same (onRead t x (λ m next. cond (ltb maxPlaces (p + m + 1)) (out (Refused (OverLimit (c .at))) t) (onOut (symbolsOf s kt nt a m next p (set t (firstsAt + k) p)) (λ q c′ t′. productionsOf s kt nt a n c′ q (k + 1) t′))))
+          → Same (onRead t x (λ m next. cond (ltb maxPlaces (p + m + 1)) (out (Refused (OverLimit (c .at))) t)
+          (onOut (symbolsOf s kt nt a m next p (set t (firstsAt + k) p)) (λ q c′ t′. productionsOf s kt nt a n c′ q (k + 1) t′))))
           (productionsOut a p k t) (Productions (suc n) p) (andThen (andThen (fromRead p x) (behindLength c p)) (behindOne n))
       go (Value len next) e ih =
           let z : p + len + 1 ≡ p + suc len = omega arith in
@@ -214,8 +234,10 @@ module _ (s : List ℕ) (kt nt : ℕ) where
   AllRules n p l m = (length l ≡ n) × (m .places ≡ p + sizeAll l) × (m .places ≤ maxPlaces) × AllOf (Alternatives kt nt) l
 
   -- one nonterminal behind which others follow
-  rules-push : (a p k : ℕ) (t : List ℕ) (y : List (List Symbol)) (l : List (List (List Symbol))) (p′ m : ℕ) → p′ ≡ p + sizeEach y → p′ ≤ maxPlaces → k ≤ p → m ≡ length y
-      → sets (sets (sets (sets (sets (set t (rulesAt + a) k) (firstsAt + k) (startsEach p y)) p (map wordOf (layEach a y))) (rulesAt + (a + 1)) (countsOf (k + m) l))
+  rules-push : (a p k : ℕ) (t : List ℕ) (y : List (List Symbol)) (l : List (List (List Symbol))) (p′ m : ℕ) → p′ ≡ p + sizeEach y
+      → p′ ≤ maxPlaces → k ≤ p → m ≡ length y
+      → sets (sets (sets (sets (sets (set t (rulesAt + a) k) (firstsAt + k) (startsEach p y)) p (map wordOf (layEach a y))) (rulesAt + (a + 1))
+      (countsOf (k + m) l))
       (firstsAt + (k + m)) (firstsOf p′ l)) p′ (map wordOf (layAll (a + 1) l))
       ≡ sets (sets (sets t (rulesAt + a) (countsOf k (y ∷ l))) (firstsAt + k) (firstsOf p (y ∷ l))) p (map wordOf (layAll a (y ∷ l)))
   unfolding countsOf firstsOf layAll
@@ -256,24 +278,29 @@ module _ (s : List ℕ) (kt nt : ℕ) where
   rules-same (suc n) a c p k t l kp = go (limitedAt s 1 maxProductions (c .at)) refl (rules-same n)
     where
       next-one : RulesSame n → (m : ℕ) → 1 ≤ m → m ≤ maxProductions → (y : List (List Symbol)) (mk : Mark) → Productions m p y mk
-          → Same (onOut (productionsOut a p k (set t (rulesAt + a) k) y mk) (λ q c′ t′. nonterminalsOf s kt nt (a + 1) n c′ q (k + m) t′)) (rulesOut a p k t) (AllRules (suc n) p) (behindNonterminal n y mk)
+          → Same (onOut (productionsOut a p k (set t (rulesAt + a) k) y mk) (λ q c′ t′. nonterminalsOf s kt nt (a + 1) n c′ q (k + m) t′))
+          (rulesOut a p k t) (AllRules (suc n) p) (behindNonterminal n y mk)
       next-one ih m least most y mk h =
           let T : List ℕ = sets (sets (set t (rulesAt + a) k) (firstsAt + k) (startsEach p y)) p (map wordOf (layEach a y)) in
           let few : k + m ≤ mk .places = omega (arith, h .0, h .1, length-size y) in
-          same-then (nonterminalsOf s kt nt (a + 1) n (cursor (mk .byte)) (mk .places) (k + m) T) (times n (nonterminal s kt nt) mk) (rulesOut (a + 1) (mk .places) (k + m) T)
+          same-then (nonterminalsOf s kt nt (a + 1) n (cursor (mk .byte)) (mk .places) (k + m) T) (times n (nonterminal s kt nt) mk)
+          (rulesOut (a + 1) (mk .places) (k + m) T)
           (AllRules n (mk .places)) (λ l m″. got (y ∷ l) m″) (rulesOut a p k t) (AllRules (suc n) p)
           (ih (a + 1) (cursor (mk .byte)) (mk .places) (k + m) T (h .2) few)
           (λ l m″ q g. (
-            q ∙ ap (λ (r : List ℕ). out (Value (m″ .places) (cursor (m″ .byte))) r) (rules-push a p k t y l (mk .places) m (h .1) (h .2) kp (sym (h .0))),
+            q ∙ ap (λ (r : List ℕ). out (Value (m″ .places) (cursor (m″ .byte))) r)
+                (rules-push a p k t y l (mk .places) m (h .1) (h .2) kp (sym (h .0))),
             (ap suc (g .0), omega (arith, h .1, g .1), g .2, ((omega (arith, h .0), omega (arith, h .0), h .3), g .3)),
           ))
 
       go : (x : Read) → limitedAt s 1 maxProductions (c .at) ≡ x → RulesSame n
-          → Same (onRead t x (λ m next. onOut (productionsOf s kt nt a m next p k (set t (rulesAt + a) k)) (λ q c′ t′. nonterminalsOf s kt nt (a + 1) n c′ q (k + m) t′)))
+          → Same (onRead t x (λ m next. onOut (productionsOf s kt nt a m next p k (set t (rulesAt + a) k))
+          (λ q c′ t′. nonterminalsOf s kt nt (a + 1) n c′ q (k + m) t′)))
           (rulesOut a p k t) (AllRules (suc n) p) (andThen (andThen (fromRead p x) (λ k m′. times k (production s kt nt) m′)) (behindNonterminal n))
       go (Value m next) e ih =
           let b = limited-is s 1 maxProductions (c .at) refl e in
-          same-out (productionsOf s kt nt a m next p k (set t (rulesAt + a) k)) (times m (production s kt nt) (mark (next .at) p)) (productionsOut a p k (set t (rulesAt + a) k)) (Productions m p)
+          same-out (productionsOf s kt nt a m next p k (set t (rulesAt + a) k)) (times m (production s kt nt) (mark (next .at) p))
+          (productionsOut a p k (set t (rulesAt + a) k)) (Productions m p)
           (λ q c′ t′. nonterminalsOf s kt nt (a + 1) n c′ q (k + m) t′) (behindNonterminal n) (rulesOut a p k t) (AllRules (suc n) p)
           (productions-same m a next p k (set t (rulesAt + a) k) l)
           (next-one ih m (b .0) (b .1))
@@ -289,8 +316,10 @@ laidOut t r =
 abbrev pub passOut : List ℕ → Rules → Mark → Out
 passOut t r m = out (Value (sizeAll (r .productions)) (cursor (m .byte))) (laidOut t r)
 
-closing-same : (s t : List ℕ) (kt nt : ℕ) → (1 ≤ kt) × (kt ≤ maxKinds) → (1 ≤ nt) × (nt ≤ maxNonterminals) → (l : List (List (List Symbol))) (m : Mark) → AllRules s kt nt nt 0 l m
-    → Same (onOut (rulesOut s kt nt 0 0 0 t l m) (λ p c t′. closing s kt nt p c t′)) (passOut t) (λ r m. Limited r) (ending s (record { kinds = kt; productions = l }) m)
+closing-same : (s t : List ℕ) (kt nt : ℕ) → (1 ≤ kt) × (kt ≤ maxKinds) → (1 ≤ nt) × (nt ≤ maxNonterminals)
+    → (l : List (List (List Symbol))) (m : Mark) → AllRules s kt nt nt 0 l m
+    → Same (onOut (rulesOut s kt nt 0 0 0 t l m) (λ p c t′. closing s kt nt p c t′)) (passOut t) (λ r m. Limited r)
+    (ending s (record { kinds = kt; productions = l }) m)
 unfolding closing ending laidOut onRead
 closing-same s t kt nt hk hn l m h = go (ltb (m .byte) (length s))
   where
@@ -310,7 +339,8 @@ closing-same s t kt nt hk hn l m h = go (ltb (m .byte) (length s))
       small = omega (arith, z);
     }
 
-    go : (b : Bool) → Same (cond b (out (Refused (Trailing (m .byte))) X) (out (Value (m .places) (cursor (m .byte))) (finished kt nt (m .places) X))) (passOut t) (λ r m. Limited r)
+    go : (b : Bool) → Same (cond b (out (Refused (Trailing (m .byte))) X) (out (Value (m .places) (cursor (m .byte))) (finished kt nt (m .places) X)))
+        (passOut t) (λ r m. Limited r)
         (cond b (refused (Trailing (m .byte))) (got (record { kinds = kt; productions = l }) m))
     go true = refl
     go false = (rw (z, h .0), limits)

@@ -36,7 +36,8 @@ module _ (s : List ℕ) (kt nt a : ℕ) where
   symbols-step zero c p t h = absurd (omega arith)
   symbols-step (suc n) c p t h = let e : suc n - 1 ≡ n = omega arith in rw e
 
-  pub symbols-done : (left : ℕ) (c : Cursor) (p : ℕ) (t : List ℕ) {end : Out} {w : ℕ} → left ≡ 0 → symbolsOf s kt nt a left c p t ≡ end → w ≡ wordOf (at a End)
+  pub symbols-done : (left : ℕ) (c : Cursor) (p : ℕ) (t : List ℕ) {end : Out} {w : ℕ} → left ≡ 0 → symbolsOf s kt nt a left c p t ≡ end → w
+      ≡ wordOf (at a End)
       → out (Value (p + 1) c) (set t p w) ≡ end
   unfolding symbolsOf
   symbols-done left c p t e i q = rw q (rw e at i)
@@ -108,7 +109,8 @@ module _ (s : List ℕ) (kt nt a : ℕ) where
       pub productions-full : maxPlaces < p + m + 1 → out (Refused (OverLimit (c .at))) t ≡ end
       productions-full l = rw (lt-ltb maxPlaces (p + m + 1) l) at counted
 
-      module _ {w : ℕ} (z : w ≡ p) (l : p + m + 1 ≤ maxPlaces) {x : Read} {t′ : List ℕ} (g : out x t′ ≡ symbolsOf s kt nt a m next p (set t (firstsAt + k) w)) where
+      module _ {w : ℕ} (z : w ≡ p) (l : p + m + 1 ≤ maxPlaces) {x : Read} {t′ : List ℕ}
+          (g : out x t′ ≡ symbolsOf s kt nt a m next p (set t (firstsAt + k) w)) where
         pieced : behindSymbols (left - 1) k (out x t′) ≡ end
         pieced = ap (behindSymbols (left - 1) k) (rw z at g) ∙ (rw (le-ltb maxPlaces (p + m + 1) l) at counted)
 
@@ -126,7 +128,8 @@ module _ (s : List ℕ) (kt nt a : ℕ) where
   abbrev Bounded : ℕ → Type 0
   Bounded n = (c : Cursor) (p k : ℕ) (t : List ℕ) → p ≤ maxPlaces → EndsIn (p + n) (productionsOf s kt nt a n c p k t .answer)
 
-  ends-behind : (n m p k : ℕ) → Bounded n → p + m + 1 ≤ maxPlaces → (o : Out) → EndsAt s kt nt a (p + m + 1) (o .answer) → EndsIn (p + suc n) (behindSymbols n k o .answer)
+  ends-behind : (n m p k : ℕ) → Bounded n → p + m + 1 ≤ maxPlaces → (o : Out) → EndsAt s kt nt a (p + m + 1) (o .answer)
+      → EndsIn (p + suc n) (behindSymbols n k o .answer)
   unfolding onRead
   ends-behind n m p k ih l o = go (o .answer)
     where
@@ -134,11 +137,13 @@ module _ (s : List ℕ) (kt nt a : ℕ) where
       up (Value q c) h = omega arith
       up (Refused r) h = tt
 
-      go : (x : Read) → EndsAt s kt nt a (p + m + 1) x → EndsIn (p + suc n) (onRead (o .tables) x (λ q c′. productionsOf s kt nt a n c′ q (k + 1) (o .tables)) .answer)
+      go : (x : Read) → EndsAt s kt nt a (p + m + 1) x
+          → EndsIn (p + suc n) (onRead (o .tables) x (λ q c′. productionsOf s kt nt a n c′ q (k + 1) (o .tables)) .answer)
       go (Value q c) e = rw e (up (productionsOf s kt nt a n c (p + m + 1) (k + 1) (o .tables) .answer) (ih c (p + m + 1) (k + 1) (o .tables) l))
       go (Refused r) e = tt
 
-  ends-length : (n : ℕ) (c : Cursor) (p k : ℕ) (t : List ℕ) → Bounded n → (x : Read) → EndsIn (p + suc n) (onRead t x (moreProductions n c p k t) .answer)
+  ends-length : (n : ℕ) (c : Cursor) (p k : ℕ) (t : List ℕ) → Bounded n → (x : Read)
+      → EndsIn (p + suc n) (onRead t x (moreProductions n c p k t) .answer)
   unfolding onRead
   ends-length n c p k t ih (Value m next) = go (decLe (p + m + 1) maxPlaces)
     where
@@ -172,7 +177,8 @@ module _ (s : List ℕ) (kt nt : ℕ) where
   rules-step a zero c p k t h = absurd (omega arith)
   rules-step a (suc n) c p k t h = let e : suc n - 1 ≡ n = omega arith in rw e
 
-  pub rules-done : (a left : ℕ) (c : Cursor) (p k : ℕ) (t : List ℕ) {end : Out} {w : ℕ} → left ≡ 0 → w ≡ k → nonterminalsOf s kt nt a left c p k t ≡ end
+  pub rules-done : (a left : ℕ) (c : Cursor) (p k : ℕ) (t : List ℕ) {end : Out} {w : ℕ} → left ≡ 0 → w ≡ k
+      → nonterminalsOf s kt nt a left c p k t ≡ end
       → out (Value p c) (set t (rulesAt + a) w) ≡ end
   unfolding nonterminalsOf
   rules-done a left c p k t e z i = rw z (rw e at i)
@@ -193,21 +199,25 @@ module _ (s : List ℕ) (kt nt : ℕ) where
       pub rules-piece : {r : Refusal} → x ≡ Refused r → out x t′ ≡ end
       rules-piece y = sym (on-refused t′ _ y) ∙ all-pieced
 
-      pub rules-more : {c′ : Cursor} {p′ : ℕ} (left′ : ℕ) → left′ ≡ left - 1 → x ≡ Value p′ c′ → nonterminalsOf s kt nt (a + 1) left′ c′ p′ (k + m) t′ ≡ end
+      pub rules-more : {c′ : Cursor} {p′ : ℕ} (left′ : ℕ) → left′ ≡ left - 1 → x ≡ Value p′ c′
+          → nonterminalsOf s kt nt (a + 1) left′ c′ p′ (k + m) t′ ≡ end
       rules-more left′ d y = rw d (sym (on-value t′ _ y) ∙ all-pieced)
 
   -- where the nonterminals end
   abbrev BoundedRules : ℕ → Type 0
   BoundedRules n = (a : ℕ) (c : Cursor) (p k : ℕ) (t : List ℕ) → p ≤ maxPlaces → EndsIn s kt nt 0 0 (nonterminalsOf s kt nt a n c p k t .answer)
 
-  ends-count : (a n : ℕ) (p k : ℕ) (t : List ℕ) → BoundedRules n → p ≤ maxPlaces → (x : Read) → EndsIn s kt nt 0 0 (onRead t x (moreNonterminals a n p k t) .answer)
+  ends-count : (a n : ℕ) (p k : ℕ) (t : List ℕ) → BoundedRules n → p ≤ maxPlaces → (x : Read)
+      → EndsIn s kt nt 0 0 (onRead t x (moreNonterminals a n p k t) .answer)
   unfolding onRead
-  ends-count a n p k t ih l (Value m next) = go (productionsOf s kt nt a m next p k (set t (rulesAt + a) k)) (ends-productions s kt nt a m next p k (set t (rulesAt + a) k) l)
+  ends-count a n p k t ih l (Value m next) =
+      go (productionsOf s kt nt a m next p k (set t (rulesAt + a) k)) (ends-productions s kt nt a m next p k (set t (rulesAt + a) k) l)
     where
       go : (o : Out) → EndsIn s kt nt a (p + m) (o .answer) → EndsIn s kt nt 0 0 (behindProductions a n (k + m) o .answer)
       go o = by-answer (o .answer)
         where
-          by-answer : (x : Read) → EndsIn s kt nt a (p + m) x → EndsIn s kt nt 0 0 (onRead (o .tables) x (λ q c′. nonterminalsOf s kt nt (a + 1) n c′ q (k + m) (o .tables)) .answer)
+          by-answer : (x : Read) → EndsIn s kt nt a (p + m) x
+              → EndsIn s kt nt 0 0 (onRead (o .tables) x (λ q c′. nonterminalsOf s kt nt (a + 1) n c′ q (k + m) (o .tables)) .answer)
           by-answer (Value q c) h = ih (a + 1) c q (k + m) (o .tables) (h .1)
           by-answer (Refused r) h = tt
   ends-count a n p k t ih l (Refused r) = tt
@@ -242,21 +252,22 @@ module _ (s t : List ℕ) where
       pub pass-count : {r : Refusal} → m ≡ Refused r → out m t ≡ passOf s t
       pass-count y = sym (after-kinds ∙ on-refused t _ y)
 
-      module _ {nt : ℕ} {c′ : Cursor} (y : m ≡ Value nt c′) {x : Read} {t′ : List ℕ} (g : out x t′ ≡ nonterminalsOf s kt nt 0 nt c′ 0 0 t) where
-        after-rules : passOf s t ≡ behindRules kt nt (out x t′)
-        after-rules = after-kinds ∙ on-value t _ y ∙ ap (behindRules kt nt) (sym g)
+      module _ {nt : ℕ} {c′ : Cursor} (y : m ≡ Value nt c′) {x : Read} {t′ : List ℕ} (g : out x t′ ≡ nonterminalsOf s kt nt 0 nt c′ 0 0 t)
+        where
+          after-rules : passOf s t ≡ behindRules kt nt (out x t′)
+          after-rules = after-kinds ∙ on-value t _ y ∙ ap (behindRules kt nt) (sym g)
 
-        pub pass-rules : {r : Refusal} → x ≡ Refused r → out x t′ ≡ passOf s t
-        pass-rules z = sym (after-rules ∙ on-refused t′ _ z)
+          pub pass-rules : {r : Refusal} → x ≡ Refused r → out x t′ ≡ passOf s t
+          pass-rules z = sym (after-rules ∙ on-refused t′ _ z)
 
-        module _ {p : ℕ} {c″ : Cursor} (z : x ≡ Value p c″) where
-          at-end : passOf s t ≡ closing s kt nt p c″ t′
-          at-end = after-rules ∙ on-value t′ _ z
+          module _ {p : ℕ} {c″ : Cursor} (z : x ≡ Value p c″) where
+            at-end : passOf s t ≡ closing s kt nt p c″ t′
+            at-end = after-rules ∙ on-value t′ _ z
 
-          pub pass-trailing : c″ .at < length s → out (Refused (Trailing (c″ .at))) t′ ≡ passOf s t
-          unfolding closing
-          pass-trailing l = sym (at-end ∙ rw (lt-ltb (c″ .at) (length s) l))
+            pub pass-trailing : c″ .at < length s → out (Refused (Trailing (c″ .at))) t′ ≡ passOf s t
+            unfolding closing
+            pass-trailing l = sym (at-end ∙ rw (lt-ltb (c″ .at) (length s) l))
 
-          pub pass-whole : length s ≤ c″ .at → {t″ : List ℕ} → t″ ≡ finished kt nt p t′ → out (Value p c″) t″ ≡ passOf s t
-          unfolding closing
-          pass-whole l f = rw f (sym (at-end ∙ rw (le-ltb (c″ .at) (length s) l)))
+            pub pass-whole : length s ≤ c″ .at → {t″ : List ℕ} → t″ ≡ finished kt nt p t′ → out (Value p c″) t″ ≡ passOf s t
+            unfolding closing
+            pass-whole l f = rw f (sym (at-end ∙ rw (le-ltb (c″ .at) (length s) l)))

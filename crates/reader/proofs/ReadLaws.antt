@@ -15,7 +15,8 @@ use Rattle.reader.proofs.FitsLaws.{tables-fit}
 
 pub data Outcome (s : List ℕ) (x : Read) (t : List ℕ) : Type 0 where
   none : (r : Refusal) → decode s ≡ refused r → x ≡ Refused r → Outcome s x t
-  whole : (r : Rules) (m : Mark) (v : ℕ) (c : Cursor) → decode s ≡ got r m → x ≡ Value v c → Limited r → grammarIn t ≡ compile r → Fits t → Outcome s x t
+  whole : (r : Rules) (m : Mark) (v : ℕ) (c : Cursor) → decode s ≡ got r m → x ≡ Value v c → Limited r → grammarIn t ≡ compile r → Fits t
+      → Outcome s x t
 
 pub outcome : (s t₀ : List ℕ) {x : Read} {t : List ℕ} → t₀ ≡ replicate tableWords 0 → out x t ≡ passOf s t₀ → Outcome s x t
 outcome s t₀ {x} {t} z e = go (decode s) refl (pass-same s (replicate tableWords 0))
@@ -23,7 +24,8 @@ outcome s t₀ {x} {t} z e = go (decode s) refl (pass-same s (replicate tableWor
     e₀ : out x t ≡ passOf s (replicate tableWords 0)
     e₀ = e ∙ ap (passOf s) z
 
-    go : (d : Parsed Rules) → decode s ≡ d → Same (passOf s (replicate tableWords 0)) (passOut (replicate tableWords 0)) (λ r m. Limited r) d → Outcome s x t
+    go : (d : Parsed Rules) → decode s ≡ d → Same (passOf s (replicate tableWords 0)) (passOut (replicate tableWords 0)) (λ r m. Limited r) d
+        → Outcome s x t
     go (got r m) q h =
         let o = e₀ ∙ h .0 in
         let w : t ≡ laidOut (replicate tableWords 0) r = ap (λ (o : Out). o .tables) o in

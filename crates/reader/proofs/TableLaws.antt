@@ -11,32 +11,35 @@ use Rattle.reader.specs.Types.{Symbol, Token, Nonterminal, End, Place}
 use Rattle.grammar.specs.Limits.{maxKinds, maxNonterminals, maxPlaces, endPlace, endMark, nobody}
 use Rattle.grammar.specs.Decode.{Rules, AllOf, Legal, Production, Alternatives}
 use Rattle.grammar.specs.Grammar.{at, nowhere, layOne, layEach, layAll, sizeEach, sizeAll, startsEach, startsAll, padded, compile, Limited}
-use Rattle.grammar.specs.Tables.{placeWords, ruleWords, firstsAt, rulesAt, kindsAt, nonterminalsAt, sizeAt, tableWords, codeOf, wordOf, placeOf, ruleAt, startsIn, grammarIn}
+use Rattle.grammar.specs.Tables.{codes, owners, placeWords, ruleWords, firstsAt, rulesAt, kindsAt, nonterminalsAt, sizeAt, tableWords, codeOf, wordOf, placeOf}
+use Rattle.grammar.specs.Tables.{ruleAt, startsIn, grammarIn}
 use Rattle.grammar.proofs.CompileLaws.{length-all}
 use Rattle.reader.specs.Pass.{finished}
 use Rattle.grammar.proofs.WordLaws.{place-of-word, place-of-none}
 use Rattle.reader.proofs.PassLaws.{countsOf, firstsOf, laidOut, length-starts, length-size}
 
 -- ---- words back to places
-legal-code : (t n : ℕ) (x : Symbol) → Legal t n x → t ≤ maxKinds → n ≤ maxNonterminals → codeOf x < 256
+legal-code : (t n : ℕ) (x : Symbol) → Legal t n x → t ≤ maxKinds → n ≤ maxNonterminals → codeOf x < codes
 legal-code t n (Token k) h kt kn = omega arith
 legal-code t n (Nonterminal a) h kt kn = omega arith
 legal-code t n End h kt kn = absurd h
 
 module _ (t n : ℕ) (kt : t ≤ maxKinds) (kn : n ≤ maxNonterminals) where
-  back-one : (a : ℕ) → a < 64 → (β : List Symbol) → AllOf (Legal t n) β → map placeOf (map wordOf (layOne a β)) ≡ layOne a β
+  back-one : (a : ℕ) → a < owners → (β : List Symbol) → AllOf (Legal t n) β → map placeOf (map wordOf (layOne a β)) ≡ layOne a β
   unfolding layOne
   back-one a l [] h = ap (λ (x : Place). x ∷ []) (place-of-word (at a End) (omega arith) l)
-  back-one a l (x ∷ β) h = ap₂ (λ (y : Place) (r : List Place). y ∷ r) (place-of-word (at a x) (legal-code t n x (h .0) kt kn) l) (back-one a l β (h .1))
+  back-one a l (x ∷ β) h = ap₂ (λ (y : Place) (r : List Place). y ∷ r) (place-of-word (at a x) (legal-code t n x (h .0) kt kn) l)
+      (back-one a l β (h .1))
 
-  back-each : (a : ℕ) → a < 64 → (l : List (List Symbol)) → AllOf (Production t n) l → map placeOf (map wordOf (layEach a l)) ≡ layEach a l
+  back-each : (a : ℕ) → a < owners → (l : List (List Symbol)) → AllOf (Production t n) l → map placeOf (map wordOf (layEach a l)) ≡ layEach a l
   unfolding layEach
   back-each a l [] h = refl
   back-each a l (β ∷ bs) h =
       ap (map placeOf) (map-append wordOf (layOne a β) (layEach a bs)) ∙ map-append placeOf (map wordOf (layOne a β)) (map wordOf (layEach a bs))
       ∙ ap₂ (λ (x y : List Place). x ++ y) (back-one a l β (h .0 .1)) (back-each a l bs (h .1))
 
-  back-all : (a : ℕ) (l : List (List (List Symbol))) → a + length l ≤ 64 → AllOf (Alternatives t n) l → map placeOf (map wordOf (layAll a l)) ≡ layAll a l
+  back-all : (a : ℕ) (l : List (List (List Symbol))) → a + length l ≤ owners → AllOf (Alternatives t n) l → map placeOf (map wordOf (layAll a l))
+      ≡ layAll a l
   unfolding layAll
   back-all a [] b h = refl
   back-all a (y ∷ l) b h =
@@ -63,7 +66,8 @@ unfolding startsIn ruleAt upFrom startsAll countsOf firstsOf
 starts-back X rest [] a k o c d = refl
 starts-back X rest (n ∷ l) a k o c d =
     ap₂ (λ (x : List ℕ) (r : List (List ℕ)). x ∷ r) here
-    (starts-back X rest l (suc a) (k + length n) (o + sizeEach n) (λ j h. ap (λ (q : ℕ). getD X (rulesAt + q) 0) (next j) ∙ c (suc j) (omega arith)) there)
+    (starts-back X rest l (suc a) (k + length n) (o + sizeEach n) (λ j h. ap (λ (q : ℕ). getD X (rulesAt + q) 0) (next j) ∙ c (suc j) (omega arith))
+    there)
   where
     next : (j : ℕ) → suc a + j ≡ a + suc j
     next j = omega arith
@@ -95,7 +99,8 @@ starts-back X rest (n ∷ l) a k o c d =
     there : drop (firstsAt + (k + length n)) X ≡ firstsOf (o + sizeEach n) l ++ rest
     there =
         let e : firstsAt + (k + length n) ≡ firstsAt + k + length n = omega arith in
-        rw e (sym (drop-drop (length n) (firstsAt + k) X) ∙ ap (drop (length n)) inside ∙ drop-at (startsEach o n) (firstsOf (o + sizeEach n) l ++ rest) (length n) (length-starts o n))
+        rw e (sym (drop-drop (length n) (firstsAt + k) X) ∙ ap (drop (length n)) inside
+        ∙ drop-at (startsEach o n) (firstsOf (o + sizeEach n) l ++ rest) (length n) (length-starts o n))
 
 -- ---- the tables, region by region
 -- a run of stores fills the front of a region of zeros
@@ -200,14 +205,18 @@ module _ (r : Rules) (limits : Limited r) where
   set-last : (w : ℕ) (E : List ℕ) (i x : ℕ) → set (regions A w B D E) (maxPlaces + suc (maxPlaces + (ruleWords + i))) x ≡ regions A w B D (set E i x)
   set-last w E i x =
       set-behind A (w ∷ (B ++ (D ++ E))) maxPlaces (suc (maxPlaces + (ruleWords + i))) x length-A
-      ∙ ap (λ (l : List ℕ). A ++ (w ∷ l)) (set-behind B (D ++ E) maxPlaces (ruleWords + i) x length-B ∙ ap (λ (l : List ℕ). B ++ l) (set-behind D E ruleWords i x length-D))
+      ∙ ap (λ (l : List ℕ). A ++ (w ∷ l))
+      (set-behind B (D ++ E) maxPlaces (ruleWords + i) x length-B ∙ ap (λ (l : List ℕ). B ++ l) (set-behind D E ruleWords i x length-D))
 
   pub laid : laidOut (replicate tableWords 0) r ≡ held
   unfolding laidOut finished wordOf W S C
   laid =
-      ap (λ (t : List ℕ). set (set (set (set t endPlace 1) kindsAt (r .kinds)) nonterminalsAt (length (r .productions))) sizeAt (sizeAll (r .productions))) stored
-      ∙ ap (λ (t : List ℕ). set (set (set t kindsAt (r .kinds)) nonterminalsAt (length (r .productions))) sizeAt (sizeAll (r .productions))) (set-end 0 1 (0 ∷ 0 ∷ 0 ∷ []))
-      ∙ ap (λ (t : List ℕ). set (set t nonterminalsAt (length (r .productions))) sizeAt (sizeAll (r .productions))) (set-last 1 (0 ∷ 0 ∷ 0 ∷ []) 0 (r .kinds))
+      ap (λ (t : List ℕ). set (set (set (set t endPlace 1) kindsAt (r .kinds)) nonterminalsAt (length (r .productions))) sizeAt (sizeAll (r .productions)))
+      stored
+      ∙ ap (λ (t : List ℕ). set (set (set t kindsAt (r .kinds)) nonterminalsAt (length (r .productions))) sizeAt (sizeAll (r .productions)))
+      (set-end 0 1 (0 ∷ 0 ∷ 0 ∷ []))
+      ∙ ap (λ (t : List ℕ). set (set t nonterminalsAt (length (r .productions))) sizeAt (sizeAll (r .productions)))
+      (set-last 1 (0 ∷ 0 ∷ 0 ∷ []) 0 (r .kinds))
       ∙ ap (λ (t : List ℕ). set t sizeAt (sizeAll (r .productions))) (set-last 1 (r .kinds ∷ 0 ∷ 0 ∷ []) 1 (length (r .productions)))
       ∙ set-last 1 (r .kinds ∷ length (r .productions) ∷ 0 ∷ []) 2 (sizeAll (r .productions))
 
@@ -240,11 +249,13 @@ module _ (r : Rules) (limits : Limited r) where
       ap (map placeOf) cut ∙ map-append placeOf A (1 ∷ [])
       ∙ ap (λ (l : List Place). l ++ (at nobody (Token endMark) ∷ []))
       (map-append placeOf W (replicate (maxPlaces - length W) 0)
-      ∙ ap₂ (λ (x y : List Place). x ++ y) (back-all (r .kinds) (length (r .productions)) (limits .kinds-most) (limits .few) 0 (r .productions) (omega (arith, limits .few)) (limits .each))
+      ∙ ap₂ (λ (x y : List Place). x ++ y)
+      (back-all (r .kinds) (length (r .productions)) (limits .kinds-most) (limits .few) 0 (r .productions) (omega (arith, limits .few)) (limits .each))
       (none-back (maxPlaces - length W) ∙ ap (λ (k : ℕ). replicate (maxPlaces - k) nowhere) (sym n)))
       ∙ append-assoc (layAll 0 (r .productions)) (replicate (maxPlaces - length (layAll 0 (r .productions))) nowhere) (at nobody (Token endMark) ∷ [])
 
-  the-firsts : drop (firstsAt + 0) held ≡ S ++ (replicate (maxPlaces - length S) 0 ++ (D ++ (r .kinds ∷ length (r .productions) ∷ sizeAll (r .productions) ∷ [])))
+  the-firsts : drop (firstsAt + 0) held
+      ≡ S ++ (replicate (maxPlaces - length S) 0 ++ (D ++ (r .kinds ∷ length (r .productions) ∷ sizeAll (r .productions) ∷ [])))
   unfolding B
   the-firsts =
       let E : List ℕ = r .kinds ∷ length (r .productions) ∷ sizeAll (r .productions) ∷ [] in

@@ -1,6 +1,6 @@
 -- What the one pass over the bytes does, number by number: its answer and the tables it leaves. Internal: proofs/PassLaws says that this is `decode`.
 use mathlib.Core.Path.{_≡_}
-use Prim.Native.Nat.{ℕ, zero, suc, _+_}
+use Prim.Native.Nat.{ℕ, zero, suc, _+_, _≤_}
 use mathlib.Core.List.{List}
 use mathlib.Core.Bool.{cond}
 use lib.ListN.{length, set}
@@ -10,7 +10,7 @@ use Rattle.grammar.specs.Limits.{maxKinds, maxNonterminals, maxProductions, max
 use Rattle.number.specs.Number.{limitedAt, symbolAt}
 use Rattle.grammar.specs.Decode.{written}
 use Rattle.grammar.specs.Grammar.{at}
-use Rattle.grammar.specs.Tables.{wordOf, firstsAt, rulesAt, kindsAt, nonterminalsAt, sizeAt}
+use Rattle.grammar.specs.Tables.{tableWords, wordOf, firstsAt, rulesAt, kindsAt, nonterminalsAt, sizeAt}
 
 -- an answer, and the tables
 pub record Out : Type 0 where
@@ -31,6 +31,13 @@ onRead t (Refused r) k = out (Refused r) t
 
 abbrev pub onOut : Out → (ℕ → Cursor → List ℕ → Out) → Out
 onOut o k = onRead (o .tables) (o .answer) (λ v c. k v c (o .tables))
+
+-- what each part of the pass starts from: the two counts are within limits, so are the places taken so far, and the tables are long enough
+pub record Counted (kinds nonterminals places : ℕ) (t : List ℕ) : Type 0 where
+  pub kinds-most : kinds ≤ maxKinds
+  pub few : nonterminals ≤ maxNonterminals
+  pub room : places ≤ maxPlaces
+  pub long : length t ≡ tableWords
 
 module _ (s : List ℕ) (kinds nonterminals : ℕ) where
   -- n symbols of a production of a, from place p on, and its end

@@ -5,20 +5,8 @@ use number::Refusal;
 ghost use mathlib.Core.Path.{_≡_};
 ghost use Prim.Native.Nat.{_+_, _≤_};
 ghost use lib.ListN.{length};
-ghost use Rattle.grammar.specs.Limits.{maxKinds, maxNonterminals, maxPlaces};
 ghost use Rattle.grammar.specs.Tables.{tableWords};
-ghost use Rattle.reader.specs.Pass.{Leaves, symbolsOf, productionsOf, nonterminalsOf, finished, passOf};
-
-// The limits of a grammar; specs/Limits of crate grammar has the same.
-const MAX_KINDS: usize = 100;
-
-const MAX_NONTERMINALS: usize = 32;
-
-const MAX_PRODUCTIONS: usize = 16;
-
-const MAX_LENGTH: usize = 30;
-
-const MAX_PLACES: usize = 255;
+ghost use Rattle.reader.specs.Pass.{Counted, Leaves, symbolsOf, productionsOf, nonterminalsOf, finished, passOf};
 
 // The symbols of a production of `owner`, from place `first` on, and its end. Answers the place behind them.
 fn symbols(
@@ -31,7 +19,7 @@ fn symbols(
     tables: &mut [u16],
     first: usize,
 ) -> Read
-    requires { ⌜ (kinds ≤ maxKinds) × (nonterminals ≤ maxNonterminals) × (first + count ≤ maxPlaces) × (length (now tables) ≡ tableWords) ⌝ }
+    requires { ⌜ Counted kinds nonterminals (first + count) (now tables) ⌝ }
     ensures { λ r. ⌜ Leaves r (now (tables .exit)) (symbolsOf (now (bytes .entry)) kinds nonterminals owner count from first (now (tables .entry))) ⌝ }
 {
     let mut c = from;
@@ -63,8 +51,9 @@ fn productions(
     first: usize,
     production: usize,
 ) -> Read
-    requires { ⌜ (kinds ≤ maxKinds) × (nonterminals ≤ maxNonterminals) × (production ≤ first) × (first ≤ maxPlaces) × (length (now tables) ≡ tableWords) ⌝ }
-    ensures { λ r. ⌜ Leaves r (now (tables .exit)) (productionsOf (now (bytes .entry)) kinds nonterminals owner count from first production (now (tables .entry))) ⌝ }
+    requires { ⌜ Counted kinds nonterminals first (now tables) × (production ≤ first) ⌝ }
+    ensures { λ r. ⌜ Leaves r (now (tables .exit))
+        (productionsOf (now (bytes .entry)) kinds nonterminals owner count from first production (now (tables .entry))) ⌝ }
 {
     let mut c = from;
     let mut p = first;
@@ -72,11 +61,11 @@ fn productions(
     let mut left = count;
     while 0 < left {
         let at = c.at;
-        let n = c.limited(bytes, 0, MAX_LENGTH);
+        let n = c.limited(bytes, 0, grammar::MAX_LENGTH);
         let Read::Value(m, next) = n else {
             return n;
         };
-        if MAX_PLACES < p + m + 1 {
+        if grammar::MAX_PLACES < p + m + 1 {
             return Read::Refused(Refusal::OverLimit(at));
         }
         tables[grammar::FIRSTS + k] = base::narrow(p);
@@ -94,15 +83,16 @@ fn productions(
 
 // All nonterminals. Answers the number of places.
 fn rules(bytes: &[u8], from: Cursor, kinds: usize, nonterminals: usize, tables: &mut [u16]) -> Read
-    requires { ⌜ (kinds ≤ maxKinds) × (nonterminals ≤ maxNonterminals) × (length (now tables) ≡ tableWords) ⌝ }
-    ensures { λ r. ⌜ Leaves r (now (tables .exit)) (nonterminalsOf (now (bytes .entry)) kinds nonterminals 0 nonterminals from 0 0 (now (tables .entry))) ⌝ }
+    requires { ⌜ Counted kinds nonterminals 0 (now tables) ⌝ }
+    ensures { λ r. ⌜ Leaves r (now (tables .exit)) (nonterminalsOf (now (bytes .entry)) kinds nonterminals 0 nonterminals from 0 0 (now (tables .entry)))
+        ⌝ }
 {
     let mut c = from;
     let mut p = 0;
     let mut k = 0;
     let mut a = 0;
     while a < nonterminals {
-        let n = c.limited(bytes, 1, MAX_PRODUCTIONS);
+        let n = c.limited(bytes, 1, grammar::MAX_PRODUCTIONS);
         let Read::Value(m, next) = n else {
             return n;
         };
@@ -122,7 +112,7 @@ fn rules(bytes: &[u8], from: Cursor, kinds: usize, nonterminals: usize, tables: 
 
 // The end place, and the words that say how much there is.
 fn finish(kinds: usize, nonterminals: usize, places: usize, tables: &mut [u16])
-    requires { ⌜ (kinds ≤ maxKinds) × (nonterminals ≤ maxNonterminals) × (places ≤ maxPlaces) × (length (now tables) ≡ tableWords) ⌝ }
+    requires { ⌜ Counted kinds nonterminals places (now tables) ⌝ }
     ensures { λ r. ⌜ now (tables .exit) ≡ finished kinds nonterminals places (now (tables .entry)) ⌝ }
 {
     tables[grammar::END_PLACE] = 1;
@@ -137,11 +127,11 @@ pub fn read_grammar(bytes: &[u8], tables: &mut [u16]) -> Read
     ensures { λ r. ⌜ Leaves r (now (tables .exit)) (passOf (now (bytes .entry)) (now (tables .entry))) ⌝ }
 {
     let c = Cursor { at: 0 };
-    let n = c.limited(bytes, 1, MAX_KINDS);
+    let n = c.limited(bytes, 1, grammar::MAX_KINDS);
     let Read::Value(kinds, next) = n else {
         return n;
     };
-    let m = next.limited(bytes, 1, MAX_NONTERMINALS);
+    let m = next.limited(bytes, 1, grammar::MAX_NONTERMINALS);
     let Read::Value(nonterminals, start) = m else {
         return m;
     };

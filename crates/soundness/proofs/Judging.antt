@@ -26,7 +26,8 @@ use Rattle.soundness.specs.declared.judgement.Verdict.the-variants.{Soun
 use Rattle.closures.specs.Textbook.{Move}
 use Rattle.closures.specs.Closures.{deriving?}
 use Rattle.corners.specs.Corners.{Corners, leftRecursive?}
-use Rattle.soundness.specs.Check.{lowestUnproductive, lowestLeftRecursive, refuseAt, unproductiveOf, leftRecursiveOf, verdictOn, judgeOf, judged, checkOf}
+use Rattle.soundness.specs.Check.{lowestUnproductive, lowestLeftRecursive, refuseAt, unproductiveOf, leftRecursiveOf, verdictOn, judgeOf, judged}
+use Rattle.soundness.specs.Check.{checkOf}
 use Rattle.closures.specs.Steps.{DerivingIs}
 use Rattle.corners.specs.Steps.{reachOf}
 use Rattle.soundness.specs.Compiled.{Compiled}

@@ -88,7 +88,7 @@ fn left_recursive(tables: &[u16]) -> Verdict
     ensures { λ r. ⌜ r ≡ leftRecursiveOf (grammarIn (now (tables .entry))) ⌝ }
 {
     let n = grammar::nonterminals(tables);
-    let mut rows = [0u32; 32];
+    let mut rows = [0u32; grammar::MAX_NONTERMINALS];
     corners::corners(tables, &mut rows);
     corners::reach(&mut rows, n);
     lowest_own(&rows, n)

@@ -14,8 +14,10 @@ use Rattle.grammar.specs.Decode.{Rules, Parsed, got, refused, decode}
 use Rattle.soundness.specs.declared.judgement.Verdict.{Verdict}
 use Rattle.soundness.specs.declared.judgement.Verdict.the-variants.{Sound, Refused}
 use Rattle.soundness.specs.Check.{judged, checkOf}
+use Rattle.derivation.specs.Gate.{Gate, atGate}
+use Rattle.derivation.proofs.GateLaws.{Checked, refuses, sound, sound-gate, sound-refuses}
 use Rattle.words.specs.Layout.{minWords, lengthAt, bytesAt}
-use Rattle.words.specs.Begin.{Begun, begun, packBytes, sizeWords, beginWords, begin12, beginRules, beginning, begun?}
+use Rattle.words.specs.Begin.{Begun, begun, packBytes, sizeWords, beginWords, begin12, beginning, begun?}
 use Rattle.words.specs.Bytes.{startsWith, sizesHeld, bytesHeld}
 use Rattle.words.proofs.ByteLaws.{decode-few}
 
@@ -48,20 +50,16 @@ module _ (bytes c : List ℕ) where
 -- ---- 1 to 7, and then 12
 module _ (bytes c : List ℕ) {v : Verdict} (e : v ≡ checkOf bytes) where
   pub refused-is : {r : Refusal} → v ≡ Refused r → begun (refusalNumber r) (refusalPlace r) c ≡ beginning bytes c
-  unfolding beginning checkOf
-  refused-is {r} h = go (decode bytes) (sym e ∙ h)
-    where
-      go : (d : Parsed Rules) → judged d ≡ Refused r → begun (refusalNumber r) (refusalPlace r) c ≡ beginRules bytes c d
-      go (got x m) q = rw q
-      go (refused f) q = let z : f ≡ r = cc in rw z
+  unfolding beginning
+  refused-is {r} h = rw (sound-refuses bytes r (sym e ∙ h))
 
   pub sound-is : {x : Begun} → v ≡ Sound → x ≡ begin12 bytes c → x ≡ beginning bytes c
-  unfolding beginning checkOf
-  sound-is {x} h b = go (decode bytes) (sym e ∙ h)
+  unfolding beginning
+  sound-is {x} h b = go (sound-gate bytes)
     where
-      go : (d : Parsed Rules) → judged d ≡ Sound → x ≡ beginRules bytes c d
-      go (got y m) q = rw q b
-      go (refused f) q = clash (cc)
+      go : {y : Gate} → Checked bytes y → x ≡ atGate (λ n p. begun n p c) (λ g. begin12 bytes c) y
+      go (refuses r q) = clash (cc)
+      go (sound r m d q) = b
 
   pub sound-short : v ≡ Sound → length bytes < 2 ^ 10
   unfolding checkOf

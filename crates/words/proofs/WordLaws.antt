@@ -10,7 +10,7 @@ use Rattle.lookahead.specs.Configs.{Config}
 use Rattle.lookahead.specs.Closing.{maxKept}
 use Rattle.configurations.specs.Packing.{packAll}
 use Rattle.configurations.proofs.PackLaws.{length-packAll}
-use Rattle.words.specs.Layout.{configWords, slotWords, slots, heldAt, slotAt, countAt, configsAt}
+use Rattle.words.specs.Layout.{configWords, keptRoom, slotWords, slots, heldAt, slotAt, countAt, configsAt}
 use Rattle.words.specs.Words.{word, held, decision, keptCount, keptWords, addState}
 
 -- ---- stores
@@ -47,10 +47,6 @@ region-same c c′ n m e f =
     (λ i k.
     let b : i < m = omega arith in
     getD-take m (drop n c′) i 0 b ∙ getD-drop n c′ i 0 ∙ f (n + i) (omega arith) (omega arith) ∙ sym (getD-drop n c i 0) ∙ sym (getD-take m (drop n c) i 0 b))
-
--- the words that a slot has for its configurations
-abbrev pub keptRoom : ℕ
-keptRoom = 192
 
 -- the configurations of a slot whose count and room are held alike
 pub kept-same : (c c′ : List ℕ) (s : ℕ) → length c′ ≡ length c → word c′ (countAt s) ≡ word c (countAt s)

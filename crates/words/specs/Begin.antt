@@ -5,12 +5,7 @@ use Prim.Native.Nat.{ℕ, _+_, _*_, _/_, _%_, _^_}
 use lib.Dec.{ltb}
 use lib.ListN.{length, take, drop, replicate}
 use lib.Seq.{sets}
-use Rattle.number.specs.Refusals.{refusalNumber, refusalPlace}
-use Rattle.grammar.specs.Decode.{Rules, Parsed, got, refused, decode}
-use Rattle.grammar.specs.Grammar.{compile}
-use Rattle.soundness.specs.declared.judgement.Verdict.{Verdict}
-use Rattle.soundness.specs.declared.judgement.Verdict.the-variants.{Sound, Refused}
-use Rattle.soundness.specs.Check.{judgeOf}
+use Rattle.derivation.specs.Gate.{atGate, soundGate}
 use Rattle.lookahead.specs.Closing.{sameList}
 use Rattle.words.specs.Layout.{minWords, lengthAt, bytesAt}
 
@@ -35,7 +30,8 @@ beginWords bytes l = sets (sets (replicate l 0) lengthAt (sizeWords bytes l)) by
 unfoldable pub begun? : List ℕ → List ℕ → Bool
 unfolding packBytes sameList
 begun? bytes c =
-    let same = sameList (take (length (packBytes bytes)) (drop bytesAt c)) (packBytes bytes) in sameList (take 3 (drop lengthAt c)) (sizeWords bytes (length c)) && same
+    let same = sameList (take (length (packBytes bytes)) (drop bytesAt c)) (packBytes bytes) in
+    sameList (take 3 (drop lengthAt c)) (sizeWords bytes (length c)) && same
 
 -- what beginning answers, and the words that it leaves
 pub record Begun : Type 0 where
@@ -51,16 +47,7 @@ unfoldable pub begin12 : List ℕ → List ℕ → Begun
 unfolding beginWords
 begin12 bytes c = let fresh = beginWords bytes (length c) in cond (ltb (length c) minWords) (begun 12 0 c) (begun 0 0 fresh)
 
--- 6 and 7, and then 12
-abbrev pub beginSound : List ℕ → Begun → Verdict → Begun
-beginSound c next Sound = next
-beginSound c next (Refused r) = begun (refusalNumber r) (refusalPlace r) c
-
--- 1 to 5, and then 6
-abbrev pub beginRules : List ℕ → List ℕ → Parsed Rules → Begun
-beginRules bytes c (refused r) = begun (refusalNumber r) (refusalPlace r) c
-beginRules bytes c (got r m) = let next = begin12 bytes c in beginSound c next (judgeOf (compile r))
-
+-- 1 to 7 at the gate of sound bytes, and then 12
 unfoldable pub beginning : List ℕ → List ℕ → Begun
-unfolding decode compile judgeOf begin12
-beginning bytes c = beginRules bytes c (decode bytes)
+unfolding soundGate begin12
+beginning bytes c = atGate (λ n p. begun n p c) (λ g. begin12 bytes c) (soundGate bytes)

@@ -12,15 +12,29 @@
 --     128 ..       the kept configurations in ascending order, three words each
 -- An outcome is one word: 0 where none is recorded, 1 to 16 for that alternative, 17 for FULL, 18 + s for state s.
 use Prim.Native.Nat.{ℕ, suc, _+_, _-_, _*_, _/_, min}
+use Rattle.grammar.specs.Limits.{maxProductions}
+use Rattle.lookahead.specs.Closing.{maxKept}
 
 -- ---- sizes
 -- the words before the slots
 abbrev pub fixedWords : ℕ
 fixedWords = 2048
 
+-- the words of a kept configuration
+abbrev pub configWords : ℕ
+configWords = 3
+
+-- the words of a slot before its configurations
+abbrev pub slotHead : ℕ
+slotHead = 128
+
+-- the words of the configurations that a slot may keep
+abbrev pub keptRoom : ℕ
+keptRoom = configWords * maxKept
+
 -- the words of a slot
 abbrev pub slotWords : ℕ
-slotWords = 320
+slotWords = slotHead + keptRoom
 
 -- the slots that are used of a long cache
 abbrev pub maxSlots : ℕ
@@ -28,30 +42,34 @@ maxSlots = 1024
 
 -- the shortest cache: one slot
 abbrev pub minWords : ℕ
-minWords = 2368
-
--- the words of a kept configuration
-abbrev pub configWords : ℕ
-configWords = 3
+minWords = fixedWords + slotWords
 
 -- the slots of a cache of l words
 unfoldable pub slots : ℕ → ℕ
 slots l = min maxSlots ((l - fixedWords) / slotWords)
 
 -- ---- addresses
+-- the length, in two words
 abbrev pub lengthAt : ℕ
 lengthAt = 1
 
+-- how many grammar bytes there are
 abbrev pub byteCountAt : ℕ
-byteCountAt = 3
+byteCountAt = lengthAt + 2
 
+-- how many states are held
 abbrev pub heldAt : ℕ
-heldAt = 4
+heldAt = suc byteCountAt
+
+-- the start of decision 0
+abbrev pub startsAt : ℕ
+startsAt = 32
 
 -- the start of decision a
 abbrev pub startAt : ℕ → ℕ
-startAt a = 32 + a
+startAt a = startsAt + a
 
+-- the first grammar bytes
 abbrev pub bytesAt : ℕ
 bytesAt = 64
 
@@ -63,17 +81,23 @@ slotAt s = fixedWords + slotWords * s
 abbrev pub countAt : ℕ → ℕ
 countAt s = suc (slotAt s)
 
+-- in a slot, the step over token 0
+abbrev pub stepsAt : ℕ
+stepsAt = 2
+
 -- the step of slot s over token t
 abbrev pub stepAt : ℕ → ℕ → ℕ
-stepAt s t = slotAt s + (2 + t)
+stepAt s t = slotAt s + (stepsAt + t)
 
 -- the configurations of slot s
 abbrev pub configsAt : ℕ → ℕ
-configsAt s = slotAt s + 128
+configsAt s = slotAt s + slotHead
 
 -- ---- outcomes as words
+-- FULL, behind every alternative
 abbrev pub fullWord : ℕ
-fullWord = 17
+fullWord = suc maxProductions
 
+-- state s, behind FULL
 abbrev pub stateWord : ℕ → ℕ
-stateWord s = 18 + s
+stateWord s = suc fullWord + s

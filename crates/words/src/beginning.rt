@@ -1,17 +1,19 @@
 // How a cache begins for a grammar, and whether it has begun for it.
+use crate::layout::BYTE_COUNT_AT;
+use crate::layout::HELD_AT;
+use crate::layout::LENGTH_AT;
+use crate::layout::LENGTH_HIGH_AT;
+use crate::layout::MIN_WORDS;
 use number::Refusal;
 use soundness::Verdict;
 ghost use mathlib.Core.Path.{_≡_};
 ghost use Prim.Native.Nat.{_≤_, _<_, _/_, _%_, _^_};
 ghost use lib.ListN.{length, replicate};
 ghost use lib.Seq.{sets};
-ghost use Rattle.words.specs.Layout.{lengthAt};
+ghost use Rattle.words.specs.Layout.{lengthAt, heldAt};
 ghost use Rattle.words.specs.Begin.{sizeWords, begin12, beginning, begun?};
 ghost use Rattle.words.specs.Beginning.{beginningNumber, beginningPlace, begunBy};
 ghost use Rattle.words.specs.Bytes.{sizesHeld};
-
-// The shortest cache.
-pub const MIN_WORDS: usize = 2368;
 
 // What beginning answers.
 pub enum Beginning {
@@ -75,13 +77,13 @@ fn clear(cache: &mut [u32])
 
 // Stores the cache's length and that of the bytes.
 fn write_sizes(bytes: &[u8], cache: &mut [u32])
-    requires { ⌜ (4 ≤ length (now cache)) × (length (now bytes) < 2 ^ 32) ⌝ }
+    requires { ⌜ (heldAt ≤ length (now cache)) × (length (now bytes) < 2 ^ 32) ⌝ }
     ensures { λ _. ⌜ now (cache .exit) ≡ sets (now (cache .entry)) lengthAt (sizeWords (now (bytes .entry)) (length (now (cache .entry)))) ⌝ }
 {
     let n = cache.len();
-    cache[1] = low(n);
-    cache[2] = high(n);
-    cache[3] = base::word(bytes.len());
+    cache[LENGTH_AT] = low(n);
+    cache[LENGTH_HIGH_AT] = high(n);
+    cache[BYTE_COUNT_AT] = base::word(bytes.len());
 }
 
 // Whether these lengths are stored.
@@ -89,16 +91,16 @@ fn has_sizes(bytes: &[u8], cache: &[u32]) -> bool
     ensures { λ r. ⌜ r ≡ sizesHeld (now (bytes .entry)) (now (cache .entry)) ⌝ }
 {
     let n = cache.len();
-    if n < 4 {
+    if n < HELD_AT {
         return false;
     }
-    if cache[1] != low(n) {
+    if cache[LENGTH_AT] != low(n) {
         return false;
     }
-    if cache[2] != high(n) {
+    if cache[LENGTH_HIGH_AT] != high(n) {
         return false;
     }
-    base::number(cache[3]) == bytes.len()
+    base::number(cache[BYTE_COUNT_AT]) == bytes.len()
 }
 
 // 12, and then every word is settled.

@@ -45,7 +45,7 @@ pub fn write_bytes(bytes: &[u8], cache: &mut [u32])
 {
     let n = bytes.len();
     let mut i = 0;
-    let mut k = 64;
+    let mut k = crate::layout::BYTES_AT;
     while i < n {
         cache[k] = word_at(bytes, i);
         k += 1;
@@ -59,7 +59,7 @@ pub fn has_bytes(bytes: &[u8], cache: &[u32]) -> bool
 {
     let n = bytes.len();
     let mut i = 0;
-    let mut k = 64;
+    let mut k = crate::layout::BYTES_AT;
     while i < n {
         if cache.len() <= k {
             return false;

@@ -1,4 +1,13 @@
-// The fields of a cache's words. Nothing is assumed of the words: a count above 64 is read as 64.
+// The fields of a cache's words. Nothing is assumed of the words: a count above the most that is kept is read as that.
+use crate::layout::COUNT_AT;
+use crate::layout::FIXED_WORDS;
+use crate::layout::HELD_AT;
+use crate::layout::MAX_KEPT;
+use crate::layout::MAX_SLOTS;
+use crate::layout::SLOT_HEAD;
+use crate::layout::SLOT_WORDS;
+use crate::layout::STARTS_AT;
+use crate::layout::STEPS_AT;
 ghost use mathlib.Core.Path.{_≡_};
 ghost use Prim.Native.Nat.{_+_, _*_, _≤_, _<_};
 ghost use lib.ListN.{length, take, drop};
@@ -12,12 +21,12 @@ ghost use Rattle.words.specs.Words.{held, searched, startOf, stepOf, dec
 pub fn slots(n: usize) -> usize
     ensures { λ r. ⌜ r ≡ slots n ⌝ }
 {
-    if n < 2048 {
+    if n < FIXED_WORDS {
         return 0;
     }
-    let s = (n - 2048) / 320;
-    if 1024 < s {
-        return 1024;
+    let s = (n - FIXED_WORDS) / SLOT_WORDS;
+    if MAX_SLOTS < s {
+        return MAX_SLOTS;
     }
     s
 }
@@ -27,7 +36,7 @@ pub fn held(cache: &[u32]) -> usize
     requires { ⌜ minWords ≤ length (now cache) ⌝ }
     ensures { λ r. ⌜ r ≡ held (now (cache .entry)) ⌝ }
 {
-    base::number(cache[4])
+    base::number(cache[HELD_AT])
 }
 
 // What is recorded for the start of decision a.
@@ -35,7 +44,7 @@ pub fn start_of(cache: &[u32], a: usize) -> u32
     requires { ⌜ (minWords ≤ length (now cache)) × (a < maxNonterminals) ⌝ }
     ensures { λ r. ⌜ r ≡ startOf (now (cache .entry)) a ⌝ }
 {
-    cache[32 + a]
+    cache[STARTS_AT + a]
 }
 
 // How many slots are searched for a state.
@@ -56,7 +65,7 @@ pub fn slot_at(s: usize) -> usize
     requires { ⌜ s ≤ maxSlots ⌝ }
     ensures { λ r. ⌜ r ≡ slotAt s ⌝ }
 {
-    2048 + 320 * s
+    FIXED_WORDS + SLOT_WORDS * s
 }
 
 // Where the step of slot s over token t is recorded.
@@ -64,7 +73,7 @@ pub fn step_at(s: usize, t: usize) -> usize
     requires { ⌜ (s ≤ maxSlots) × (t ≤ maxKinds) ⌝ }
     ensures { λ r. ⌜ r ≡ stepAt s t ⌝ }
 {
-    slot_at(s) + (2 + t)
+    slot_at(s) + (STEPS_AT + t)
 }
 
 // Where the configurations of slot s begin.
@@ -72,7 +81,7 @@ pub fn configs_at(s: usize) -> usize
     requires { ⌜ s ≤ maxSlots ⌝ }
     ensures { λ r. ⌜ r ≡ configsAt s ⌝ }
 {
-    slot_at(s) + 128
+    slot_at(s) + SLOT_HEAD
 }
 
 // The decision of slot s.
@@ -96,9 +105,9 @@ pub fn kept_count(cache: &[u32], s: usize) -> usize
     requires { ⌜ s < slots (length (now cache)) ⌝ }
     ensures { λ r. ⌜ r ≡ keptCount (now (cache .entry)) s ⌝ }
 {
-    let n = base::number(cache[slot_at(s) + 1]);
-    if 64 < n {
-        return 64;
+    let n = base::number(cache[slot_at(s) + COUNT_AT]);
+    if MAX_KEPT < n {
+        return MAX_KEPT;
     }
     n
 }

@@ -1,4 +1,4 @@
--- `allstar_c::allstar_begin` meets its contract.
+-- `allstar_c::allstar_begin` meets its contract: the number, the place and the words stored are those of what `begin` answers and leaves.
 use Rattle.allstar_c.proofs.Answers.{told-begun}
 use borrow.Author.Needs.{needs}
 use Rattle.allstar_c.proofs.allstar_begin.Statement.{statement}
@@ -17,7 +17,9 @@ same-length : tie.Need-same-length
 same-length c = search needs
 
 returns : tie.Need-returns
-returns c = told-begun (c .before .before .before .before .begin .result) _ (c .number .ensures) (c .before .place .ensures) (c .before .before .before .before .begin .ensures)
+returns c =
+    let at-begin = c .before .before .before .before in
+    told-begun (at-begin .begin .result) _ (c .number .ensures) (c .before .place .ensures) (at-begin .begin .ensures)
 
 pub allstar-begin-spec : {M : Type 1} → statement M
 allstar-begin-spec =

@@ -1,4 +1,4 @@
--- `allstar_c::allstar_check` meets its contract.
+-- `allstar_c::allstar_check` meets its contract: the number and the place stored are those of the verdict that `check` answers.
 use Rattle.soundness.specs.Check.{verdictNumber, verdictPlace}
 use mathlib.Core.Path.{ap, _∙_}
 use borrow.Author.Needs.{needs}
@@ -15,7 +15,9 @@ number-requires : tie.Need-number-requires
 number-requires c κs = search needs
 
 returns : tie.Need-returns
-returns c = (c .number .ensures ∙ ap verdictNumber (c .before .before .check .ensures), c .before .place .ensures ∙ ap verdictPlace (c .before .before .check .ensures))
+returns c =
+    let at-check = c .before .before in
+    (c .number .ensures ∙ ap verdictNumber (at-check .check .ensures), c .before .place .ensures ∙ ap verdictPlace (at-check .check .ensures))
 
 pub allstar-check-spec : {M : Type 1} → statement M
 allstar-check-spec = tie.close (tie.spec check-requires place-requires number-requires returns)

@@ -1,4 +1,5 @@
--- `allstar_c::allstar_quick` meets its contract.
+-- `allstar_c::allstar_quick` meets its contract: the number, the place and the count stored are those of the reading that `quick` answers, and the cache is the
+-- one that it leaves.
 use Rattle.allstar_c.proofs.Answers.{told-reply}
 use borrow.Author.Needs.{needs}
 use Rattle.allstar_c.proofs.allstar_quick.Statement.{statement}
@@ -26,7 +27,10 @@ same-length-3 : tie.Need-same-length-3
 same-length-3 c = search needs
 
 returns : tie.Need-returns
-returns c = told-reply (c .before .before .before .before .before .before .before .before .before .quick .result) _ _ (c .number .ensures) (c .before .before .place .ensures) (c .before .count .ensures) (c .before .before .before .before .before .before .before .before .before .quick .ensures)
+returns c =
+    let at-place = c .before .before in
+    let at-quick = at-place .before .before .before .before .before .before .before in
+    told-reply (at-quick .quick .result) _ _ (c .number .ensures) (at-place .place .ensures) (c .before .count .ensures) (at-quick .quick .ensures)
 
 pub allstar-quick-spec : {M : Type 1} → statement M
 allstar-quick-spec =

@@ -1,4 +1,4 @@
--- `base::has` meets its contract.
+-- `base::has` meets its contract: a word shifted by k is divided by 2 ^ k, and its lowest bit is the remainder by 2, which is how `testBit` reads bit k.
 use lib.Bits.{and-mask}
 use Rattle.base.specs.Bits.{testBit, bit}
 use borrow.Author.Needs.{needs}

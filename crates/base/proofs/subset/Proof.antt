@@ -1,4 +1,4 @@
--- `base::subset` meets its contract.
+-- `base::subset` meets its contract: the code computes the same Boolean as `isSubset`.
 use mathlib.Core.Path.{refl}
 use Rattle.base.specs.Bits.{isSubset}
 use Rattle.base.proofs.subset.Statement.{statement}

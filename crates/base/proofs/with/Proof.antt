@@ -1,5 +1,5 @@
--- `base::with` meets its contract.
-use Rattle.base.specs.Bits.{setBit}
+-- `base::with` meets its contract: a one shifted by k < wordBits loses no bit, so it is the 2 ^ k that `setBit` joins.
+use Rattle.base.specs.Bits.{wordBits, setBit}
 use Rattle.base.proofs.Bits.{shl-one}
 use borrow.Author.Needs.{needs}
 use Rattle.base.proofs.with.Statement.{statement}
@@ -13,7 +13,7 @@ shl-result c = search needs
 
 returns : tie.Need-returns
 unfolding setBit
-returns c = rw (shl-one 32 (c .args .k) (c .pre))
+returns c = rw (shl-one wordBits (c .args .k) (c .pre))
 
 pub with-spec : {M : Type 1} → statement M
 with-spec = tie.close (tie.spec cast-result shl-result returns)

@@ -1,4 +1,4 @@
--- `corners::begin` meets its contract.
+-- `corners::begin` meets its contract: the rows below a are right, and a turn writes that of a and touches no other.
 use borrow.Author.Needs.{needs}
 use mathlib.Core.Path.{_≡_, refl}
 use Prim.Native.Nat.{_≤_, _-_}
@@ -38,13 +38,22 @@ loop-less : tie.Need-loop-less Inv-loop μ-loop
 loop-less c = search needs
 
 loop-again : tie.Need-loop-again Inv-loop μ-loop
-loop-again c = (omega arith, simp length-set (omega arith), rows-more _ _ _ _ _ (omega (arith, c .before .before .before .nonterminals .ensures, c .before .before .before .before .before .before .pre .0 .few)) (c .before .before .loop .inv .2) (c .moves .ensures))
+loop-again c =
+    let at-loop = c .before .before in
+    let at-nonterminals = at-loop .before in
+    let at-entry = at-nonterminals .before .before .before in (
+      omega arith,
+      simp length-set (omega arith),
+      rows-more _ _ _ _ _ (omega (arith, at-nonterminals .nonterminals .ensures, at-entry .pre .0 .few)) (at-loop .loop .inv .2) (c .moves .ensures),
+    )
 
 same-length : tie.Need-same-length Inv-loop μ-loop
 same-length c = search needs
 
 returns : tie.Need-returns Inv-loop μ-loop
-returns c = rows-upto _ _ _ _ _ (c .before .loop .inv .2) (omega (arith, c .before .before .nonterminals .ensures))
+returns c =
+    let at-nonterminals = c .before .before in
+    rows-upto _ _ _ _ _ (c .before .loop .inv .2) (omega (arith, at-nonterminals .nonterminals .ensures))
 
 pub begin-spec : {M : Type 1} → statement M
 begin-spec =

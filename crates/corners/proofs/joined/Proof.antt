@@ -1,4 +1,4 @@
--- `corners::joined` meets its contract.
+-- `corners::joined` meets its contract: each of the two ways out is one case of `cond`.
 use borrow.Author.Needs.{needs}
 use mathlib.Core.Path.{sym, _∙_}
 use Rattle.corners.proofs.joined.Statement.{statement}

@@ -1,4 +1,5 @@
--- `corners::left_from` meets its contract.
+-- `corners::left_from` meets its contract: what the set and the rest of the production lead to together is what the whole leads to; a token, an end or a
+-- nonterminal that is not nullable ends it.
 use borrow.Author.Needs.{needs}
 use Prim.Native.Nat.{_-_}
 use native.Mathlib.Omega.{arith}
@@ -27,31 +28,56 @@ enum-told : tie.Need-enum-told Inv-loop μ-loop
 enum-told c = search needs
 
 returns : tie.Need-returns Inv-loop μ-loop
-returns c = left-end _ _ _ _ _ _ (c .before .before .before .before .loop .inv) (facing-of _ _ (c .before .before .place-at .ensures) (c .enum-told .given .1))
+returns c =
+    let at-place-at = c .before .before in
+    let at-loop = at-place-at .before .before in
+    left-end _ _ _ _ _ _ (at-loop .loop .inv) (facing-of _ _ (at-place-at .place-at .ensures) (c .enum-told .given .1))
 
 enum-told-2 : tie.Need-enum-told-2 Inv-loop μ-loop
 enum-told-2 c = search needs
 
 returns-2 : tie.Need-returns-2 Inv-loop μ-loop
-returns-2 c = left-token _ _ _ _ _ _ (c .before .before .before .before .loop .inv) (facing-of _ _ (c .before .before .place-at .ensures) (c .enum-told2 .given .1))
+returns-2 c =
+    let at-place-at = c .before .before in
+    let at-loop = at-place-at .before .before in
+    left-token _ _ _ _ _ _ (at-loop .loop .inv) (facing-of _ _ (at-place-at .place-at .ensures) (c .enum-told2 .given .1))
 
 enum-known-symbol : tie.Need-enum-known-symbol Inv-loop μ-loop
 enum-known-symbol c = search needs
 
 with-requires : tie.Need-with-requires Inv-loop μ-loop
-with-requires c κs = let n = c .before .before .before .before .before .before .before .pre .named _ _ (facing-of _ _ (c .before .before .before .place-at .ensures) (c .before .symbol .given .1)) in omega (arith, c .before .before .before .before .before .before .before .pre .few)
+with-requires c κs =
+    let at-place-at = c .before .before .before in
+    let at-entry = at-place-at .before .before .before .before in
+    let n = at-entry .pre .named _ _ (facing-of _ _ (at-place-at .place-at .ensures) (c .before .symbol .given .1)) in omega (arith, at-entry .pre .few)
 
 has-requires : tie.Need-has-requires Inv-loop μ-loop
-has-requires c κs = let n = c .before .before .before .before .before .before .before .before .pre .named _ _ (facing-of _ _ (c .before .before .before .before .place-at .ensures) (c .before .before .symbol .given .1)) in omega (arith, c .before .before .before .before .before .before .before .before .pre .few)
+has-requires c κs =
+    let at-symbol = c .before .before in
+    let at-place-at = at-symbol .before .before in
+    let at-entry = at-place-at .before .before .before .before in
+    let n = at-entry .pre .named _ _ (facing-of _ _ (at-place-at .place-at .ensures) (at-symbol .symbol .given .1)) in omega (arith, at-entry .pre .few)
 
 returns-3 : tie.Need-returns-3 Inv-loop μ-loop
-returns-3 c = left-stops _ _ _ _ _ _ (c .before .before .before .before .before .before .before .before .loop .inv) (facing-of _ _ (c .before .before .before .before .before .before .place-at .ensures) (c .before .before .before .before .symbol .given .1)) (c .before .before .with .ensures) (c .before .has .ensures) (c .if1 .taken)
+returns-3 c =
+    let at-with = c .before .before in
+    let at-symbol = at-with .before .before in
+    let at-place-at = at-symbol .before .before in
+    let at-loop = at-place-at .before .before in
+    left-stops _ _ _ _ _ _ (at-loop .loop .inv) (facing-of _ _ (at-place-at .place-at .ensures) (at-symbol .symbol .given .1)) (at-with .with .ensures)
+    (c .before .has .ensures) (c .if1 .taken)
 
 loop-less : tie.Need-loop-less Inv-loop μ-loop
 loop-less c = search needs
 
 loop-again : tie.Need-loop-again Inv-loop μ-loop
-loop-again c = left-goes _ _ _ _ _ _ (c .before .before .before .before .before .before .before .before .loop .inv) (facing-of _ _ (c .before .before .before .before .before .before .place-at .ensures) (c .before .before .before .before .symbol .given .1)) (c .before .before .with .ensures) (c .before .has .ensures) (c .if1 .left)
+loop-again c =
+    let at-with = c .before .before in
+    let at-symbol = at-with .before .before in
+    let at-place-at = at-symbol .before .before in
+    let at-loop = at-place-at .before .before in
+    left-goes _ _ _ _ _ _ (at-loop .loop .inv) (facing-of _ _ (at-place-at .place-at .ensures) (at-symbol .symbol .given .1)) (at-with .with .ensures)
+    (c .before .has .ensures) (c .if1 .left)
 
 returns-4 : tie.Need-returns-4 Inv-loop μ-loop
 returns-4 c = left-past _ _ _ _ _ _ (c .before .loop .inv) (omega arith)

@@ -1,4 +1,4 @@
--- `corners::moves` meets its contract.
+-- `corners::moves` meets its contract: what the set and the productions from k on lead to together is what all of them lead to.
 use borrow.Author.Needs.{needs}
 use Prim.Native.Nat.{_-_}
 use native.Mathlib.Omega.{arith}
@@ -23,10 +23,15 @@ rule-at-requires-2 : tie.Need-rule-at-requires-2 Inv-loop μ-loop
 rule-at-requires-2 c κs = search needs
 
 loop-holds : tie.Need-loop-holds Inv-loop μ-loop
-loop-holds c = moves-begin _ _ _ _ (c .before .before .before .pre .1) (c .before .rule-at .ensures) (c .rule-at2 .ensures)
+loop-holds c =
+    let at-entry = c .before .before .before in
+    moves-begin _ _ _ _ (at-entry .pre .1) (c .before .rule-at .ensures) (c .rule-at2 .ensures)
 
 first-place-requires : tie.Need-first-place-requires Inv-loop μ-loop
-first-place-requires c κs = let h = rule-within _ (c .before .before .before .before .before .pre .0) _ (c .before .before .before .before .before .pre .1) (c .before .before .rule-at2 .ensures) in omega (arith, c .before .before .before .before .before .pre .0 .long)
+first-place-requires c κs =
+    let at-rule-at2 = c .before .before in
+    let at-entry = at-rule-at2 .before .before .before in
+    let h = rule-within _ (at-entry .pre .0) _ (at-entry .pre .1) (at-rule-at2 .rule-at2 .ensures) in omega (arith, at-entry .pre .0 .long)
 
 left-from-requires : tie.Need-left-from-requires Inv-loop μ-loop
 left-from-requires c κs = search needs
@@ -38,10 +43,21 @@ loop-less : tie.Need-loop-less Inv-loop μ-loop
 loop-less c = search needs
 
 loop-again : tie.Need-loop-again Inv-loop μ-loop
-loop-again c = moves-next (c .before .before .before .before .before .before .before .args .tables .now) (c .before .before .before .before .before .before .before .args .nullable) (c .before .before .before .before .before .before .before .args .a) (c .before .before .before .before .rule-at2 .result) (c .before .before .before .loop .set) (c .before .before .before .loop .k) (c .before .before .before .loop .inv) _ _ (omega arith) (let h = rule-within _ (c .before .before .before .before .before .before .before .pre .0) _ (c .before .before .before .before .before .before .before .pre .1) (c .before .before .before .before .rule-at2 .ensures) in omega (arith, c .before .before .before .before .before .before .before .pre .0 .long)) (c .before .first-place .ensures) (c .left-from .ensures)
+loop-again c =
+    let at-loop = c .before .before .before in
+    let at-rule-at2 = at-loop .before in
+    let at-entry = at-rule-at2 .before .before .before in
+    moves-next (at-entry .args .tables .now) (at-entry .args .nullable) (at-entry .args .a) (at-rule-at2 .rule-at2 .result) (at-loop .loop .set)
+    (at-loop .loop .k) (at-loop .loop .inv) _ _ (omega arith)
+    (let h = rule-within _ (at-entry .pre .0) _ (at-entry .pre .1) (at-rule-at2 .rule-at2 .ensures) in omega (arith, at-entry .pre .0 .long))
+    (c .before .first-place .ensures) (c .left-from .ensures)
 
 returns : tie.Need-returns Inv-loop μ-loop
-returns c = moves-done (c .before .before .before .before .before .args .tables .now) (c .before .before .before .before .before .args .nullable) (c .before .before .before .before .before .args .a) (c .before .before .rule-at2 .result) (c .before .loop .set) (c .before .loop .k) (c .before .loop .inv) (omega arith)
+returns c =
+    let at-rule-at2 = c .before .before in
+    let at-entry = at-rule-at2 .before .before .before in
+    moves-done (at-entry .args .tables .now) (at-entry .args .nullable) (at-entry .args .a) (at-rule-at2 .rule-at2 .result) (c .before .loop .set)
+    (c .before .loop .k) (c .before .loop .inv) (omega arith)
 
 pub moves-spec : {M : Type 1} → statement M
 moves-spec =

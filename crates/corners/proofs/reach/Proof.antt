@@ -1,4 +1,4 @@
--- `corners::reach` meets its contract.
+-- `corners::reach` meets its contract: the rows are closed through every nonterminal below b, as in `reachOf`; an empty row joins nothing.
 use borrow.Author.Needs.{needs}
 use mathlib.Core.Path.{_≡_, refl, ap, _∙_}
 use Prim.Native.Nat.{ℕ, _≤_, _-_}
@@ -35,19 +35,30 @@ loop-less : tie.Need-loop-less Inv-loop μ-loop
 loop-less c = search needs
 
 loop-again : tie.Need-loop-again Inv-loop μ-loop
-loop-again c = (omega arith, omega (arith, c .before .before .through .kept .0), reach-pivot _ _ _ _ (c .before .before .before .before .before .before .before .loop .inv .2) refl (c .before .before .before .before .if1 .taken) (c .before .before .through .ensures))
+loop-again c =
+    let at-through = c .before .before in
+    let at-if1 = at-through .before .before in
+    let at-loop = at-if1 .before .before .before in (
+      omega arith,
+      omega (arith, at-through .through .kept .0),
+      reach-pivot _ _ _ _ (at-loop .loop .inv .2) refl (at-if1 .if1 .taken) (at-through .through .ensures),
+    )
 
 loop-less-2 : tie.Need-loop-less-2 Inv-loop μ-loop
 loop-less-2 c = search needs
 
 loop-again-2 : tie.Need-loop-again-2 Inv-loop μ-loop
-loop-again-2 c = (omega arith, omega arith, reach-empty _ _ _ _ (c .before .before .before .loop .inv .2) refl (c .if1 .left))
+loop-again-2 c =
+    let at-loop = c .before .before .before in
+    (omega arith, omega arith, reach-empty _ _ _ _ (at-loop .loop .inv .2) refl (c .if1 .left))
 
 same-length : tie.Need-same-length Inv-loop μ-loop
 same-length c = search needs
 
 returns : tie.Need-returns Inv-loop μ-loop
-returns c = c .before .loop .inv .2 ∙ ap (λ (k : ℕ). reachOf (c .before .before .before .args .n) k (c .before .before .before .args .rows .now)) (omega arith)
+returns c =
+    let at-entry = c .before .before .before in
+    c .before .loop .inv .2 ∙ ap (λ (k : ℕ). reachOf (at-entry .args .n) k (at-entry .args .rows .now)) (omega arith)
 
 pub reach-spec : {M : Type 1} → statement M
 reach-spec =

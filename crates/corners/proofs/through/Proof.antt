@@ -1,4 +1,4 @@
--- `corners::through` meets its contract.
+-- `corners::through` meets its contract: the rows below a are joined, as in `throughOf`.
 use borrow.Author.Needs.{needs}
 use mathlib.Core.Path.{_≡_, refl, ap, _∙_}
 use Prim.Native.Nat.{ℕ, _≤_, _-_}
@@ -41,13 +41,17 @@ loop-less : tie.Need-loop-less Inv-loop μ-loop
 loop-less c = search needs
 
 loop-again : tie.Need-loop-again Inv-loop μ-loop
-loop-again c = (omega arith, simp length-set (omega arith), through-more _ _ _ _ _ (c .before .before .before .loop .inv .2) (c .joined .ensures))
+loop-again c =
+    let at-loop = c .before .before .before in
+    (omega arith, simp length-set (omega arith), through-more _ _ _ _ _ (at-loop .loop .inv .2) (c .joined .ensures))
 
 same-length : tie.Need-same-length Inv-loop μ-loop
 same-length c = search needs
 
 returns : tie.Need-returns Inv-loop μ-loop
-returns c = c .before .loop .inv .2 ∙ ap (λ (k : ℕ). throughOf (c .before .before .before .args .row) (c .before .before .before .args .b) k (c .before .before .before .args .rows .now)) (omega arith)
+returns c =
+    let at-entry = c .before .before .before in
+    c .before .loop .inv .2 ∙ ap (λ (k : ℕ). throughOf (at-entry .args .row) (at-entry .args .b) k (at-entry .args .rows .now)) (omega arith)
 
 pub through-spec : {M : Type 1} → statement M
 through-spec =

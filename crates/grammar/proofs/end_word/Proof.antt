@@ -1,4 +1,4 @@
--- `grammar::end_word` meets its contract.
+-- `grammar::end_word` meets its contract: an end's code is 0, so the word is its owner's part alone, and it fits 16 bits.
 use Rattle.grammar.specs.Tables.{wordOf}
 use native.Mathlib.Omega.{arith}
 use borrow.Author.Needs.{needs}

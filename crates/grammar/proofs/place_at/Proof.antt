@@ -1,4 +1,4 @@
--- `grammar::place_at` meets its contract.
+-- `grammar::place_at` meets its contract: behind the end place the word 0 says `nowhere`, and every other place has its word in the tables.
 use Rattle.grammar.proofs.WordLaws.{place-past, place-in}
 use native.Mathlib.Omega.{arith}
 use borrow.Author.Needs.{needs}

@@ -1,4 +1,4 @@
--- `grammar::place_of` meets its contract.
+-- `grammar::place_of` meets its contract: the code computes the two fields of `placeOf`.
 use Rattle.grammar.specs.Tables.{placeOf}
 use borrow.Author.Needs.{needs}
 use Rattle.grammar.proofs.place_of.Statement.{statement}

@@ -1,4 +1,4 @@
--- `grammar::rule_at` meets its contract.
+-- `grammar::rule_at` meets its contract: the word of nonterminal a lies in the tables, for there is one more of them than nonterminals.
 use Rattle.grammar.specs.Tables.{rulesAt, ruleAt}
 use Prim.Native.Nat.{_+_}
 use native.Mathlib.Omega.{arith}
@@ -19,7 +19,9 @@ index-requires : tie.Need-index-requires
 index-requires c κs = search needs
 
 add-result : tie.Need-add-result
-add-result c = omega (arith, c .before .shared-slice-known2 .given (rulesAt + c .before .before .before .args .a))
+add-result c =
+    let at-entry = c .before .before .before in
+    omega (arith, c .before .shared-slice-known2 .given (rulesAt + at-entry .args .a))
 
 returns : tie.Need-returns
 unfolding ruleAt

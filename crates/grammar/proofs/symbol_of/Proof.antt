@@ -1,4 +1,4 @@
--- `grammar::symbol_of` meets its contract.
+-- `grammar::symbol_of` meets its contract: each way out is one case of `symbolOf`.
 use Rattle.grammar.proofs.WordLaws.{code-end, code-token, code-nonterminal}
 use native.Mathlib.Omega.{arith}
 use borrow.Author.Needs.{needs}

@@ -1,4 +1,4 @@
--- `learning_c::learning_step` meets its contract.
+-- `learning_c::learning_step` meets its contract: a grammar that is refused is answered by 0, and a sound one is ready for the question, as in `stepOf`.
 use borrow.Author.Needs.{needs}
 use Rattle.derivation.proofs.ReadyLaws.{sound-ready}
 use Rattle.learning_c.proofs.QuestionLaws.{step-refused, step-asked}
@@ -27,16 +27,29 @@ number-requires-2 : tie.Need-number-requires-2
 number-requires-2 c κs = search needs
 
 step-requires : tie.Need-step-requires
-step-requires c κs = let a = c .before .before .before .before .before .before .before .before .before .before .before .args in sound-ready (a .grammar .now) (c .before .before .before .before .before .before .before .compile .ensures) (c .before .before .before .before .enum-told2 .given .1)
+step-requires c κs =
+    let at-enum-told2 = c .before .before .before .before in
+    let at-compile = at-enum-told2 .before .before .before in
+    let at-entry = at-compile .before .before .before .before in
+    let a = at-entry .args in sound-ready (a .grammar .now) (at-compile .compile .ensures) (at-enum-told2 .enum-told2 .given .1)
 
 returns : tie.Need-returns
-returns c = step-refused _ _ (c .before .before .before .compile .ensures) _ _ (c .enum-told .given .1)
+returns c =
+    let at-compile = c .before .before .before in
+    step-refused _ _ (at-compile .compile .ensures) _ _ (c .enum-told .given .1)
 
 same-length : tie.Need-same-length
 same-length c = search needs
 
 returns-2 : tie.Need-returns-2
-returns-2 c = step-asked _ _ (c .before .before .before .before .before .before .before .before .before .before .compile .ensures) (c .before .before .before .before .before .before .before .enum-told2 .given .1) (c .before .before .before .before .number .ensures) (c .before .before .before .number2 .ensures) (c .before .before .step .ensures)
+returns-2 c =
+    let at-step = c .before .before in
+    let at-number2 = at-step .before in
+    let at-number = at-number2 .before in
+    let at-enum-told2 = at-number .before .before .before in
+    let at-compile = at-enum-told2 .before .before .before in
+    step-asked _ _ (at-compile .compile .ensures) (at-enum-told2 .enum-told2 .given .1) (at-number .number .ensures) (at-number2 .number2 .ensures)
+    (at-step .step .ensures)
 
 pub learning-step-spec : {M : Type 1} → statement M
 learning-step-spec =

@@ -1,4 +1,4 @@
--- `learning_c::step` meets its contract.
+-- `learning_c::step` meets its contract: each way out, a token too high, a slot that is there or one that is not, is one case of `stepIn`.
 use borrow.Author.Needs.{needs}
 use native.Mathlib.Omega.{arith}
 use denote.Ref.{now}
@@ -8,7 +8,9 @@ use Rattle.learning_c.proofs.step.Statement.{statement}
 use Rattle.learning_c.proofs.step.Tie as tie
 
 returns : tie.Need-returns
-returns c = step-high (grammarIn (now (c .before .before .before .args .tables))) _ _ _ (omega arith)
+returns c =
+    let at-entry = c .before .before .before in
+    step-high (grammarIn (now (at-entry .args .tables))) _ _ _ (omega arith)
 
 slots-requires : tie.Need-slots-requires
 slots-requires c κs = search needs
@@ -17,16 +19,30 @@ decision-requires : tie.Need-decision-requires
 decision-requires c κs = search needs
 
 ask-step-requires : tie.Need-ask-step-requires
-ask-step-requires c κs = (c .before .before .before .before .before .before .before .before .pre, omega (arith, c .before .before .before .before .slots .ensures), omega arith, decision-fits _ _ (λ k. c .before .before .before .before .before .before .slice-known .given k .fits) (c .before .decision .ensures))
+ask-step-requires c κs =
+    let at-slots = c .before .before .before .before in
+    let at-slice-known = at-slots .before .before in
+    let at-entry = at-slice-known .before .before in (
+      at-entry .pre,
+      omega (arith, at-slots .slots .ensures),
+      omega arith,
+      decision-fits _ _ (λ k. at-slice-known .slice-known .given k .fits) (c .before .decision .ensures),
+    )
 
 same-length : tie.Need-same-length
 same-length c = search needs
 
 returns-2 : tie.Need-returns-2
-returns-2 c = step-known _ _ _ _ (omega arith) (omega (arith, c .before .before .before .before .before .before .before .slots .ensures)) (c .before .before .before .before .decision .ensures) (c .before .before .ask-step .ensures)
+returns-2 c =
+    let at-ask-step = c .before .before in
+    let at-decision = at-ask-step .before .before in
+    let at-slots = at-decision .before .before .before in
+    step-known _ _ _ _ (omega arith) (omega (arith, at-slots .slots .ensures)) (at-decision .decision .ensures) (at-ask-step .ask-step .ensures)
 
 returns-3 : tie.Need-returns-3
-returns-3 c = step-unknown (grammarIn (now (c .before .before .before .before .before .args .tables))) _ _ _ (omega arith) (omega (arith, c .before .slots .ensures))
+returns-3 c =
+    let at-entry = c .before .before .before .before .before in
+    step-unknown (grammarIn (now (at-entry .args .tables))) _ _ _ (omega arith) (omega (arith, c .before .slots .ensures))
 
 pub step-spec : {M : Type 1} → statement M
 step-spec =

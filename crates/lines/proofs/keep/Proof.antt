@@ -1,4 +1,5 @@
--- `lines::keep` meets its contract.
+-- `lines::keep` meets its contract: where there is room the byte is stored behind those that are kept; where there is none, the first maxKept bytes stay as
+-- they are.
 use native.Mathlib.Omega.{arith}
 use Rattle.lines.proofs.KeptLaws.{kept-full, kept-more}
 use borrow.Author.Needs.{needs}

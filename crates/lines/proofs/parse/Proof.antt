@@ -1,21 +1,27 @@
--- `lines::parse` meets its contract.
+-- `lines::parse` meets its contract: the tokens put down and what is left of the line give what the whole line says (`Going`), and each way out is one case of
+-- `lineOf`.
 use mathlib.Core.Path.{_≡_, refl}
 use Prim.Native.Nat.{_-_, _≤_}
 use native.Mathlib.Omega.{arith}
 use borrow.Author.Needs.{needs}
 use lib.ListN.{length, length-set}
-use Rattle.lines.proofs.LineLaws.{Going, nothing, going-begins, blank-first, blank-many, blank-on, digit-below, digit-above, digit-sixth, digit-high, digit-on, last-empty, last-many, last-good}
+use Rattle.lines.specs.Line.{maxTokens, maxToken}
+use Rattle.lines.proofs.LineLaws.{Going, nothing, going-begins, blank-first, blank-many, blank-on, digit-below, digit-above, digit-sixth, digit-high}
+use Rattle.lines.proofs.LineLaws.{digit-on, last-empty, last-many, last-good}
 use Rattle.lines.proofs.parse.Statement.{statement}
 use Rattle.lines.proofs.parse.Tie as tie
 
 abbrev Inv-loop : tie.InvT-loop
-Inv-loop line note₀ n i₀ count₀ digits₀ value₀ note i count digits value = Going line note count digits value i × (length note ≡ length note₀) × (count ≤ 16) × (value ≤ 65535) × (i ≤ n)
+Inv-loop line note₀ n i₀ count₀ digits₀ value₀ note i count digits value = Going line note count digits value i × (length note ≡ length note₀)
+    × (count ≤ maxTokens) × (value ≤ maxToken) × (i ≤ n)
 
 abbrev μ-loop : tie.MeasureT-loop
 μ-loop line note₀ n i₀ count₀ digits₀ value₀ note i count digits value = n - i
 
 returns : tie.Need-returns Inv-loop μ-loop
-returns c = (nothing (c .before .before .before .args .line .now) (c .before .before .before .args .note .now) (c .if1 .taken), omega arith)
+returns c =
+    let at-entry = c .before .before .before in
+    (nothing (at-entry .args .line .now) (at-entry .args .note .now) (c .if1 .taken), omega arith)
 
 loop-holds : tie.Need-loop-holds Inv-loop μ-loop
 loop-holds c = (going-begins _ _ (c .if1 .left), refl, omega arith, omega arith, omega arith)
@@ -33,13 +39,23 @@ same-length : tie.Need-same-length Inv-loop μ-loop
 same-length c = search needs
 
 returns-2 : tie.Need-returns-2 Inv-loop μ-loop
-returns-2 c = (blank-first _ _ _ _ _ _ (c .before .before .before .before .before .loop .inv .0) (omega arith) (c .before .before .wide .ensures) (c .before .if2 .taken) (c .if3 .taken), omega arith)
+returns-2 c =
+    let at-wide = c .before .before in
+    let at-loop = at-wide .before .before .before in
+    (blank-first _ _ _ _ _ _ (at-loop .loop .inv .0) (omega arith) (at-wide .wide .ensures) (c .before .if2 .taken) (c .if3 .taken), omega arith)
 
 same-length-2 : tie.Need-same-length-2 Inv-loop μ-loop
 same-length-2 c = search needs
 
 returns-3 : tie.Need-returns-3 Inv-loop μ-loop
-returns-3 c = (blank-many _ _ _ _ _ _ (c .before .before .before .before .before .before .loop .inv .0) (omega arith) (c .before .before .before .wide .ensures) (c .before .before .if2 .taken) (c .before .if3 .left) (omega arith) (omega arith), omega arith)
+returns-3 c =
+    let at-if2 = c .before .before in
+    let at-wide = at-if2 .before in
+    let at-loop = at-wide .before .before .before in (
+      blank-many _ _ _ _ _ _ (at-loop .loop .inv .0) (omega arith) (at-wide .wide .ensures) (at-if2 .if2 .taken) (c .before .if3 .left) (omega arith)
+          (omega arith),
+      omega arith,
+    )
 
 narrow-requires : tie.Need-narrow-requires Inv-loop μ-loop
 narrow-requires c κs = search needs
@@ -57,25 +73,49 @@ loop-less : tie.Need-loop-less Inv-loop μ-loop
 loop-less c = search needs
 
 loop-again : tie.Need-loop-again Inv-loop μ-loop
-loop-again c = (blank-on _ _ _ _ _ _ (c .before .before .before .before .before .before .before .loop .inv .0) (omega arith) (c .before .before .before .before .wide .ensures) (c .before .before .before .if2 .taken) (c .before .before .if3 .left) (omega arith) (c .narrow .ensures), simp length-set (omega arith), omega arith, omega arith, omega arith)
+loop-again c =
+    let at-if3 = c .before .before in
+    let at-if2 = at-if3 .before in
+    let at-wide = at-if2 .before in
+    let at-loop = at-wide .before .before .before in (
+      blank-on _ _ _ _ _ _ (at-loop .loop .inv .0) (omega arith) (at-wide .wide .ensures) (at-if2 .if2 .taken) (at-if3 .if3 .left) (omega arith)
+          (c .narrow .ensures),
+      simp length-set (omega arith),
+      omega arith,
+      omega arith,
+      omega arith,
+    )
 
 same-length-3 : tie.Need-same-length-3 Inv-loop μ-loop
 same-length-3 c = search needs
 
 returns-4 : tie.Need-returns-4 Inv-loop μ-loop
-returns-4 c = (digit-below _ _ _ _ _ _ (c .before .before .before .before .before .loop .inv .0) (omega arith) (c .before .before .wide .ensures) (c .before .if2 .left) (omega arith), omega arith)
+returns-4 c =
+    let at-wide = c .before .before in
+    let at-loop = at-wide .before .before .before in
+    (digit-below _ _ _ _ _ _ (at-loop .loop .inv .0) (omega arith) (at-wide .wide .ensures) (c .before .if2 .left) (omega arith), omega arith)
 
 same-length-4 : tie.Need-same-length-4 Inv-loop μ-loop
 same-length-4 c = search needs
 
 returns-5 : tie.Need-returns-5 Inv-loop μ-loop
-returns-5 c = (digit-above _ _ _ _ _ _ (c .before .before .before .before .before .before .loop .inv .0) (omega arith) (c .before .before .before .wide .ensures) (c .before .before .if2 .left) (omega arith), omega arith)
+returns-5 c =
+    let at-if2 = c .before .before in
+    let at-wide = at-if2 .before in
+    let at-loop = at-wide .before .before .before in
+    (digit-above _ _ _ _ _ _ (at-loop .loop .inv .0) (omega arith) (at-wide .wide .ensures) (at-if2 .if2 .left) (omega arith), omega arith)
 
 same-length-5 : tie.Need-same-length-5 Inv-loop μ-loop
 same-length-5 c = search needs
 
 returns-6 : tie.Need-returns-6 Inv-loop μ-loop
-returns-6 c = (digit-sixth _ _ _ _ _ _ (c .before .before .before .before .before .before .before .loop .inv .0) (omega arith) (c .before .before .before .before .wide .ensures) (c .before .before .before .if2 .left) (omega arith) (omega arith) (omega arith), omega arith)
+returns-6 c =
+    let at-if2 = c .before .before .before in
+    let at-wide = at-if2 .before in
+    let at-loop = at-wide .before .before .before in (
+      digit-sixth _ _ _ _ _ _ (at-loop .loop .inv .0) (omega arith) (at-wide .wide .ensures) (at-if2 .if2 .left) (omega arith) (omega arith) (omega arith),
+      omega arith,
+    )
 
 mul-value : tie.Need-mul-value Inv-loop μ-loop
 mul-value c = search needs
@@ -87,7 +127,14 @@ same-length-6 : tie.Need-same-length-6 Inv-loop μ-loop
 same-length-6 c = search needs
 
 returns-7 : tie.Need-returns-7 Inv-loop μ-loop
-returns-7 c = (digit-high _ _ _ _ _ _ (c .before .before .before .before .before .before .before .before .loop .inv .0) (omega arith) (c .before .before .before .before .before .wide .ensures) (c .before .before .before .before .if2 .left) (omega arith) (omega arith) (omega arith) (omega arith), omega arith)
+returns-7 c =
+    let at-if2 = c .before .before .before .before in
+    let at-wide = at-if2 .before in
+    let at-loop = at-wide .before .before .before in (
+      digit-high _ _ _ _ _ _ (at-loop .loop .inv .0) (omega arith) (at-wide .wide .ensures) (at-if2 .if2 .left) (omega arith) (omega arith) (omega arith)
+          (omega arith),
+      omega arith,
+    )
 
 add-digits : tie.Need-add-digits Inv-loop μ-loop
 add-digits c = search needs
@@ -96,19 +143,33 @@ loop-less-2 : tie.Need-loop-less-2 Inv-loop μ-loop
 loop-less-2 c = search needs
 
 loop-again-2 : tie.Need-loop-again-2 Inv-loop μ-loop
-loop-again-2 c = (digit-on _ _ _ _ _ _ (c .before .before .before .before .before .before .before .before .loop .inv .0) (omega arith) (c .before .before .before .before .before .wide .ensures) (c .before .before .before .before .if2 .left) (omega arith) (omega arith) (omega arith) (omega arith) (omega arith), omega arith, omega arith, omega arith, omega arith)
+loop-again-2 c =
+    let at-if2 = c .before .before .before .before in
+    let at-wide = at-if2 .before in
+    let at-loop = at-wide .before .before .before in (
+      digit-on _ _ _ _ _ _ (at-loop .loop .inv .0) (omega arith) (at-wide .wide .ensures) (at-if2 .if2 .left) (omega arith) (omega arith) (omega arith)
+          (omega arith) (omega arith),
+      omega arith,
+      omega arith,
+      omega arith,
+      omega arith,
+    )
 
 same-length-7 : tie.Need-same-length-7 Inv-loop μ-loop
 same-length-7 c = search needs
 
 returns-8 : tie.Need-returns-8 Inv-loop μ-loop
-returns-8 c = (last-empty _ _ _ _ _ _ (c .before .before .loop .inv .0) (omega arith) (c .if9 .taken), omega arith)
+returns-8 c =
+    let at-loop = c .before .before in
+    (last-empty _ _ _ _ _ _ (at-loop .loop .inv .0) (omega arith) (c .if9 .taken), omega arith)
 
 same-length-8 : tie.Need-same-length-8 Inv-loop μ-loop
 same-length-8 c = search needs
 
 returns-9 : tie.Need-returns-9 Inv-loop μ-loop
-returns-9 c = (last-many _ _ _ _ _ _ (c .before .before .before .loop .inv .0) (omega arith) (c .before .if9 .left) (omega arith) (omega arith), omega arith)
+returns-9 c =
+    let at-loop = c .before .before .before in
+    (last-many _ _ _ _ _ _ (at-loop .loop .inv .0) (omega arith) (c .before .if9 .left) (omega arith) (omega arith), omega arith)
 
 narrow-requires-2 : tie.Need-narrow-requires-2 Inv-loop μ-loop
 narrow-requires-2 c κs = search needs
@@ -126,7 +187,10 @@ same-length-9 : tie.Need-same-length-9 Inv-loop μ-loop
 same-length-9 c = search needs
 
 returns-10 : tie.Need-returns-10 Inv-loop μ-loop
-returns-10 c = (last-good _ _ _ _ _ _ (c .before .before .before .before .loop .inv .0) (omega arith) (c .before .before .if9 .left) (omega arith) (omega arith) (c .narrow2 .ensures), omega arith)
+returns-10 c =
+    let at-if9 = c .before .before in
+    let at-loop = at-if9 .before .before in
+    (last-good _ _ _ _ _ _ (at-loop .loop .inv .0) (omega arith) (at-if9 .if9 .left) (omega arith) (omega arith) (c .narrow2 .ensures), omega arith)
 
 pub parse-spec : {M : Type 1} → statement M
 parse-spec =

@@ -1,4 +1,4 @@
--- `notes::answer` is safe and ends.
+-- `notes::answer` is safe and ends: a note that was parsed has no more tokens than the array has words.
 use mathlib.Core.Path.{sym}
 use native.Mathlib.Omega.{arith}
 use lib.Seq.{length-take-le}
@@ -17,10 +17,15 @@ enum-known-said : tie.Need-enum-known-said
 enum-known-said c = search needs
 
 array-share-prefix-note : tie.Need-array-share-prefix-note
-array-share-prefix-note c = omega (arith, count-most _ (c .before .before .before .before .parse .ensures .1) (c .before .said .given .1))
+array-share-prefix-note c =
+    let at-parse = c .before .before .before .before in
+    omega (arith, count-most _ (at-parse .parse .ensures .1) (c .before .said .given .1))
 
 slice-aggregate-tell : tie.Need-slice-aggregate-tell
-slice-aggregate-tell c = sym (length-take-le _ _ (omega (arith, count-most _ (c .before .before .before .before .before .parse .ensures .1) (c .before .before .said .given .1))))
+slice-aggregate-tell c =
+    let at-said = c .before .before in
+    let at-parse = at-said .before .before .before in
+    sym (length-take-le _ _ (omega (arith, count-most _ (at-parse .parse .ensures .1) (at-said .said .given .1))))
 
 tell-requires : tie.Need-tell-requires
 tell-requires c κs = search needs

@@ -1,14 +1,16 @@
--- `notes::feed` meets its contract.
+-- `notes::feed` meets its contract: each byte leaves at most maxKept bytes kept, and so does the last.
 use mathlib.Core.Path.{_≡_, refl}
 use Prim.Native.Nat.{_-_, _≤_}
 use native.Mathlib.Omega.{arith}
 use borrow.Author.Needs.{needs}
 use lib.ListN.{length}
+use Rattle.lines.specs.Line.{maxKept}
 use Rattle.notes.proofs.feed.Statement.{statement}
 use Rattle.notes.proofs.feed.Tie as tie
 
 abbrev Inv-loop : tie.InvT-loop
-Inv-loop bytes line₀ kept cache₀ space₀ n k₀ i₀ line cache space k i = (k ≤ 96) × (length line ≡ length line₀) × (length cache ≡ length cache₀) × (length space ≡ length space₀)
+Inv-loop bytes line₀ kept cache₀ space₀ n k₀ i₀ line cache space k i = (k ≤ maxKept) × (length line ≡ length line₀)
+    × (length cache ≡ length cache₀) × (length space ≡ length space₀)
 
 abbrev μ-loop : tie.MeasureT-loop
 μ-loop bytes line₀ kept cache₀ space₀ n k₀ i₀ line cache space k i = n - i

@@ -1,4 +1,4 @@
--- `notes::step` meets its contract.
+-- `notes::step` meets its contract: a byte that ends no line is kept by `keep`, and one that ends it leaves nothing kept.
 use mathlib.Core.Path.{sym}
 use native.Mathlib.Omega.{arith}
 use lib.Seq.{length-take-le}

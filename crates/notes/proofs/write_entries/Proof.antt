@@ -1,4 +1,4 @@
--- `notes::write_entries` is safe and ends.
+-- `notes::write_entries` is safe and ends: entries are written up to the row's end at most.
 use Prim.Native.Nat.{_-_}
 use borrow.Author.Needs.{needs}
 use Rattle.notes.proofs.write_entries.Statement.{statement}

@@ -1,4 +1,4 @@
--- `number::is_legal` meets its contract.
+-- `number::is_legal` meets its contract: each way through the two tests is one case of `legal`.
 use Rattle.number.proofs.NumberLaws.{legal-zero, legal-token, legal-nonterminal}
 use native.Mathlib.Omega.{arith}
 use Rattle.number.proofs.is_legal.Statement.{statement}

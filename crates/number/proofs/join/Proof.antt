@@ -1,4 +1,4 @@
--- `number::join` meets its contract.
+-- `number::join` meets its contract: the low group and the shifted one share no bit, so their union is their sum.
 use Rattle.number.proofs.NumberLaws.{joined}
 use Rattle.number.proofs.join.Statement.{statement}
 use Rattle.number.proofs.join.Tie as tie

@@ -1,9 +1,11 @@
--- `positions::from_bit` meets its contract.
+-- `positions::from_bit` meets its contract: the word shifted by k is empty, and then no bit from k on is set, or its trailing zeros lead to the lowest such
+-- bit.
 use Prim.Native.Nat.{_/_, _^_}
 use native.Mathlib.Omega.{arith}
 use lib.Count.{trailing-le}
 use Rattle.positions.proofs.NextLaws.{from-none, from-some}
 use borrow.Author.Needs.{needs}
+use Rattle.base.specs.Bits.{wordBits}
 use Rattle.positions.proofs.from_bit.Statement.{statement}
 use Rattle.positions.proofs.from_bit.Tie as tie
 
@@ -20,7 +22,9 @@ number-requires : tie.Need-number-requires
 number-requires c κs = search needs
 
 add-result : tie.Need-add-result
-add-result c = let a = c .before .before .args in omega (arith, trailing-le 32 (a .x / 2 ^ a .k))
+add-result c =
+    let at-entry = c .before .before in
+    let a = at-entry .args in omega (arith, trailing-le wordBits (a .x / 2 ^ a .k))
 
 returns-2 : tie.Need-returns-2
 returns-2 c = from-some _ _ (omega arith) (omega arith) (c .number .ensures)

@@ -1,4 +1,4 @@
--- `positions::full` meets its contract.
+-- `positions::full` meets its contract: every position from `from` on is a member up to the least one that the opposite set holds.
 use native.Mathlib.Omega.{arith}
 use borrow.Author.Needs.{needs}
 use borrow.Author.Tests.{ltb-true}

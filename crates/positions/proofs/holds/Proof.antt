@@ -1,4 +1,4 @@
--- `positions::holds` meets its contract.
+-- `positions::holds` meets its contract: the word of j stands j / wordBits behind the start of the set, which lies in the slice with all its words.
 use Rattle.positions.specs.Words.{memberAt}
 use borrow.Author.Needs.{needs}
 use Rattle.positions.proofs.holds.Statement.{statement}

@@ -1,4 +1,4 @@
--- `positions::put` meets its contract.
+-- `positions::put` meets its contract: the five stores are those of `putAt`, and each lies in the slice.
 use native.Mathlib.Numerals.{add-one, add-two, add-three, add-four}
 use native.Mathlib.Omega.{arith}
 use lib.ListN.{length-set}

@@ -1,4 +1,4 @@
--- `positions::read` meets its contract.
+-- `positions::read` meets its contract: the five words are read as in `setAt`, and each lies in the slice.
 use mathlib.Core.Path.{refl}
 use Rattle.positions.specs.Words.{setAt}
 use borrow.Author.Needs.{needs}

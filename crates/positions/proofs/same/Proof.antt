@@ -1,4 +1,4 @@
--- `positions::same` meets its contract.
+-- `positions::same` meets its contract: each word is read where the array has it, and the code computes the same Boolean as `sameOf`.
 use mathlib.Core.Path.{refl}
 use Rattle.positions.specs.Positions.{sameOf}
 use borrow.Author.Needs.{needs}

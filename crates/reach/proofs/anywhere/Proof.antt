@@ -1,4 +1,4 @@
--- `reach::anywhere` meets its contract.
+-- `reach::anywhere` meets its contract: the union of the sets is made place by place.
 use native.Mathlib.Omega.{arith}
 use borrow.Author.Needs.{needs}
 use Prim.Native.Nat.{_≤_, _-_}
@@ -35,10 +35,15 @@ loop-less : tie.Need-loop-less Inv-loop μ-loop
 loop-less c = search needs
 
 loop-again : tie.Need-loop-again Inv-loop μ-loop
-loop-again c = (omega arith, any-next _ _ _ (c .before .read .ensures) (c .union .ensures) (c .before .before .before .loop .inv .1))
+loop-again c =
+    let at-loop = c .before .before .before in
+    let at-read = c .before in
+    (omega arith, any-next _ _ _ (at-read .read .ensures) (c .union .ensures) (at-loop .loop .inv .1))
 
 returns : tie.Need-returns Inv-loop μ-loop
-returns c = any-end _ _ _ _ (omega arith) (c .before .loop .inv .1)
+returns c =
+    let at-loop = c .before in
+    any-end _ _ _ _ (omega arith) (at-loop .loop .inv .1)
 
 pub anywhere-spec : {M : Type 1} → statement M
 anywhere-spec =

@@ -1,4 +1,4 @@
--- `reach::highest` meets its contract.
+-- `reach::highest` meets its contract: no position behind the one that is looked at is a member.
 use native.Mathlib.Omega.{arith}
 use borrow.Author.Needs.{needs}
 use mathlib.Core.Path.{_≡_, sym, _∙_}
@@ -22,7 +22,11 @@ has-requires : tie.Need-has-requires Inv-loop μ-loop
 has-requires c κs = search needs
 
 returns : tie.Need-returns Inv-loop μ-loop
-returns c = highest-hit (member (c .before .before .before .before .args .s .words)) _ (c .before .before .before .loop .inv .1) (omega arith) (sym (c .before .has .ensures) ∙ c .if1 .taken)
+returns c =
+    let at-entry = c .before .before .before .before in
+    let at-loop = c .before .before .before in
+    let at-has = c .before in
+    highest-hit (member (at-entry .args .s .words)) _ (at-loop .loop .inv .1) (omega arith) (sym (at-has .has .ensures) ∙ c .if1 .taken)
 
 sub-k : tie.Need-sub-k Inv-loop μ-loop
 sub-k c = search needs
@@ -31,10 +35,17 @@ loop-less : tie.Need-loop-less Inv-loop μ-loop
 loop-less c = search needs
 
 loop-again : tie.Need-loop-again Inv-loop μ-loop
-loop-again c = (omega arith, highest-miss (member (c .before .before .before .before .args .s .words)) _ (c .before .before .before .loop .inv .1) (omega arith) (sym (c .before .has .ensures) ∙ c .if1 .left))
+loop-again c =
+    let at-entry = c .before .before .before .before in
+    let at-loop = c .before .before .before in
+    let at-has = c .before in
+    (omega arith, highest-miss (member (at-entry .args .s .words)) _ (at-loop .loop .inv .1) (omega arith) (sym (at-has .has .ensures) ∙ c .if1 .left))
 
 returns-2 : tie.Need-returns-2 Inv-loop μ-loop
-returns-2 c = highest-none (member (c .before .before .args .s .words)) _ (c .before .loop .inv .1) (omega arith)
+returns-2 c =
+    let at-entry = c .before .before in
+    let at-loop = c .before in
+    highest-none (member (at-entry .args .s .words)) _ (at-loop .loop .inv .1) (omega arith)
 
 pub highest-spec : {M : Type 1} → statement M
 highest-spec =

@@ -1,4 +1,4 @@
--- `reach::mark` meets its contract.
+-- `reach::mark` meets its contract: a point that stands already adds nothing, and any other joins the set of its place.
 use borrow.Author.Needs.{needs}
 use Rattle.reach.proofs.AddLaws.{mark-held, mark-adds}
 use Rattle.reach.proofs.mark.Statement.{statement}
@@ -14,7 +14,9 @@ same-length : tie.Need-same-length
 same-length c = search needs
 
 returns : tie.Need-returns
-returns c = mark-held _ _ _ (c .before .holds .ensures) (c .if1 .taken)
+returns c =
+    let at-holds = c .before in
+    mark-held _ _ _ (at-holds .holds .ensures) (c .if1 .taken)
 
 empty-requires : tie.Need-empty-requires
 empty-requires c κs = search needs
@@ -32,7 +34,12 @@ same-length-2 : tie.Need-same-length-2
 same-length-2 c = search needs
 
 returns-2 : tie.Need-returns-2
-returns-2 c = mark-adds (c .before .before .before .before .before .before .before .before .before .before .pre .2) (c .before .before .before .before .before .before .before .before .before .before .pre .0) (c .before .before .before .before .before .before .before .before .before .before .pre .1) (c .before .before .before .before .before .empty .ensures) (c .before .before .before .before .with .ensures) (c .before .before .join .ensures)
+returns-2 c =
+    let at-entry = c .before .before .before .before .before .before .before .before .before .before in
+    let at-empty = c .before .before .before .before .before in
+    let at-with = c .before .before .before .before in
+    let at-join = c .before .before in
+    mark-adds (at-entry .pre .2) (at-entry .pre .0) (at-entry .pre .1) (at-empty .empty .ensures) (at-with .with .ensures) (at-join .join .ensures)
 
 pub mark-spec : {M : Type 1} → statement M
 mark-spec =

@@ -1,32 +1,48 @@
--- `reach::pass` meets its contract.
+-- `reach::pass` meets its contract: the places are closed one after the other: nobody stands there, or a step was made there before, or one is made now.
 use native.Mathlib.Omega.{arith}
 use borrow.Author.Needs.{needs}
 use Rattle.derivation.proofs.ReadyLaws.{ready-size}
 use mathlib.Core.Path.{_≡_, refl}
 use Prim.Native.Nat.{_≤_, _-_}
-use lib.ListN.{length, length-set}
-use Rattle.grammar.specs.Limits.{maxPlaces}
+use lib.ListN.{length}
 use Rattle.grammar.specs.Tables.{grammarIn}
-use Rattle.reach.specs.Passes.{Passed, Stepped}
+use Rattle.reach.specs.Passes.{PassedTo, Stepped}
 use Rattle.reach.proofs.PassLaws.{holds-stands, pass-begin, pass-out, pass-new, pass-old, pass-before, pass-end, stepped-more}
 use Rattle.reach.proofs.pass.Statement.{statement}
 use Rattle.reach.proofs.pass.Tie as tie
 
 abbrev Inv-loop : tie.InvT-loop
-Inv-loop tables note ws sets₀ stepped₀ places i grown₀ p₀ sets stepped grown p =
-    (p ≤ places) × (length sets ≡ length sets₀) × (length stepped ≡ maxPlaces) × Passed (grammarIn tables) note p i grown sets₀ sets × Stepped (grammarIn tables) note i stepped sets
+Inv-loop tables note ws sets₀ stepped₀ i places grown₀ p₀ sets stepped grown p =
+    (p ≤ places)
+    × (length sets ≡ length sets₀)
+    × PassedTo (grammarIn tables) note p i grown sets₀ sets
+    × Stepped tables note i stepped sets
 
 abbrev μ-loop : tie.MeasureT-loop
-μ-loop tables note ws sets₀ stepped₀ places i grown₀ p₀ sets stepped grown p = places - p
+μ-loop tables note ws sets₀ stepped₀ i places grown₀ p₀ sets stepped grown p = places - p
+
+size-requires : tie.Need-size-requires Inv-loop μ-loop
+size-requires c κs =
+    let at-entry = c .before .before .before .before .before in
+    at-entry .pre .0 .given .ready .fits .long
 
 loop-holds : tie.Need-loop-holds Inv-loop μ-loop
-loop-holds c = (omega arith, refl, c .before .before .before .before .before .pre .3, pass-begin _ _ _ _, c .before .before .before .before .before .pre .4)
+loop-holds c =
+    let at-entry = c .before .before .before .before .before .before in
+    (omega arith, refl, pass-begin _ _ _ _, at-entry .pre .1)
 
 mul-holds : tie.Need-mul-holds Inv-loop μ-loop
-mul-holds c = omega (arith, ready-size _ (c .before .before .before .before .before .before .before .before .pre .0 .0), c .before .before .before .before .before .before .before .before .pre .0 .1)
+mul-holds c =
+    let at-entry = c .before .before .before .before .before .before .before .before .before in
+    let at-size = c .before .before .before in
+    omega (arith, ready-size _ (at-entry .pre .0 .given .ready), at-size .size .ensures)
 
 holds-requires : tie.Need-holds-requires Inv-loop μ-loop
-holds-requires c κs = (omega (arith, ready-size _ (c .before .before .before .before .before .before .before .before .pre .0 .0), c .before .before .before .before .before .before .before .before .pre .0 .1), omega (arith, c .before .before .before .before .before .before .before .before .pre .0 .2 .short))
+holds-requires c κs =
+    let at-entry = c .before .before .before .before .before .before .before .before .before in
+    let at-size = c .before .before .before in
+    let start = at-entry .pre .0 in
+    (omega (arith, ready-size _ (start .given .ready), at-size .size .ensures, start .long), omega (arith, start .given .lent .short, start .here))
 
 add-p : tie.Need-add-p Inv-loop μ-loop
 add-p c = omega arith
@@ -35,49 +51,120 @@ mul-if2 : tie.Need-mul-if2 Inv-loop μ-loop
 mul-if2 c = search needs
 
 slice-read-if2 : tie.Need-slice-read-if2 Inv-loop μ-loop
-slice-read-if2 c = omega (arith, c .before .before .before .before .before .loop .inv .2, ready-size _ (c .before .before .before .before .before .before .before .before .before .before .before .pre .0 .0), c .before .before .before .before .before .before .before .before .before .before .before .pre .0 .1)
+slice-read-if2 c =
+    let at-entry = c .before .before .before .before .before .before .before .before .before .before .before .before in
+    let at-size = c .before .before .before .before .before .before in
+    let at-loop = c .before .before .before .before .before in
+    omega (arith, at-loop .loop .inv .3 .long, ready-size _ (at-entry .pre .0 .given .ready), at-size .size .ensures)
 
 mul-stepped : tie.Need-mul-stepped Inv-loop μ-loop
 mul-stepped c = search needs
 
 slice-write-stepped : tie.Need-slice-write-stepped Inv-loop μ-loop
-slice-write-stepped c = omega (arith, c .before .before .before .before .before .before .loop .inv .2, ready-size _ (c .before .before .before .before .before .before .before .before .before .before .before .before .pre .0 .0), c .before .before .before .before .before .before .before .before .before .before .before .before .pre .0 .1)
+slice-write-stepped c =
+    let at-entry = c .before .before .before .before .before .before .before .before .before .before .before .before .before in
+    let at-size = c .before .before .before .before .before .before .before in
+    let at-loop = c .before .before .before .before .before .before in
+    omega (arith, at-loop .loop .inv .3 .long, ready-size _ (at-entry .pre .0 .given .ready), at-size .size .ensures)
 
 step-requires : tie.Need-step-requires Inv-loop μ-loop
-step-requires c κs = (c .before .before .before .before .before .before .before .before .before .before .before .before .before .pre .0, omega arith, c .before .before .before .before .before .before .before .before .before .before .before .before .before .pre .1, omega arith)
+step-requires c κs =
+    let at-entry = c .before .before .before .before .before .before .before .before .before .before .before .before .before .before in
+    let at-size = c .before .before .before .before .before .before .before .before in
+    let at-loop = c .before .before .before .before .before .before .before in
+    let start = at-entry .pre .0 in
+    (record { given = start .given; here = start .here; long = omega (arith, at-loop .loop .inv .1, start .long) }, omega (arith, at-size .size .ensures))
 
 loop-less : tie.Need-loop-less Inv-loop μ-loop
 loop-less c = omega arith
 
 loop-again : tie.Need-loop-again Inv-loop μ-loop
-loop-again c = (omega arith, omega (arith, c .before .before .before .step .kept .1 .1 .1 .0), simp length-set (c .before .before .before .before .before .before .before .before .before .before .before .loop .inv .2), pass-new _ _ _ _ (c .before .before .before .before .before .before .before .before .before .before .before .before .before .before .before .before .before .pre .0 .0) (omega (arith, c .before .before .before .before .before .before .before .before .before .before .before .before .before .before .before .before .before .pre .0 .2 .short)) (omega (arith, c .before .before .before .before .before .before .before .before .before .before .before .before .before .before .before .before .before .pre .0 .1)) (c .before .before .before .before .before .before .before .before .before .before .before .before .before .before .before .before .before .pre .1) (c .before .before .before .before .before .before .before .before .before .before .before .loop .inv .3) (holds-stands _ _ _ (c .before .before .before .before .before .before .before .before .holds .ensures)) (c .before .before .before .before .before .before .before .if1 .taken) (c .before .before .before .step .ensures) (c .if3 .taken), stepped-more _ _ _ _ (c .before .before .before .before .before .before .before .before .before .before .before .before .before .before .before .before .before .pre .0 .0) (omega (arith, c .before .before .before .before .before .before .before .before .before .before .before .before .before .before .before .before .before .pre .0 .2 .short)) (c .before .before .before .before .before .before .before .before .before .before .before .before .before .before .before .before .before .pre .1) _ _ (c .before .before .before .before .before .before .before .before .before .before .before .loop .inv .4) (c .before .before .before .step .ensures))
+loop-again c =
+    let at-entry = c .before .before .before .before .before .before .before .before .before .before .before .before .before .before .before .before .before
+    .before in
+    let at-size = c .before .before .before .before .before .before .before .before .before .before .before .before in
+    let at-loop = c .before .before .before .before .before .before .before .before .before .before .before in
+    let at-holds = c .before .before .before .before .before .before .before .before in
+    let at-if1 = c .before .before .before .before .before .before .before in
+    let at-step = c .before .before .before in
+    let given = at-entry .pre .0 .given in (
+      omega arith,
+      omega (arith, at-step .step .kept .1 .1 .1 .0),
+      pass-new _ _ _ _ (given .ready) (omega (arith, given .lent .short)) (omega (arith, at-size .size .ensures)) (at-entry .pre .0 .here)
+          (at-loop .loop .inv .2) (holds-stands _ _ _ (at-holds .holds .ensures)) (at-if1 .if1 .taken) (at-step .step .ensures) (c .if3 .taken),
+      stepped-more _ _ _ _ (given .ready) (omega (arith, given .lent .short)) (at-entry .pre .0 .here) _ _ (at-loop .loop .inv .3)
+          (at-step .step .ensures),
+    )
 
 loop-less-2 : tie.Need-loop-less-2 Inv-loop μ-loop
 loop-less-2 c = omega arith
 
 loop-again-2 : tie.Need-loop-again-2 Inv-loop μ-loop
-loop-again-2 c = (omega arith, omega (arith, c .before .before .before .step .kept .1 .1 .1 .0), simp length-set (c .before .before .before .before .before .before .before .before .before .before .before .loop .inv .2), pass-old _ _ _ _ (c .before .before .before .before .before .before .before .before .before .before .before .before .before .before .before .before .before .pre .0 .0) (omega (arith, c .before .before .before .before .before .before .before .before .before .before .before .before .before .before .before .before .before .pre .0 .2 .short)) (omega (arith, c .before .before .before .before .before .before .before .before .before .before .before .before .before .before .before .before .before .pre .0 .1)) (c .before .before .before .before .before .before .before .before .before .before .before .before .before .before .before .before .before .pre .1) (c .before .before .before .before .before .before .before .before .before .before .before .loop .inv .3) (holds-stands _ _ _ (c .before .before .before .before .before .before .before .before .holds .ensures)) (c .before .before .before .before .before .before .before .if1 .taken) (c .before .before .before .step .ensures) (c .if3 .left), stepped-more _ _ _ _ (c .before .before .before .before .before .before .before .before .before .before .before .before .before .before .before .before .before .pre .0 .0) (omega (arith, c .before .before .before .before .before .before .before .before .before .before .before .before .before .before .before .before .before .pre .0 .2 .short)) (c .before .before .before .before .before .before .before .before .before .before .before .before .before .before .before .before .before .pre .1) _ _ (c .before .before .before .before .before .before .before .before .before .before .before .loop .inv .4) (c .before .before .before .step .ensures))
+loop-again-2 c =
+    let at-entry = c .before .before .before .before .before .before .before .before .before .before .before .before .before .before .before .before .before
+    .before in
+    let at-size = c .before .before .before .before .before .before .before .before .before .before .before .before in
+    let at-loop = c .before .before .before .before .before .before .before .before .before .before .before in
+    let at-holds = c .before .before .before .before .before .before .before .before in
+    let at-if1 = c .before .before .before .before .before .before .before in
+    let at-step = c .before .before .before in
+    let given = at-entry .pre .0 .given in (
+      omega arith,
+      omega (arith, at-step .step .kept .1 .1 .1 .0),
+      pass-old _ _ _ _ (given .ready) (omega (arith, given .lent .short)) (omega (arith, at-size .size .ensures)) (at-entry .pre .0 .here)
+          (at-loop .loop .inv .2) (holds-stands _ _ _ (at-holds .holds .ensures)) (at-if1 .if1 .taken) (at-step .step .ensures) (c .if3 .left),
+      stepped-more _ _ _ _ (given .ready) (omega (arith, given .lent .short)) (at-entry .pre .0 .here) _ _ (at-loop .loop .inv .3)
+          (at-step .step .ensures),
+    )
 
 loop-less-3 : tie.Need-loop-less-3 Inv-loop μ-loop
 loop-less-3 c = omega arith
 
 loop-again-3 : tie.Need-loop-again-3 Inv-loop μ-loop
-loop-again-3 c = (omega arith, omega arith, c .before .before .before .before .before .before .loop .inv .2, pass-before _ _ _ _ (c .before .before .before .before .before .before .before .before .before .before .before .before .pre .0 .0) (omega (arith, c .before .before .before .before .before .before .before .before .before .before .before .before .pre .0 .2 .short)) (omega (arith, c .before .before .before .before .before .before .before .before .before .before .before .before .pre .0 .1)) (c .before .before .before .before .before .before .before .before .before .before .before .before .pre .1) (c .before .before .before .before .before .before .loop .inv .3) (holds-stands _ _ _ (c .before .before .before .holds .ensures)) _ (c .before .before .before .before .before .before .loop .inv .4) (c .if2 .left), c .before .before .before .before .before .before .loop .inv .4)
+loop-again-3 c =
+    let at-entry = c .before .before .before .before .before .before .before .before .before .before .before .before .before in
+    let at-size = c .before .before .before .before .before .before .before in
+    let at-loop = c .before .before .before .before .before .before in
+    let at-holds = c .before .before .before in
+    let given = at-entry .pre .0 .given in (
+      omega arith,
+      omega arith,
+      pass-before _ _ _ _ (given .ready) (omega (arith, given .lent .short)) (omega (arith, at-size .size .ensures))
+          (at-entry .pre .0 .here) (at-loop .loop .inv .2) (holds-stands _ _ _ (at-holds .holds .ensures)) _ (at-loop .loop .inv .3) (c .if2 .left),
+      at-loop .loop .inv .3,
+    )
 
 loop-less-4 : tie.Need-loop-less-4 Inv-loop μ-loop
 loop-less-4 c = omega arith
 
 loop-again-4 : tie.Need-loop-again-4 Inv-loop μ-loop
-loop-again-4 c = (omega arith, omega arith, c .before .before .before .before .loop .inv .2, pass-out _ _ _ _ (c .before .before .before .before .before .before .before .before .before .before .pre .0 .0) (omega (arith, c .before .before .before .before .before .before .before .before .before .before .pre .0 .2 .short)) (omega (arith, c .before .before .before .before .before .before .before .before .before .before .pre .0 .1)) (c .before .before .before .before .before .before .before .before .before .before .pre .1) (c .before .before .before .before .loop .inv .3) (holds-stands _ _ _ (c .before .holds .ensures)) (c .if1 .left), c .before .before .before .before .loop .inv .4)
+loop-again-4 c =
+    let at-entry = c .before .before .before .before .before .before .before .before .before .before .before in
+    let at-size = c .before .before .before .before .before in
+    let at-loop = c .before .before .before .before in
+    let at-holds = c .before in
+    let given = at-entry .pre .0 .given in (
+      omega arith,
+      omega arith,
+      pass-out _ _ _ _ (given .ready) (omega (arith, given .lent .short)) (omega (arith, at-size .size .ensures))
+          (at-entry .pre .0 .here) (at-loop .loop .inv .2) (holds-stands _ _ _ (at-holds .holds .ensures)) (c .if1 .left),
+      at-loop .loop .inv .3,
+    )
 
 same-length : tie.Need-same-length Inv-loop μ-loop
 same-length c = omega arith
 
 same-length-2 : tie.Need-same-length-2 Inv-loop μ-loop
-same-length-2 c = omega (arith, c .before .loop .inv .2, c .before .before .before .before .before .before .before .pre .3)
+same-length-2 c =
+    let at-entry = c .before .before .before .before .before .before .before .before in
+    let at-loop = c .before in
+    omega (arith, at-loop .loop .inv .3 .long, at-entry .pre .1 .long)
 
 returns : tie.Need-returns Inv-loop μ-loop
-returns c = (pass-end _ _ _ _ _ (omega arith) (c .before .loop .inv .3), c .before .loop .inv .4)
+returns c =
+    let at-size = c .before .before in
+    let at-loop = c .before in
+    pass-end _ _ _ _ (at-size .size .ensures) (omega arith) (at-loop .loop .inv .2) (at-loop .loop .inv .3)
 
 pub pass-spec : {M : Type 1} → statement M
 pass-spec =
@@ -85,6 +172,7 @@ pass-spec =
     (tie.spec
     Inv-loop
     μ-loop
+    size-requires
     loop-holds
     mul-holds
     holds-requires

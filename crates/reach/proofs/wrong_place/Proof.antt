@@ -1,10 +1,10 @@
--- `reach::wrong_place` meets its contract.
+-- `reach::wrong_place` meets its contract: position after position, all that can be reached from it is found; the last one at which anybody stands is the
+-- place.
 use mathlib.Core.Path.{_≡_, refl}
 use borrow.Author.Needs.{needs}
 use Prim.Native.Nat.{ℕ, _+_, _-_, _≤_}
 use native.Mathlib.Omega.{arith}
 use lib.ListN.{length, length-replicate}
-use Rattle.grammar.specs.Tables.{grammarIn}
 use Rattle.derivation.proofs.ReadyLaws.{ready-size}
 use Rattle.reach.specs.Sets.{setsWords}
 use Rattle.reach.proofs.EnterLaws.{start-known}
@@ -14,46 +14,83 @@ use Rattle.reach.proofs.wrong_place.Statement.{statement}
 use Rattle.reach.proofs.wrong_place.Tie as tie
 
 abbrev Inv-loop : tie.InvT-loop
-Inv-loop tables note ws places sets₀ entered n i₀ sets i = (i ≤ n + 1) × (length sets ≡ setsWords) × FoundTo (grammarIn tables) note places i sets
+Inv-loop tables note ws sets₀ entered n i₀ sets i = (i ≤ n + 1) × (length sets ≡ setsWords) × FoundTo tables note i sets
 
 abbrev μ-loop : tie.MeasureT-loop
-μ-loop tables note ws places sets₀ entered n i₀ sets i = n + 1 - i
+μ-loop tables note ws sets₀ entered n i₀ sets i = n + 1 - i
 
 slice-aggregate-enter : tie.Need-slice-aggregate-enter Inv-loop μ-loop
 slice-aggregate-enter c = search needs
 
 enter-requires : tie.Need-enter-requires Inv-loop μ-loop
-enter-requires c κs = (c .before .before .before .before .pre .0, start-known _ (c .before .before .before .before .pre .0), omega arith, length-replicate {A = ℕ} setsWords 0)
+enter-requires c κs =
+    let at-entry = c .before .before .before .before in
+    (at-entry .pre .ready, start-known _ (at-entry .pre .ready), omega arith, length-replicate {A = ℕ} setsWords 0)
 
 loop-holds : tie.Need-loop-holds Inv-loop μ-loop
-loop-holds c = (omega arith, omega (arith, c .before .enter .kept .1, length-replicate {A = ℕ} setsWords 0), found-begin _ _ (c .before .before .before .before .before .before .pre .0) (omega (arith, c .before .before .before .before .before .before .pre .2 .short)) _ setsWords refl (c .before .enter .ensures))
+loop-holds c =
+    let at-entry = c .before .before .before .before .before .before in
+    let at-enter = c .before in (
+      omega arith,
+      omega (arith, at-enter .enter .kept .1, length-replicate {A = ℕ} setsWords 0),
+      found-begin _ _ (at-entry .pre .ready) (omega (arith, at-entry .pre .lent .short)) setsWords refl (at-enter .enter .ensures),
+    )
 
 slice-aggregate-settle : tie.Need-slice-aggregate-settle Inv-loop μ-loop
 slice-aggregate-settle c = search needs
 
 settle-requires : tie.Need-settle-requires Inv-loop μ-loop
-settle-requires c κs = (c .before .before .before .before .before .before .before .before .before .pre, omega arith, c .before .before .loop .inv .1)
+settle-requires c κs =
+    let at-entry = c .before .before .before .before .before .before .before .before .before in
+    let at-loop = c .before .before in
+    record { given = at-entry .pre; here = omega arith; long = at-loop .loop .inv .1 }
 
 add-i : tie.Need-add-i Inv-loop μ-loop
-add-i c = omega (arith, c .before .before .before .before .before .before .before .before .before .before .before .pre .2 .short)
+add-i c =
+    let at-entry = c .before .before .before .before .before .before .before .before .before .before .before in
+    omega (arith, at-entry .pre .lent .short)
 
 loop-less : tie.Need-loop-less Inv-loop μ-loop
 loop-less c = omega arith
 
 loop-again : tie.Need-loop-again Inv-loop μ-loop
-loop-again c = (omega arith, omega (arith, c .before .settle .kept .1 .1 .1 .0), found-next _ _ (c .before .before .before .before .before .before .before .before .before .before .before .pre .0) (omega (arith, c .before .before .before .before .before .before .before .before .before .before .before .pre .2 .short)) _ _ (c .before .before .before .before .before .before .before .before .before .before .before .pre .1) (omega arith) (c .before .before .before .before .loop .inv .2) (c .before .settle .ensures))
+loop-again c =
+    let at-entry = c .before .before .before .before .before .before .before .before .before .before .before in
+    let at-loop = c .before .before .before .before in
+    let at-settle = c .before in (
+      omega arith,
+      omega (arith, at-settle .settle .kept .1 .1 .1 .0),
+      found-next _ _ (at-entry .pre .ready) (omega (arith, at-entry .pre .lent .short)) _ (omega arith) (at-loop .loop .inv .2) (at-settle .settle .ensures),
+    )
+
+size-requires : tie.Need-size-requires Inv-loop μ-loop
+size-requires c κs =
+    let at-entry = c .before .before .before .before .before .before .before .before .before in
+    at-entry .pre .ready .fits .long
 
 slice-aggregate-anywhere : tie.Need-slice-aggregate-anywhere Inv-loop μ-loop
 slice-aggregate-anywhere c = search needs
 
 anywhere-requires : tie.Need-anywhere-requires Inv-loop μ-loop
-anywhere-requires c κs = (omega (arith, c .before .before .before .before .before .before .before .before .before .pre .1, ready-size _ (c .before .before .before .before .before .before .before .before .before .pre .0)), c .before .before .loop .inv .1)
+anywhere-requires c κs =
+    let at-entry = c .before .before .before .before .before .before .before .before .before .before in
+    let at-loop = c .before .before .before in
+    (omega (arith, c .size .ensures, ready-size _ (at-entry .pre .ready)), at-loop .loop .inv .1)
 
 highest-requires : tie.Need-highest-requires Inv-loop μ-loop
-highest-requires c κs = omega (arith, c .before .before .before .before .before .before .before .before .before .before .pre .2 .short)
+highest-requires c κs =
+    let at-entry = c .before .before .before .before .before .before .before .before .before .before .before in
+    omega (arith, at-entry .pre .lent .short)
 
 returns : tie.Need-returns Inv-loop μ-loop
-returns c = wrong-is _ _ _ (c .highest .ensures) (found-all _ _ (c .before .before .before .before .before .before .before .before .before .before .before .pre .0) (omega (arith, c .before .before .before .before .before .before .before .before .before .before .before .pre .2 .short)) _ _ (c .before .before .before .before .before .before .before .before .before .before .before .pre .1) (omega arith) (c .before .before .before .before .loop .inv .2) _ (c .before .anywhere .ensures))
+returns c =
+    let at-entry = c .before .before .before .before .before .before .before .before .before .before .before .before in
+    let at-loop = c .before .before .before .before .before in
+    let at-size = c .before .before in
+    let at-anywhere = c .before in
+    wrong-is _ _ _ (c .highest .ensures)
+    (found-all _ _ (at-entry .pre .ready) (omega (arith, at-entry .pre .lent .short)) _ (omega arith) (at-loop .loop .inv .2) _ (at-size .size .ensures)
+    (at-anywhere .anywhere .ensures))
 
 pub wrong-place-spec : {M : Type 1} → statement M
 wrong-place-spec =
@@ -70,6 +107,7 @@ wrong-place-spec =
     loop-less
     loop-again
     slice-aggregate-anywhere
+    size-requires
     anywhere-requires
     highest-requires
     returns)

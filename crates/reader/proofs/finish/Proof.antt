@@ -1,4 +1,4 @@
--- `reader::finish` meets its contract.
+-- `reader::finish` meets its contract: the four stores are those of `finished`, and each lies in the tables.
 use Rattle.grammar.specs.Tables.{wordOf}
 use Rattle.reader.specs.Pass.{finished}
 use borrow.Author.Needs.{needs}

@@ -1,4 +1,5 @@
--- `reader::productions` meets its contract.
+-- `reader::productions` meets its contract: what is left of the productions leaves the same as all of them did at the start; a turn reads one, and each way out
+-- is one case of `productionsOf`.
 use native.Mathlib.Omega.{arith}
 use borrow.Author.Needs.{needs}
 use mathlib.Core.Path.{_≡_}
@@ -35,19 +36,30 @@ same-length : tie.Need-same-length Inv-loop μ-loop
 same-length c = search needs
 
 returns : tie.Need-returns Inv-loop μ-loop
-returns c = productions-refused _ _ _ _ _ _ _ _ _ (omega arith) (c .before .before .before .before .loop .inv .3) (c .before .before .limited .ensures) (c .enum-told .given .1)
+returns c =
+    let at-limited = c .before .before in
+    let at-loop = at-limited .before .before in
+    productions-refused _ _ _ _ _ _ _ _ _ (omega arith) (at-loop .loop .inv .3) (at-limited .limited .ensures) (c .enum-told .given .1)
 
 add-if1 : tie.Need-add-if1 Inv-loop μ-loop
-add-if1 c = let h = limited-is _ _ _ _ (c .before .before .before .limited .ensures) (c .before .n .given .1) in omega arith
+add-if1 c =
+    let at-limited = c .before .before .before in
+    let h = limited-is _ _ _ _ (at-limited .limited .ensures) (c .before .n .given .1) in omega arith
 
 add-if1-2 : tie.Need-add-if1-2 Inv-loop μ-loop
-add-if1-2 c = let h = limited-is _ _ _ _ (c .before .before .before .limited .ensures) (c .before .n .given .1) in omega arith
+add-if1-2 c =
+    let at-limited = c .before .before .before in
+    let h = limited-is _ _ _ _ (at-limited .limited .ensures) (c .before .n .given .1) in omega arith
 
 same-length-2 : tie.Need-same-length-2 Inv-loop μ-loop
 same-length-2 c = search needs
 
 returns-2 : tie.Need-returns-2 Inv-loop μ-loop
-returns-2 c = productions-full _ _ _ _ _ _ _ _ _ (omega arith) (c .before .before .before .before .before .before .loop .inv .3) (c .before .before .before .before .limited .ensures) (c .before .before .n .given .1) (omega arith)
+returns-2 c =
+    let at-n = c .before .before in
+    let at-limited = at-n .before .before in
+    let at-loop = at-limited .before .before in
+    productions-full _ _ _ _ _ _ _ _ _ (omega arith) (at-loop .loop .inv .3) (at-limited .limited .ensures) (at-n .n .given .1) (omega arith)
 
 narrow-requires : tie.Need-narrow-requires Inv-loop μ-loop
 narrow-requires c κs = search needs
@@ -62,7 +74,7 @@ slice-write-tables : tie.Need-slice-write-tables Inv-loop μ-loop
 slice-write-tables c = search needs
 
 symbols-requires : tie.Need-symbols-requires Inv-loop μ-loop
-symbols-requires c κs = simp length-set (omega arith)
+symbols-requires c κs = record { kinds-most = omega arith; few = omega arith; room = omega arith; long = simp length-set (omega arith) }
 
 enum-known-piece : tie.Need-enum-known-piece Inv-loop μ-loop
 enum-known-piece c = search needs
@@ -71,10 +83,19 @@ enum-told-2 : tie.Need-enum-told-2 Inv-loop μ-loop
 enum-told-2 c = search needs
 
 same-length-3 : tie.Need-same-length-3 Inv-loop μ-loop
-same-length-3 c = omega (arith, simp length-set at (c .before .before .before .before .symbols .kept .1 .1 .1 .1 .1 .1 .0))
+same-length-3 c =
+    let at-symbols = c .before .before .before .before in
+    omega (arith, simp length-set at (at-symbols .symbols .kept .1 .1 .1 .1 .1 .1 .0))
 
 returns-3 : tie.Need-returns-3 Inv-loop μ-loop
-returns-3 c = productions-piece _ _ _ _ _ _ _ _ _ (omega arith) (c .before .before .before .before .before .before .before .before .before .before .before .before .before .loop .inv .3) (c .before .before .before .before .before .before .before .before .before .before .before .limited .ensures) (c .before .before .before .before .before .before .before .before .before .n .given .1) (c .before .before .before .before .before .before .narrow .ensures) (omega arith) (c .before .before .before .before .symbols .ensures) (c .enum-told2 .given .1)
+returns-3 c =
+    let at-symbols = c .before .before .before .before in
+    let at-narrow = at-symbols .before .before in
+    let at-n = at-narrow .before .before .before in
+    let at-limited = at-n .before .before in
+    let at-loop = at-limited .before .before in
+    productions-piece _ _ _ _ _ _ _ _ _ (omega arith) (at-loop .loop .inv .3) (at-limited .limited .ensures) (at-n .n .given .1) (at-narrow .narrow .ensures)
+    (omega arith) (at-symbols .symbols .ensures) (c .enum-told2 .given .1)
 
 add-k : tie.Need-add-k Inv-loop μ-loop
 add-k c = search needs
@@ -87,11 +108,17 @@ loop-less c = search needs
 
 loop-again : tie.Need-loop-again Inv-loop μ-loop
 loop-again c =
-    let h = symbols-end _ _ _ _ _ _ _ _ (c .before .before .before .before .before .symbols .ensures) (c .before .piece .given .1) in (
+    let at-symbols = c .before .before .before .before .before in
+    let at-narrow = at-symbols .before .before in
+    let at-n = at-narrow .before .before .before in
+    let at-limited = at-n .before .before in
+    let at-loop = at-limited .before .before in
+    let h = symbols-end _ _ _ _ _ _ _ _ (at-symbols .symbols .ensures) (c .before .piece .given .1) in (
       omega arith,
       omega arith,
-      omega (arith, simp length-set at (c .before .before .before .before .before .symbols .kept .1 .1 .1 .1 .1 .1 .0)),
-      productions-more _ _ _ _ _ _ _ _ _ (omega arith) (c .before .before .before .before .before .before .before .before .before .before .before .before .before .before .loop .inv .3) (c .before .before .before .before .before .before .before .before .before .before .before .before .limited .ensures) (c .before .before .before .before .before .before .before .before .before .before .n .given .1) (c .before .before .before .before .before .before .before .narrow .ensures) (omega arith) (c .before .before .before .before .before .symbols .ensures) (c .before .piece .given .1),
+      omega (arith, simp length-set at (at-symbols .symbols .kept .1 .1 .1 .1 .1 .1 .0)),
+      productions-more _ _ _ _ _ _ _ _ _ (omega arith) (at-loop .loop .inv .3) (at-limited .limited .ensures) (at-n .n .given .1) (at-narrow .narrow .ensures)
+          (omega arith) (at-symbols .symbols .ensures) (c .before .piece .given .1),
     )
 
 same-length-4 : tie.Need-same-length-4 Inv-loop μ-loop

@@ -1,4 +1,5 @@
--- `reader::read_grammar` meets its contract.
+-- `reader::read_grammar` meets its contract: each way out is one case of `passOf`; the two counts are within limits once they are read, which the rest of the
+-- pass asks for.
 use Rattle.reader.proofs.PassSteps.{pass-kinds, pass-count, pass-rules, pass-trailing, pass-whole, rules-end}
 use Rattle.number.proofs.NumberLaws.{limited-is}
 use native.Mathlib.Omega.{arith}
@@ -16,7 +17,9 @@ enum-told : tie.Need-enum-told
 enum-told c = search needs
 
 returns : tie.Need-returns
-returns c = pass-kinds _ _ (c .before .before .limited .ensures) (c .enum-told .given .1)
+returns c =
+    let at-limited = c .before .before in
+    pass-kinds _ _ (at-limited .limited .ensures) (c .enum-told .given .1)
 
 limited-requires-2 : tie.Need-limited-requires-2
 limited-requires-2 c κs = search needs
@@ -28,10 +31,20 @@ enum-told-2 : tie.Need-enum-told-2
 enum-told-2 c = search needs
 
 returns-2 : tie.Need-returns-2
-returns-2 c = pass-count _ _ (c .before .before .before .before .before .before .limited .ensures) (c .before .before .before .before .n .given .1) (c .before .before .limited2 .ensures) (c .enum-told2 .given .1)
+returns-2 c =
+    let at-limited2 = c .before .before in
+    let at-n = at-limited2 .before .before in
+    let at-limited = at-n .before .before in
+    pass-count _ _ (at-limited .limited .ensures) (at-n .n .given .1) (at-limited2 .limited2 .ensures) (c .enum-told2 .given .1)
 
 rules-requires : tie.Need-rules-requires
-rules-requires c κs = let h = limited-is _ _ _ _ (c .before .before .before .before .before .before .before .before .limited .ensures) (c .before .before .before .before .before .before .n .given .1) in let l = limited-is _ _ _ _ (c .before .before .before .before .limited2 .ensures) (c .before .before .m .given .1) in omega arith
+rules-requires c κs =
+    let at-m = c .before .before in
+    let at-limited2 = at-m .before .before in
+    let at-n = at-limited2 .before .before in
+    let at-limited = at-n .before .before in
+    let h = limited-is _ _ _ _ (at-limited .limited .ensures) (at-n .n .given .1) in
+    let l = limited-is _ _ _ _ (at-limited2 .limited2 .ensures) (at-m .m .given .1) in omega arith
 
 enum-known-piece : tie.Need-enum-known-piece
 enum-known-piece c = search needs
@@ -43,26 +56,56 @@ same-length : tie.Need-same-length
 same-length c = search needs
 
 returns-3 : tie.Need-returns-3
-returns-3 c = pass-rules _ _ (c .before .before .before .before .before .before .before .before .before .before .before .before .before .limited .ensures) (c .before .before .before .before .before .before .before .before .before .before .before .n .given .1) (c .before .before .before .before .before .before .before .before .before .limited2 .ensures) (c .before .before .before .before .before .before .before .m .given .1) (c .before .before .before .before .rules .ensures) (c .enum-told3 .given .1)
+returns-3 c =
+    let at-rules = c .before .before .before .before in
+    let at-m = at-rules .before .before .before in
+    let at-limited2 = at-m .before .before in
+    let at-n = at-limited2 .before .before in
+    let at-limited = at-n .before .before in
+    pass-rules _ _ (at-limited .limited .ensures) (at-n .n .given .1) (at-limited2 .limited2 .ensures) (at-m .m .given .1) (at-rules .rules .ensures)
+    (c .enum-told3 .given .1)
 
 same-length-2 : tie.Need-same-length-2
 same-length-2 c = search needs
 
 returns-4 : tie.Need-returns-4
-returns-4 c = pass-trailing _ _ (c .before .before .before .before .before .before .before .before .before .before .before .before .before .before .before .limited .ensures) (c .before .before .before .before .before .before .before .before .before .before .before .before .before .n .given .1) (c .before .before .before .before .before .before .before .before .before .before .before .limited2 .ensures) (c .before .before .before .before .before .before .before .before .before .m .given .1) (c .before .before .before .before .before .before .rules .ensures) (c .before .before .piece .given .1) (omega arith)
+returns-4 c =
+    let at-piece = c .before .before in
+    let at-rules = at-piece .before .before .before .before in
+    let at-m = at-rules .before .before .before in
+    let at-limited2 = at-m .before .before in
+    let at-n = at-limited2 .before .before in
+    let at-limited = at-n .before .before in
+    pass-trailing _ _ (at-limited .limited .ensures) (at-n .n .given .1) (at-limited2 .limited2 .ensures) (at-m .m .given .1) (at-rules .rules .ensures)
+    (at-piece .piece .given .1) (omega arith)
 
 finish-requires : tie.Need-finish-requires
 finish-requires c κs =
-    let h = limited-is _ _ _ _ (c .before .before .before .before .before .before .before .before .before .before .before .before .before .before .before .before .limited .ensures) (c .before .before .before .before .before .before .before .before .before .before .before .before .before .before .n .given .1) in
-    let l = limited-is _ _ _ _ (c .before .before .before .before .before .before .before .before .before .before .before .before .limited2 .ensures) (c .before .before .before .before .before .before .before .before .before .before .m .given .1) in
-    let q = rules-end _ _ _ _ _ _ _ _ _ (c .before .before .before .before .before .before .before .rules .ensures) (c .before .before .before .piece .given .1) (omega arith) in
-    omega (arith, c .before .before .before .before .before .before .before .rules .kept .1 .1 .1 .1 .0)
+    let at-piece = c .before .before .before in
+    let at-rules = at-piece .before .before .before .before in
+    let at-m = at-rules .before .before .before in
+    let at-limited2 = at-m .before .before in
+    let at-n = at-limited2 .before .before in
+    let at-limited = at-n .before .before in
+    let h = limited-is _ _ _ _ (at-limited .limited .ensures) (at-n .n .given .1) in
+    let l = limited-is _ _ _ _ (at-limited2 .limited2 .ensures) (at-m .m .given .1) in
+    let q = rules-end _ _ _ _ _ _ _ _ _ (at-rules .rules .ensures) (at-piece .piece .given .1) (omega arith) in
+    omega (arith, at-rules .rules .kept .1 .1 .1 .1 .0)
 
 same-length-3 : tie.Need-same-length-3
 same-length-3 c = search needs
 
 returns-5 : tie.Need-returns-5
-returns-5 c = pass-whole _ _ (c .before .before .before .before .before .before .before .before .before .before .before .before .before .before .before .before .before .before .before .limited .ensures) (c .before .before .before .before .before .before .before .before .before .before .before .before .before .before .before .before .before .n .given .1) (c .before .before .before .before .before .before .before .before .before .before .before .before .before .before .before .limited2 .ensures) (c .before .before .before .before .before .before .before .before .before .before .before .before .before .m .given .1) (c .before .before .before .before .before .before .before .before .before .before .rules .ensures) (c .before .before .before .before .before .before .piece .given .1) (omega arith) (c .before .before .finish .ensures)
+returns-5 c =
+    let at-finish = c .before .before in
+    let at-piece = at-finish .before .before .before .before in
+    let at-rules = at-piece .before .before .before .before in
+    let at-m = at-rules .before .before .before in
+    let at-limited2 = at-m .before .before in
+    let at-n = at-limited2 .before .before in
+    let at-limited = at-n .before .before in
+    pass-whole _ _ (at-limited .limited .ensures) (at-n .n .given .1) (at-limited2 .limited2 .ensures) (at-m .m .given .1) (at-rules .rules .ensures)
+    (at-piece .piece .given .1) (omega arith) (at-finish .finish .ensures)
 
 pub read-grammar-spec : {M : Type 1} → statement M
 read-grammar-spec =

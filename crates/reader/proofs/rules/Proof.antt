@@ -1,4 +1,5 @@
--- `reader::rules` meets its contract.
+-- `reader::rules` meets its contract: what is left of the nonterminals leaves the same as all of them did at the start; there are never more productions than
+-- places, so each has its word.
 use native.Mathlib.Omega.{arith}
 use borrow.Author.Needs.{needs}
 use mathlib.Core.Path.{_≡_, refl}
@@ -36,7 +37,10 @@ same-length : tie.Need-same-length Inv-loop μ-loop
 same-length c = search needs
 
 returns : tie.Need-returns Inv-loop μ-loop
-returns c = rules-refused _ _ _ _ _ _ _ _ _ (omega arith) (c .before .before .before .before .loop .inv .4) (c .before .before .limited .ensures) (c .enum-told .given .1)
+returns c =
+    let at-limited = c .before .before in
+    let at-loop = at-limited .before .before in
+    rules-refused _ _ _ _ _ _ _ _ _ (omega arith) (at-loop .loop .inv .4) (at-limited .limited .ensures) (c .enum-told .given .1)
 
 narrow-requires : tie.Need-narrow-requires Inv-loop μ-loop
 narrow-requires c κs = search needs
@@ -51,7 +55,8 @@ slice-write-tables : tie.Need-slice-write-tables Inv-loop μ-loop
 slice-write-tables c = search needs
 
 productions-requires : tie.Need-productions-requires Inv-loop μ-loop
-productions-requires c κs = simp length-set (omega arith)
+productions-requires c κs =
+    (record { kinds-most = omega arith; few = omega arith; room = omega arith; long = simp length-set (omega arith) }, omega arith)
 
 enum-known-piece : tie.Need-enum-known-piece Inv-loop μ-loop
 enum-known-piece c = search needs
@@ -60,13 +65,25 @@ enum-told-2 : tie.Need-enum-told-2 Inv-loop μ-loop
 enum-told-2 c = search needs
 
 same-length-2 : tie.Need-same-length-2 Inv-loop μ-loop
-same-length-2 c = omega (arith, simp length-set at (c .before .before .before .before .productions .kept .1 .1 .1 .1 .1 .1 .0))
+same-length-2 c =
+    let at-productions = c .before .before .before .before in
+    omega (arith, simp length-set at (at-productions .productions .kept .1 .1 .1 .1 .1 .1 .0))
 
 returns-2 : tie.Need-returns-2 Inv-loop μ-loop
-returns-2 c = rules-piece _ _ _ _ _ _ _ _ _ (omega arith) (c .before .before .before .before .before .before .before .before .before .before .before .before .loop .inv .4) (c .before .before .before .before .before .before .before .before .before .before .limited .ensures) (c .before .before .before .before .before .before .before .before .n .given .1) (c .before .before .before .before .before .before .narrow .ensures) (c .before .before .before .before .productions .ensures) (c .enum-told2 .given .1)
+returns-2 c =
+    let at-productions = c .before .before .before .before in
+    let at-narrow = at-productions .before .before in
+    let at-n = at-narrow .before .before in
+    let at-limited = at-n .before .before in
+    let at-loop = at-limited .before .before in
+    rules-piece _ _ _ _ _ _ _ _ _ (omega arith) (at-loop .loop .inv .4) (at-limited .limited .ensures) (at-n .n .given .1) (at-narrow .narrow .ensures)
+    (at-productions .productions .ensures) (c .enum-told2 .given .1)
 
 add-k : tie.Need-add-k Inv-loop μ-loop
-add-k c = let h = limited-is _ _ _ _ (c .before .before .before .before .before .before .before .before .before .before .before .limited .ensures) (c .before .before .before .before .before .before .before .before .before .n .given .1) in omega arith
+add-k c =
+    let at-n = c .before .before .before .before .before .before .before .before .before in
+    let at-limited = at-n .before .before in
+    let h = limited-is _ _ _ _ (at-limited .limited .ensures) (at-n .n .given .1) in omega arith
 
 add-a : tie.Need-add-a Inv-loop μ-loop
 add-a c = search needs
@@ -76,12 +93,18 @@ loop-less c = search needs
 
 loop-again : tie.Need-loop-again Inv-loop μ-loop
 loop-again c =
-    let h = productions-end _ _ _ _ _ _ _ _ _ (c .before .before .before .before .before .productions .ensures) (c .before .piece .given .1) (omega arith) in (
+    let at-productions = c .before .before .before .before .before in
+    let at-narrow = at-productions .before .before in
+    let at-n = at-narrow .before .before in
+    let at-limited = at-n .before .before in
+    let at-loop = at-limited .before .before in
+    let h = productions-end _ _ _ _ _ _ _ _ _ (at-productions .productions .ensures) (c .before .piece .given .1) (omega arith) in (
       omega arith,
       omega arith,
       omega arith,
-      omega (arith, simp length-set at (c .before .before .before .before .before .productions .kept .1 .1 .1 .1 .1 .1 .0)),
-      rules-more _ _ _ _ _ _ _ _ _ (omega arith) (c .before .before .before .before .before .before .before .before .before .before .before .before .before .loop .inv .4) (c .before .before .before .before .before .before .before .before .before .before .before .limited .ensures) (c .before .before .before .before .before .before .before .before .before .n .given .1) (c .before .before .before .before .before .before .before .narrow .ensures) (c .before .before .before .before .before .productions .ensures) _ (omega arith) (c .before .piece .given .1),
+      omega (arith, simp length-set at (at-productions .productions .kept .1 .1 .1 .1 .1 .1 .0)),
+      rules-more _ _ _ _ _ _ _ _ _ (omega arith) (at-loop .loop .inv .4) (at-limited .limited .ensures) (at-n .n .given .1) (at-narrow .narrow .ensures)
+          (at-productions .productions .ensures) _ (omega arith) (c .before .piece .given .1),
     )
 
 narrow-requires-2 : tie.Need-narrow-requires-2 Inv-loop μ-loop
@@ -100,7 +123,9 @@ same-length-3 : tie.Need-same-length-3 Inv-loop μ-loop
 same-length-3 c = search needs
 
 returns-3 : tie.Need-returns-3 Inv-loop μ-loop
-returns-3 c = rules-done _ _ _ _ _ _ _ _ _ (omega arith) (c .narrow2 .ensures) (c .before .before .loop .inv .4)
+returns-3 c =
+    let at-loop = c .before .before in
+    rules-done _ _ _ _ _ _ _ _ _ (omega arith) (c .narrow2 .ensures) (at-loop .loop .inv .4)
 
 pub rules-spec : {M : Type 1} → statement M
 rules-spec =

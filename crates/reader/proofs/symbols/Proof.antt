@@ -1,9 +1,11 @@
--- `reader::symbols` meets its contract.
+-- `reader::symbols` meets its contract: what is left of the symbols leaves the same as all of them did at the start, and a legal symbol within the limits has a
+-- code that fits its word.
 use native.Mathlib.Omega.{arith}
 use borrow.Author.Needs.{needs}
 use mathlib.Core.Path.{_≡_}
-use Prim.Native.Nat.{_+_}
+use Prim.Native.Nat.{_+_, _-_}
 use lib.ListN.{length, length-set}
+use Rattle.grammar.specs.Tables.{codes}
 use Rattle.reader.specs.Pass.{symbolsOf}
 use Rattle.number.proofs.NumberLaws.{symbol-low}
 use Rattle.reader.proofs.PassSteps.{symbols-done, symbols-refused, symbols-more}
@@ -34,10 +36,16 @@ same-length : tie.Need-same-length Inv-loop μ-loop
 same-length c = search needs
 
 returns : tie.Need-returns Inv-loop μ-loop
-returns c = symbols-refused _ _ _ _ _ _ _ _ (omega arith) (c .before .before .before .before .loop .inv .2) (c .before .before .symbol .ensures) (c .enum-told .given .1)
+returns c =
+    let at-symbol = c .before .before in
+    let at-loop = at-symbol .before .before in
+    symbols-refused _ _ _ _ _ _ _ _ (omega arith) (at-loop .loop .inv .2) (at-symbol .symbol .ensures) (c .enum-told .given .1)
 
 symbol-word-requires : tie.Need-symbol-word-requires Inv-loop μ-loop
-symbol-word-requires c κs = symbol-low _ _ _ _ (omega arith) (omega arith) (c .before .before .before .symbol .ensures) (c .before .n .given .1)
+symbol-word-requires c κs =
+    let at-symbol = c .before .before .before in
+    let low = symbol-low _ _ _ _ (codes - 1) (omega arith) (omega arith) (at-symbol .symbol .ensures) (c .before .n .given .1) in
+    omega arith
 
 mul-tables : tie.Need-mul-tables Inv-loop μ-loop
 mul-tables c = search needs
@@ -55,7 +63,14 @@ loop-less : tie.Need-loop-less Inv-loop μ-loop
 loop-less c = search needs
 
 loop-again : tie.Need-loop-again Inv-loop μ-loop
-loop-again c = (omega arith, simp length-set (omega arith), symbols-more _ _ _ _ _ _ _ _ (omega arith) (c .before .before .before .before .before .before .loop .inv .2) (c .before .before .before .before .symbol .ensures) (c .before .before .n .given .1) (c .symbol-word .ensures))
+loop-again c =
+    let at-n = c .before .before in
+    let at-symbol = at-n .before .before in
+    let at-loop = at-symbol .before .before in (
+      omega arith,
+      simp length-set (omega arith),
+      symbols-more _ _ _ _ _ _ _ _ (omega arith) (at-loop .loop .inv .2) (at-symbol .symbol .ensures) (at-n .n .given .1) (c .symbol-word .ensures),
+    )
 
 end-word-requires : tie.Need-end-word-requires Inv-loop μ-loop
 end-word-requires c κs = search needs
@@ -73,7 +88,9 @@ same-length-2 : tie.Need-same-length-2 Inv-loop μ-loop
 same-length-2 c = search needs
 
 returns-2 : tie.Need-returns-2 Inv-loop μ-loop
-returns-2 c = symbols-done _ _ _ _ _ _ _ _ (omega arith) (c .before .before .loop .inv .2) (c .end-word .ensures)
+returns-2 c =
+    let at-loop = c .before .before in
+    symbols-done _ _ _ _ _ _ _ _ (omega arith) (at-loop .loop .inv .2) (c .end-word .ensures)
 
 pub symbols-spec : {M : Type 1} → statement M
 symbols-spec =

@@ -1,4 +1,5 @@
 -- `cache::recording::add_state` meets its contract.
+use Rattle.words.specs.Layout.{configWords, heldAt}
 use Rattle.cache.proofs.StateSteps.{added-is, stored-long}
 use Prim.Native.Nat.{_*_}
 use mathlib.Core.Path.{_∙_}
@@ -48,10 +49,10 @@ word-requires-3 : tie.Need-word-requires-3
 word-requires-3 c κs = search needs
 
 slice-write-cache-3 : tie.Need-slice-write-cache-3
-slice-write-cache-3 c = omega (arith, stored-long (c .before .before .before .before .before .before .before .before .before .before .args .cache .now) (c .before .before .before .before .before .before .before .slot-at .result) (c .before .before .before .before .before .before .word .result) (c .before .before .before .before .before .word2 .result) (take (3 * c .before .before .before .before .before .before .before .before .before .before .args .n) (c .before .before .before .before .before .before .before .before .before .before .args .ws .now)) (c .before .before .before .store-words .ensures))
+slice-write-cache-3 c = omega (arith, stored-long (c .before .before .before .before .before .before .before .before .before .before .args .cache .now) (c .before .before .before .before .before .before .before .slot-at .result) (c .before .before .before .before .before .before .word .result) (c .before .before .before .before .before .word2 .result) (take (configWords * c .before .before .before .before .before .before .before .before .before .before .args .n) (c .before .before .before .before .before .before .before .before .before .before .args .ws .now)) (c .before .before .before .store-words .ensures))
 
 same-length : tie.Need-same-length
-same-length c = length-set (c .before .before .before .store-words .last .0) 4 (c .word3 .result) ∙ stored-long (c .before .before .before .before .before .before .before .before .before .before .args .cache .now) (c .before .before .before .before .before .before .before .slot-at .result) (c .before .before .before .before .before .before .word .result) (c .before .before .before .before .before .word2 .result) (take (3 * c .before .before .before .before .before .before .before .before .before .before .args .n) (c .before .before .before .before .before .before .before .before .before .before .args .ws .now)) (c .before .before .before .store-words .ensures)
+same-length c = length-set (c .before .before .before .store-words .last .0) heldAt (c .word3 .result) ∙ stored-long (c .before .before .before .before .before .before .before .before .before .before .args .cache .now) (c .before .before .before .before .before .before .before .slot-at .result) (c .before .before .before .before .before .before .word .result) (c .before .before .before .before .before .word2 .result) (take (configWords * c .before .before .before .before .before .before .before .before .before .before .args .n) (c .before .before .before .before .before .before .before .before .before .before .args .ws .now)) (c .before .before .before .store-words .ensures)
 
 returns : tie.Need-returns
 returns c = added-is _ _ _ _ (c .before .before .before .before .before .before .before .before .before .before .pre .0) (c .before .before .before .before .before .before .before .slot-at .ensures) (c .before .before .before .before .before .before .word .ensures) (c .before .before .before .before .before .word2 .ensures) (c .word3 .ensures) (c .before .before .before .store-words .ensures)

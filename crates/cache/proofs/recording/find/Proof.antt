@@ -1,4 +1,5 @@
 -- `cache::recording::find` meets its contract.
+use Rattle.words.specs.Layout.{configWords}
 use Rattle.cache.proofs.StateSteps.{Seeking, seek-begins, seek-ends, seek-hit, seek-next, searched-low}
 use borrow.Author.Needs.{needs}
 use lib.ListN.{take}
@@ -8,7 +9,7 @@ use Rattle.cache.proofs.recording.find.Statement.{statement}
 use Rattle.cache.proofs.recording.find.Tie as tie
 
 abbrev Inv-loop : tie.InvT-loop
-Inv-loop cache a ws n count left₀ left = Seeking cache a (take (3 * n) ws) count left × (left ≤ count)
+Inv-loop cache a ws n count left₀ left = Seeking cache a (take (configWords * n) ws) count left × (left ≤ count)
 
 abbrev μ-loop : tie.MeasureT-loop
 μ-loop cache a ws n count left₀ left = left

@@ -1,4 +1,5 @@
--- `closures::closure::all_pass` meets its contract.
+-- `closures::closure::all_pass` meets its contract: the answer for the rest of the production is the answer for the whole of it; each way out is what `passes`
+-- says of the symbol that is faced.
 use native.Mathlib.Omega.{arith}
 use borrow.Author.Needs.{needs}
 use mathlib.Core.Path.{_≡_}
@@ -23,7 +24,9 @@ loop-holds : tie.Need-loop-holds Inv-loop μ-loop
 loop-holds c = search needs
 
 place-at-requires : tie.Need-place-at-requires Inv-loop μ-loop
-place-at-requires c κs = c .before .before .before .pre .long
+place-at-requires c κs =
+    let at-entry = c .before .before .before in
+    at-entry .pre .long
 
 add-p : tie.Need-add-p Inv-loop μ-loop
 add-p c = search needs
@@ -32,34 +35,56 @@ enum-told : tie.Need-enum-told Inv-loop μ-loop
 enum-told c = search needs
 
 returns : tie.Need-returns Inv-loop μ-loop
-returns c = pass-end _ _ _ _ _ (c .before .before .before .before .loop .inv) (facing-of _ _ (c .before .before .place-at .ensures) (c .enum-told .given .1))
+returns c =
+    let at-place-at = c .before .before in
+    let at-loop = at-place-at .before .before in
+    pass-end _ _ _ _ _ (at-loop .loop .inv) (facing-of _ _ (at-place-at .place-at .ensures) (c .enum-told .given .1))
 
 enum-told-2 : tie.Need-enum-told-2 Inv-loop μ-loop
 enum-told-2 c = search needs
 
 returns-2 : tie.Need-returns-2 Inv-loop μ-loop
-returns-2 c = pass-token-stops _ _ _ _ _ (c .before .before .before .before .before .loop .inv) (facing-of _ _ (c .before .before .before .place-at .ensures) (c .before .enum-told2 .given .1)) (c .if1 .taken)
+returns-2 c =
+    let at-place-at = c .before .before .before in
+    let at-loop = at-place-at .before .before in
+    pass-token-stops _ _ _ _ _ (at-loop .loop .inv) (facing-of _ _ (at-place-at .place-at .ensures) (c .before .enum-told2 .given .1)) (c .if1 .taken)
 
 loop-less : tie.Need-loop-less Inv-loop μ-loop
 loop-less c = search needs
 
 loop-again : tie.Need-loop-again Inv-loop μ-loop
-loop-again c = pass-token _ _ _ _ _ (c .before .before .before .before .before .loop .inv) (facing-of _ _ (c .before .before .before .place-at .ensures) (c .before .enum-told2 .given .1)) (c .if1 .left)
+loop-again c =
+    let at-place-at = c .before .before .before in
+    let at-loop = at-place-at .before .before in
+    pass-token _ _ _ _ _ (at-loop .loop .inv) (facing-of _ _ (at-place-at .place-at .ensures) (c .before .enum-told2 .given .1)) (c .if1 .left)
 
 enum-known-symbol : tie.Need-enum-known-symbol Inv-loop μ-loop
 enum-known-symbol c = search needs
 
 has-requires : tie.Need-has-requires Inv-loop μ-loop
-has-requires c κs = let n = c .before .before .before .before .before .before .before .pre .named _ _ (facing-of _ _ (c .before .before .before .place-at .ensures) (c .before .symbol .given .1)) in omega (arith, c .before .before .before .before .before .before .before .pre .few)
+has-requires c κs =
+    let at-place-at = c .before .before .before in
+    let at-entry = at-place-at .before .before .before .before in
+    let n = at-entry .pre .named _ _ (facing-of _ _ (at-place-at .place-at .ensures) (c .before .symbol .given .1)) in omega (arith, at-entry .pre .few)
 
 returns-3 : tie.Need-returns-3 Inv-loop μ-loop
-returns-3 c = pass-stops _ _ _ _ _ (c .before .before .before .before .before .before .before .loop .inv) (facing-of _ _ (c .before .before .before .before .before .place-at .ensures) (c .before .before .before .symbol .given .1)) (c .before .has .ensures) (c .if2 .taken)
+returns-3 c =
+    let at-symbol = c .before .before .before in
+    let at-place-at = at-symbol .before .before in
+    let at-loop = at-place-at .before .before in
+    pass-stops _ _ _ _ _ (at-loop .loop .inv) (facing-of _ _ (at-place-at .place-at .ensures) (at-symbol .symbol .given .1)) (c .before .has .ensures)
+    (c .if2 .taken)
 
 loop-less-2 : tie.Need-loop-less-2 Inv-loop μ-loop
 loop-less-2 c = search needs
 
 loop-again-2 : tie.Need-loop-again-2 Inv-loop μ-loop
-loop-again-2 c = pass-goes _ _ _ _ _ (c .before .before .before .before .before .before .before .loop .inv) (facing-of _ _ (c .before .before .before .before .before .place-at .ensures) (c .before .before .before .symbol .given .1)) (c .before .has .ensures) (c .if2 .left)
+loop-again-2 c =
+    let at-symbol = c .before .before .before in
+    let at-place-at = at-symbol .before .before in
+    let at-loop = at-place-at .before .before in
+    pass-goes _ _ _ _ _ (at-loop .loop .inv) (facing-of _ _ (at-place-at .place-at .ensures) (at-symbol .symbol .given .1)) (c .before .has .ensures)
+    (c .if2 .left)
 
 returns-4 : tie.Need-returns-4 Inv-loop μ-loop
 returns-4 c = pass-past _ _ _ _ _ (c .before .loop .inv) (omega arith)

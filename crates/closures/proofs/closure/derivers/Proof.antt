@@ -1,4 +1,5 @@
--- `closures::closure::derivers` meets its contract.
+-- `closures::closure::derivers` meets its contract: passes only add what derives, so a pass that adds nothing, or one that leaves nothing out, ends at the
+-- closure; what two passes leave open, rounds settle.
 use borrow.Author.Needs.{needs}
 use mathlib.Core.Path.{sym, _∙_}
 use Rattle.grammar.specs.Tables.{grammarIn}
@@ -27,10 +28,18 @@ pass-requires : tie.Need-pass-requires Inv-loop μ-loop
 pass-requires c κs = search needs
 
 returns : tie.Need-returns Inv-loop μ-loop
-returns c = closure-exact _ _ _ _ (length-starts-in _) (c .before .before .before .loop .inv) (sym (c .if1 .taken) ∙ c .before .pass .ensures)
+returns c =
+    let at-loop = c .before .before .before in
+    closure-exact _ _ _ _ (length-starts-in _) (at-loop .loop .inv) (sym (c .if1 .taken) ∙ c .before .pass .ensures)
 
 returns-2 : tie.Need-returns-2 Inv-loop μ-loop
-returns-2 c = closure-full _ _ _ _ (length-starts-in _ ∙ sym (c .before .before .before .before .before .before .nonterminals .ensures)) (pass-keeps _ _ _ _ (c .before .before .pass .ensures) (c .before .before .before .before .loop .inv)) (c .if2 .taken ∙ c .before .before .before .before .before .below .ensures)
+returns-2 c =
+    let at-pass = c .before .before in
+    let at-loop = at-pass .before .before in
+    let at-below = at-loop .before in
+    let at-nonterminals = at-below .before in
+    closure-full _ _ _ _ (length-starts-in _ ∙ sym (at-nonterminals .nonterminals .ensures))
+    (pass-keeps _ _ _ _ (at-pass .pass .ensures) (at-loop .loop .inv)) (c .if2 .taken ∙ at-below .below .ensures)
 
 sub-left : tie.Need-sub-left Inv-loop μ-loop
 sub-left c = search needs
@@ -39,7 +48,10 @@ loop-less : tie.Need-loop-less Inv-loop μ-loop
 loop-less c = search needs
 
 loop-again : tie.Need-loop-again Inv-loop μ-loop
-loop-again c = pass-keeps _ _ _ _ (c .before .before .pass .ensures) (c .before .before .before .before .loop .inv)
+loop-again c =
+    let at-pass = c .before .before in
+    let at-loop = at-pass .before .before in
+    pass-keeps _ _ _ _ (at-pass .pass .ensures) (at-loop .loop .inv)
 
 by-rounds-requires : tie.Need-by-rounds-requires Inv-loop μ-loop
 by-rounds-requires c κs = search needs

@@ -1,4 +1,4 @@
--- `closures::closure::pass` meets its contract.
+-- `closures::closure::pass` meets its contract: what is left of the pass gives the same as the whole pass did at the start, and a turn is one step of `passOf`.
 use mathlib.Core.Path.{_≡_, ap}
 use Prim.Native.Nat.{ℕ, _≤_}
 use native.Mathlib.Omega.{arith}
@@ -19,19 +19,27 @@ nonterminals-requires : tie.Need-nonterminals-requires Inv-loop μ-loop
 nonterminals-requires c κs = c .before .pre .long
 
 loop-holds : tie.Need-loop-holds Inv-loop μ-loop
-loop-holds c = (omega (arith, c .nonterminals .ensures), ap (λ (n : ℕ). passOf (c .before .before .args .tokens) (grammarIn (c .before .before .args .tables .now)) n (c .before .before .args .from)) (c .nonterminals .ensures))
+loop-holds c =
+    let at-entry = c .before .before in (
+      omega (arith, c .nonterminals .ensures),
+      ap (λ (n : ℕ). passOf (at-entry .args .tokens) (grammarIn (at-entry .args .tables .now)) n (at-entry .args .from)) (c .nonterminals .ensures),
+    )
 
 sub-a : tie.Need-sub-a Inv-loop μ-loop
 sub-a c = omega arith
 
 step-requires : tie.Need-step-requires Inv-loop μ-loop
-step-requires c κs = (c .before .before .before .before .pre, omega arith)
+step-requires c κs =
+    let at-entry = c .before .before .before .before in
+    (at-entry .pre, omega arith)
 
 loop-less : tie.Need-loop-less Inv-loop μ-loop
 loop-less c = omega arith
 
 loop-again : tie.Need-loop-again Inv-loop μ-loop
-loop-again c = (omega arith, pass-more _ _ _ _ (omega arith) (c .before .before .loop .inv .1) (c .step .ensures))
+loop-again c =
+    let at-loop = c .before .before in
+    (omega arith, pass-more _ _ _ _ (omega arith) (at-loop .loop .inv .1) (c .step .ensures))
 
 returns : tie.Need-returns Inv-loop μ-loop
 returns c = pass-done _ _ _ _ (omega arith) (c .before .loop .inv .1)

@@ -1,4 +1,4 @@
--- `closures::closure::some_passes` meets its contract.
+-- `closures::closure::some_passes` meets its contract: no production before k passes, so the productions from k on decide, and the first that passes answers.
 use native.Mathlib.Omega.{arith}
 use borrow.Author.Needs.{needs}
 use mathlib.Core.Path.{_≡_}
@@ -30,16 +30,30 @@ rule-at-requires-2 : tie.Need-rule-at-requires-2 Inv-loop μ-loop
 rule-at-requires-2 c κs = search needs
 
 loop-holds : tie.Need-loop-holds Inv-loop μ-loop
-loop-holds c = round-in _ _ _ _ (c .before .before .before .pre .1) (c .before .rule-at .ensures) (c .rule-at2 .ensures)
+loop-holds c =
+    let at-entry = c .before .before .before in
+    round-in _ _ _ _ (at-entry .pre .1) (c .before .rule-at .ensures) (c .rule-at2 .ensures)
 
 first-place-requires : tie.Need-first-place-requires Inv-loop μ-loop
-first-place-requires c κs = let h = rule-within _ (c .before .before .before .before .before .pre .0) _ (c .before .before .before .before .before .pre .1) (c .before .before .rule-at2 .ensures) in omega (arith, c .before .before .before .before .before .pre .0 .long)
+first-place-requires c κs =
+    let at-rule-at2 = c .before .before in
+    let at-entry = at-rule-at2 .before .before .before in
+    let h = rule-within _ (at-entry .pre .0) _ (at-entry .pre .1) (at-rule-at2 .rule-at2 .ensures) in omega (arith, at-entry .pre .0 .long)
 
 all-pass-requires : tie.Need-all-pass-requires Inv-loop μ-loop
 all-pass-requires c κs = search needs
 
 returns : tie.Need-returns Inv-loop μ-loop
-returns c = any-found (c .before .before .before .before .before .before .before .before .args .tables .now) (λ f. passes (c .before .before .before .before .before .before .before .before .args .tokens) (testBit (c .before .before .before .before .before .before .before .before .args .set)) (suffix (grammarIn (c .before .before .before .before .before .before .before .before .args .tables .now)) f)) (c .before .before .before .before .loop .k) (c .before .before .before .before .before .rule-at2 .result) (c .before .before .before .before .loop .inv) (omega arith) (let h = rule-within _ (c .before .before .before .before .before .before .before .before .pre .0) _ (c .before .before .before .before .before .before .before .before .pre .1) (c .before .before .before .before .before .rule-at2 .ensures) in omega (arith, c .before .before .before .before .before .before .before .before .pre .0 .long)) (c .before .before .first-place .ensures) (c .before .all-pass .ensures) (c .if1 .taken)
+returns c =
+    let at-first-place = c .before .before in
+    let at-loop = at-first-place .before .before in
+    let at-rule-at2 = at-loop .before in
+    let at-entry = at-rule-at2 .before .before .before in
+    any-found (at-entry .args .tables .now)
+    (λ f. passes (at-entry .args .tokens) (testBit (at-entry .args .set)) (suffix (grammarIn (at-entry .args .tables .now)) f)) (at-loop .loop .k)
+    (at-rule-at2 .rule-at2 .result) (at-loop .loop .inv) (omega arith)
+    (let h = rule-within _ (at-entry .pre .0) _ (at-entry .pre .1) (at-rule-at2 .rule-at2 .ensures) in omega (arith, at-entry .pre .0 .long))
+    (at-first-place .first-place .ensures) (c .before .all-pass .ensures) (c .if1 .taken)
 
 add-k : tie.Need-add-k Inv-loop μ-loop
 add-k c = search needs
@@ -48,10 +62,24 @@ loop-less : tie.Need-loop-less Inv-loop μ-loop
 loop-less c = search needs
 
 loop-again : tie.Need-loop-again Inv-loop μ-loop
-loop-again c = any-later (c .before .before .before .before .before .before .before .before .args .tables .now) (λ f. passes (c .before .before .before .before .before .before .before .before .args .tokens) (testBit (c .before .before .before .before .before .before .before .before .args .set)) (suffix (grammarIn (c .before .before .before .before .before .before .before .before .args .tables .now)) f)) (c .before .before .before .before .loop .k) (c .before .before .before .before .before .rule-at2 .result) (c .before .before .before .before .loop .inv) (omega arith) (let h = rule-within _ (c .before .before .before .before .before .before .before .before .pre .0) _ (c .before .before .before .before .before .before .before .before .pre .1) (c .before .before .before .before .before .rule-at2 .ensures) in omega (arith, c .before .before .before .before .before .before .before .before .pre .0 .long)) (c .before .before .first-place .ensures) (c .before .all-pass .ensures) (c .if1 .left)
+loop-again c =
+    let at-first-place = c .before .before in
+    let at-loop = at-first-place .before .before in
+    let at-rule-at2 = at-loop .before in
+    let at-entry = at-rule-at2 .before .before .before in
+    any-later (at-entry .args .tables .now)
+    (λ f. passes (at-entry .args .tokens) (testBit (at-entry .args .set)) (suffix (grammarIn (at-entry .args .tables .now)) f)) (at-loop .loop .k)
+    (at-rule-at2 .rule-at2 .result) (at-loop .loop .inv) (omega arith)
+    (let h = rule-within _ (at-entry .pre .0) _ (at-entry .pre .1) (at-rule-at2 .rule-at2 .ensures) in omega (arith, at-entry .pre .0 .long))
+    (at-first-place .first-place .ensures) (c .before .all-pass .ensures) (c .if1 .left)
 
 returns-2 : tie.Need-returns-2 Inv-loop μ-loop
-returns-2 c = any-none (c .before .before .before .before .before .args .tables .now) (λ f. passes (c .before .before .before .before .before .args .tokens) (testBit (c .before .before .before .before .before .args .set)) (suffix (grammarIn (c .before .before .before .before .before .args .tables .now)) f)) (c .before .loop .k) (c .before .before .rule-at2 .result) (c .before .loop .inv) (omega arith)
+returns-2 c =
+    let at-rule-at2 = c .before .before in
+    let at-entry = at-rule-at2 .before .before .before in
+    any-none (at-entry .args .tables .now)
+    (λ f. passes (at-entry .args .tokens) (testBit (at-entry .args .set)) (suffix (grammarIn (at-entry .args .tables .now)) f)) (c .before .loop .k)
+    (at-rule-at2 .rule-at2 .result) (c .before .loop .inv) (omega arith)
 
 pub some-passes-spec : {M : Type 1} → statement M
 some-passes-spec =

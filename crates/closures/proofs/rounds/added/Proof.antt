@@ -1,4 +1,4 @@
--- `closures::rounds::added` meets its contract.
+-- `closures::rounds::added` meets its contract: each of the two ways out is one case of `cond`.
 use borrow.Author.Needs.{needs}
 use mathlib.Core.Path.{sym, _∙_}
 use Rattle.closures.proofs.rounds.added.Statement.{statement}

@@ -1,4 +1,5 @@
--- `closures::rounds::by_rounds` meets its contract.
+-- `closures::rounds::by_rounds` meets its contract: rounds only add what derives, so sets grow as numbers and the loop ends; a round that adds nothing ends at
+-- the closure.
 use borrow.Author.Needs.{needs}
 use mathlib.Core.Path.{sym, _∙_}
 use Prim.Native.Nat.{_<_, _-_, _^_}
@@ -39,13 +40,26 @@ round-requires : tie.Need-round-requires Inv-loop μ-loop
 round-requires c κs = search needs
 
 returns : tie.Need-returns Inv-loop μ-loop
-returns c = round-exact _ _ (c .before .before .before .before .before .before .before .before .before .before .before .pre .0) _ _ _ _ (c .before .before .before .before .before .before .before .note-rules .ensures .1) _ (c .before .before .before .before .loop .inv .2) (sym (c .if1 .taken) ∙ c .before .round .ensures) (c .before .before .before .before .loop .inv .1)
+returns c =
+    let at-loop = c .before .before .before .before in
+    let at-note-rules = at-loop .before .before .before in
+    let at-entry = at-note-rules .before .before .before .before in
+    round-exact _ _ (at-entry .pre .0) _ _ _ _ (at-note-rules .note-rules .ensures .1) _ (at-loop .loop .inv .2)
+    (sym (c .if1 .taken) ∙ c .before .round .ensures) (at-loop .loop .inv .1)
 
 loop-less : tie.Need-loop-less Inv-loop μ-loop
 loop-less c = let h = round-grows _ _ _ _ (c .before .round .ensures) in omega (arith, c .before .round .ok)
 
 loop-again : tie.Need-loop-again Inv-loop μ-loop
-loop-again c = (c .before .round .ok, round-keeps _ _ (c .before .before .before .before .before .before .before .before .before .before .before .pre .0) _ _ _ _ (c .before .before .before .before .before .before .before .note-rules .ensures .1) _ _ (c .before .round .ensures) (c .before .before .before .before .loop .inv .1), round-holds _ _ _ _ _ (c .before .round .ensures) (c .before .before .before .before .loop .inv .2))
+loop-again c =
+    let at-loop = c .before .before .before .before in
+    let at-note-rules = at-loop .before .before .before in
+    let at-entry = at-note-rules .before .before .before .before in (
+      c .before .round .ok,
+      round-keeps _ _ (at-entry .pre .0) _ _ _ _ (at-note-rules .note-rules .ensures .1) _ _ (c .before .round .ensures)
+          (at-loop .loop .inv .1),
+      round-holds _ _ _ _ _ (c .before .round .ensures) (at-loop .loop .inv .2),
+    )
 
 pub by-rounds-spec : {M : Type 1} → statement M
 by-rounds-spec =

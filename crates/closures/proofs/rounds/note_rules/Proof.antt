@@ -1,4 +1,4 @@
--- `closures::rounds::note_rules` meets its contract.
+-- `closures::rounds::note_rules` meets its contract: the nonterminals below a are noted, at the start none, at the end all.
 use borrow.Author.Needs.{needs}
 use mathlib.Core.Path.{_≡_}
 use Prim.Native.Nat.{_-_, _≤_}
@@ -22,7 +22,15 @@ nonterminals-requires : tie.Need-nonterminals-requires Inv-loop μ-loop
 nonterminals-requires c κs = search needs
 
 loop-holds : tie.Need-loop-holds Inv-loop μ-loop
-loop-holds c = (omega arith, c .nonterminals .ensures, omega arith, c .before .before .before .before .pre .1, rw (c .before .before .before .before .pre .2), rw (c .before .before .before .before .pre .2) (noted-none _ _ _ _ _ rowWords))
+loop-holds c =
+    let at-entry = c .before .before .before .before in (
+      omega arith,
+      c .nonterminals .ensures,
+      omega arith,
+      at-entry .pre .needs-long,
+      rw (at-entry .pre .owners-none),
+      rw (at-entry .pre .owners-none) (noted-none _ _ _ _ _ rowWords),
+    )
 
 note-rule-requires : tie.Need-note-rule-requires Inv-loop μ-loop
 note-rule-requires c κs = search needs
@@ -34,7 +42,16 @@ loop-less : tie.Need-loop-less Inv-loop μ-loop
 loop-less c = search needs
 
 loop-again : tie.Need-loop-again Inv-loop μ-loop
-loop-again c = (omega arith, c .before .before .before .before .before .before .before .before .loop .inv .1, c .before .before .before .before .note-rule .ensures .0, omega (arith, c .before .before .before .before .note-rule .kept .1 .1 .1 .1 .1 .0), omega (arith, c .before .before .before .before .note-rule .kept .1 .1 .1 .1 .1 .1 .0), c .before .before .before .before .note-rule .ensures .1)
+loop-again c =
+    let at-note-rule = c .before .before .before .before in
+    let at-loop = at-note-rule .before .before .before .before in (
+      omega arith,
+      at-loop .loop .inv .1,
+      at-note-rule .note-rule .ensures .0,
+      omega (arith, at-note-rule .note-rule .kept .1 .1 .1 .1 .1 .0),
+      omega (arith, at-note-rule .note-rule .kept .1 .1 .1 .1 .1 .1 .0),
+      at-note-rule .note-rule .ensures .1,
+    )
 
 same-length : tie.Need-same-length Inv-loop μ-loop
 same-length c = search needs
@@ -44,7 +61,8 @@ same-length-2 c = search needs
 
 returns : tie.Need-returns Inv-loop μ-loop
 returns c =
-    let e : c .before .loop .a ≡ nonterminalsIn (c .before .before .before .before .before .before .args .tables .now) = omega arith in
+    let at-entry = c .before .before .before .before .before .before in
+    let e : c .before .loop .a ≡ nonterminalsIn (at-entry .args .tables .now) = omega arith in
     (c .before .loop .inv .2, rw (← e) (c .before .loop .inv .5))
 
 pub note-rules-spec : {M : Type 1} → statement M

@@ -1,4 +1,4 @@
--- `closures::rounds::round` meets its contract.
+-- `closures::rounds::round` meets its contract: the first k productions are judged, as in `roundOf`.
 use borrow.Author.Needs.{needs}
 use mathlib.Core.Path.{_≡_, refl, ap, _∙_}
 use Prim.Native.Nat.{ℕ, _≤_, _-_}
@@ -40,10 +40,14 @@ loop-less : tie.Need-loop-less Inv-loop μ-loop
 loop-less c = search needs
 
 loop-again : tie.Need-loop-again Inv-loop μ-loop
-loop-again c = (omega arith, round-more _ _ _ _ (c .before .before .before .before .loop .inv .1) (c .added .ensures))
+loop-again c =
+    let at-loop = c .before .before .before .before in
+    (omega arith, round-more _ _ _ _ (at-loop .loop .inv .1) (c .added .ensures))
 
 returns : tie.Need-returns Inv-loop μ-loop
-returns c = c .before .loop .inv .1 ∙ ap (λ (k : ℕ). roundOf (c .before .before .before .before .args .needs .now) (c .before .before .before .before .args .owners .now) (c .before .before .before .before .args .set) k) (omega arith)
+returns c =
+    let at-entry = c .before .before .before .before in
+    c .before .loop .inv .1 ∙ ap (λ (k : ℕ). roundOf (at-entry .args .needs .now) (at-entry .args .owners .now) (at-entry .args .set) k) (omega arith)
 
 pub round-spec : {M : Type 1} → statement M
 round-spec =

@@ -2,7 +2,7 @@
 use Prim.Native.Nat.{_+_, _-_, _≤_}
 use native.Mathlib.Omega.{arith}
 use borrow.Author.Needs.{needs}
-use Rattle.chart.proofs.Spots.{spot-in}
+use Rattle.cells.proofs.Spots.{spot-in}
 use Rattle.derivation.proofs.FirstLaws.{rule-within, first-in}
 use Rattle.machine.proofs.CallLaws.{lent-of}
 use Rattle.machine.proofs.ChoiceLoops.{Seeking, seeking-at, seeking-begins, seeking-found, seeking-on, seeking-ends, sized}

@@ -1,10 +1,10 @@
 -- `machine::choice::serving` meets its contract: the members of `ends` are gone through in order, and each is kept exactly if place q leads from it
 -- into `rest`.
-use Rattle.chart.proofs.ThroughLaws.{next-behind}
+use Rattle.cells.proofs.ThroughLaws.{next-behind}
 use Prim.Native.Nat.{_-_}
 use native.Mathlib.Omega.{arith}
 use borrow.Author.Needs.{needs}
-use Rattle.chart.proofs.Spots.{spot-in}
+use Rattle.cells.proofs.Spots.{spot-in}
 use Rattle.machine.proofs.ChoiceLoops.{Keeping, keeping-begins, keeping-with, keeping-same, keeping-ends}
 use Rattle.machine.proofs.choice.serving.Statement.{statement}
 use Rattle.machine.proofs.choice.serving.Tie as tie

@@ -1,4 +1,4 @@
--- `number::Cursor::limited` meets its contract.
+-- `number::Cursor::limited` meets its contract: each way out, a number refused, too low, too high or good, is one case of `limitedAt`.
 use Rattle.number.proofs.NumberLaws.{limited-refused, limited-below, limited-above, limited-in}
 use native.Mathlib.Omega.{arith}
 use borrow.Author.Needs.{needs}
@@ -15,16 +15,27 @@ enum-told : tie.Need-enum-told
 enum-told c = search needs
 
 returns : tie.Need-returns
-returns c = limited-refused _ _ _ _ (c .before .before .number .ensures) (c .enum-told .given .1)
+returns c =
+    let at-number = c .before .before in
+    limited-refused _ _ _ _ (at-number .number .ensures) (c .enum-told .given .1)
 
 returns-2 : tie.Need-returns-2
-returns-2 c = limited-below _ _ _ _ (c .before .before .before .before .number .ensures) (c .before .before .n .given .1) (omega arith)
+returns-2 c =
+    let at-n = c .before .before in
+    let at-number = at-n .before .before in
+    limited-below _ _ _ _ (at-number .number .ensures) (at-n .n .given .1) (omega arith)
 
 returns-3 : tie.Need-returns-3
-returns-3 c = limited-above _ _ _ _ (c .before .before .before .before .before .number .ensures) (c .before .before .before .n .given .1) (omega arith)
+returns-3 c =
+    let at-n = c .before .before .before in
+    let at-number = at-n .before .before in
+    limited-above _ _ _ _ (at-number .number .ensures) (at-n .n .given .1) (omega arith)
 
 returns-4 : tie.Need-returns-4
-returns-4 c = limited-in _ _ _ _ (c .before .before .before .before .before .number .ensures) (c .before .before .before .n .given .1) (omega arith) (omega arith)
+returns-4 c =
+    let at-n = c .before .before .before in
+    let at-number = at-n .before .before in
+    limited-in _ _ _ _ (at-number .number .ensures) (at-n .n .given .1) (omega arith) (omega arith)
 
 pub limited-spec : {M : Type 1} → statement M
 limited-spec =

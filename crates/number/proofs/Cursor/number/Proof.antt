@@ -1,4 +1,5 @@
--- `number::Cursor::number` meets its contract.
+-- `number::Cursor::number` meets its contract: each way out, after one, two or three bytes, is one case of `numberAt`; a byte is only looked at where there is
+-- one.
 use Rattle.number.proofs.NumberLaws.{none, one, cut, long, two, cut2, long2, high, three}
 use native.Mathlib.Omega.{arith}
 use borrow.Author.Needs.{needs}

@@ -1,30 +1,23 @@
 -- `plain::reading::read` meets its contract: the cells are filled, the machine stops as the definition's reading ends, and the answer follows from that.
 use borrow.Author.Needs.{needs}
-use Rattle.machine.proofs.CallLaws.{lent-of}
 use Rattle.plain.proofs.ReadingLaws.{lent, charting, charting-still, read-is}
 use Rattle.plain.proofs.reading.read.Statement.{statement}
 use Rattle.plain.proofs.reading.read.Tie as tie
 
-size-requires : tie.Need-size-requires
-size-requires c κs =
-    let at-entry = c .before .before .before .before .before in
-    at-entry .pre .ready .fits .long
-
 fill-requires : tie.Need-fill-requires
 fill-requires c κs =
-    let at-entry = c .before .before .before .before .before .before in
-    (at-entry .pre .ready, c .size .ensures, lent-of (c .size .ensures) (lent _ _ (at-entry .pre)))
+    let at-entry = c .before .before .before .before .before in
+    (at-entry .pre .ready, lent _ _ (at-entry .pre))
 
 run-requires : tie.Need-run-requires
 run-requires c κs =
-    let at-entry = c .before .before .before .before .before .before .before .before .before .before .before in
+    let at-entry = c .before .before .before .before .before .before .before .before .before .before in
     let at-fill = c .before .before .before .before in
     charting _ _ (at-entry .pre) (at-fill .fill .ensures)
 
 finish-requires : tie.Need-finish-requires
 finish-requires c κs =
-    let at-entry = c .before .before .before .before .before .before .before .before .before .before .before .before .before .before .before .before .before
-    .before in
+    let at-entry = c .before .before .before .before .before .before .before .before .before .before .before .before .before .before .before .before .before in
     let at-fill = c .before .before .before .before .before .before .before .before .before .before .before in
     let at-run = c .before .before .before .before .before .before in
     (charting-still _ _ (at-entry .pre) (at-fill .fill .ensures) (at-run .run .ensures), at-run .run .ensures .ran .within)
@@ -44,11 +37,4 @@ returns c =
 pub read-spec : {M : Type 1} → statement M
 read-spec =
     tie.close
-    (tie.spec
-    size-requires
-    fill-requires
-    run-requires
-    finish-requires
-    same-length
-    same-length-2
-    returns)
+    (tie.spec fill-requires run-requires finish-requires same-length same-length-2 returns)

@@ -1,4 +1,4 @@
--- `positions::Positions::meets` meets its contract.
+-- `positions::Positions::meets` meets its contract: each word is read where the array has it, and the code computes the same Boolean as `meetsOf`.
 use mathlib.Core.Path.{refl}
 use Rattle.positions.specs.Positions.{meetsOf}
 use borrow.Author.Needs.{needs}

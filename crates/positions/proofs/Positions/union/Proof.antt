@@ -1,4 +1,4 @@
--- `positions::Positions::union` meets its contract.
+-- `positions::Positions::union` meets its contract: the five words are made one by one as in `unionOf`; each index is one of the array.
 use mathlib.Core.Path.{refl}
 use Rattle.positions.specs.Positions.{unionOf}
 use borrow.Author.Needs.{needs}

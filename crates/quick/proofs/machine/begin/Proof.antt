@@ -4,7 +4,7 @@ use mathlib.Core.Logic.{⊎-elim}
 use native.Mathlib.Omega.{arith}
 use lib.ListN.{length}
 use borrow.Author.Needs.{needs}
-use Rattle.chart.proofs.Spots.{lent-kept}
+use Rattle.cells.proofs.Spots.{lent-kept}
 use Rattle.plain.proofs.BeginLaws.{some-named}
 use Rattle.plain.proofs.CallLaws.{lent-of, lent-at}
 use Rattle.quick.proofs.BeginLaws.{begin-room, begin-order, begin-single, begin-named, begin-full}

@@ -1,7 +1,7 @@
 -- `quick::reading::finish` meets its contract.
 use mathlib.Core.Path.{ap}
 use Rattle.base.proofs.Booleans.{clash}
-use Rattle.chart.proofs.Spots.{lent-kept}
+use Rattle.cells.proofs.Spots.{lent-kept}
 use Rattle.plain.proofs.FinishLaws.{end-accepted}
 use Rattle.quick.specs.Stop.{stopOutcome}
 use Rattle.quick.proofs.ReplyLaws.{by-stop, stop-known}

@@ -1,6 +1,6 @@
 -- `quick::reading::read` meets its contract.
 use mathlib.Core.Path.{_∙_}
-use Rattle.chart.proofs.Spots.{lent-kept}
+use Rattle.cells.proofs.Spots.{lent-kept}
 use Rattle.quick.proofs.ReplyLaws.{read-is}
 use borrow.Author.Needs.{needs}
 use Rattle.quick.proofs.reading.read.Statement.{statement}

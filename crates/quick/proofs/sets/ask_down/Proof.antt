@@ -4,7 +4,7 @@ use Prim.Native.Nat.{_≤_, _-_}
 use native.Mathlib.Omega.{arith}
 use lib.ListN.{length}
 use borrow.Author.Needs.{needs}
-use Rattle.chart.proofs.Spots.{spot-in, lent-kept}
+use Rattle.cells.proofs.Spots.{spot-in, lent-kept}
 use Rattle.quick.proofs.AskLaws.{Asking, asking-begins, asking-place, asking-more, asking-ends}
 use Rattle.quick.proofs.sets.ask_down.Statement.{statement}
 use Rattle.quick.proofs.sets.ask_down.Tie as tie

@@ -5,7 +5,7 @@ use native.Mathlib.Omega.{arith}
 use lib.ListN.{length}
 use borrow.Author.Needs.{needs}
 use Rattle.quick.specs.Sets.{ServedUp}
-use Rattle.chart.proofs.Spots.{lent-kept}
+use Rattle.cells.proofs.Spots.{lent-kept}
 use Rattle.quick.proofs.ServeLaws.{serving-begins, serving-place, serving-more, serving-ends}
 use Rattle.quick.proofs.sets.serve_up.Statement.{statement}
 use Rattle.quick.proofs.sets.serve_up.Tie as tie

@@ -1,4 +1,5 @@
--- `soundness::judgement::compile` meets its contract.
+-- `soundness::judgement::compile` meets its contract: the bytes are refused, or the tables fit and say the compiled grammar, and then the judgement on it is
+-- that of `checkOf`.
 use Rattle.soundness.proofs.Judging.{compile-refused, compile-fits, compile-judged}
 use borrow.Author.Needs.{needs}
 use Rattle.soundness.proofs.judgement.compile.Statement.{statement}
@@ -14,19 +15,29 @@ enum-told : tie.Need-enum-told
 enum-told c = search needs
 
 judge-requires : tie.Need-judge-requires
-judge-requires c κs = compile-fits _ _ (c .before .before .before .before .before .before .before .before .before .pre) (c .before .before .before .before .before .read-grammar .ensures) (c .before .enum-told .given .1)
+judge-requires c κs =
+    let at-read-grammar = c .before .before .before .before .before in
+    let at-entry = at-read-grammar .before .before .before .before in
+    compile-fits _ _ (at-entry .pre) (at-read-grammar .read-grammar .ensures) (c .before .enum-told .given .1)
 
 same-length : tie.Need-same-length
 same-length c = search needs
 
 returns : tie.Need-returns
-returns c = compile-refused _ _ (c .before .before .before .before .before .before .before .before .before .pre) (c .before .before .before .before .before .read-grammar .ensures) (c .before .answer .given .1)
+returns c =
+    let at-read-grammar = c .before .before .before .before .before in
+    let at-entry = at-read-grammar .before .before .before .before in
+    compile-refused _ _ (at-entry .pre) (at-read-grammar .read-grammar .ensures) (c .before .answer .given .1)
 
 same-length-2 : tie.Need-same-length-2
 same-length-2 c = search needs
 
 returns-2 : tie.Need-returns-2
-returns-2 c = compile-judged _ _ (c .before .before .before .before .before .before .before .before .before .before .pre) (c .before .before .before .before .before .before .read-grammar .ensures) (c .before .before .enum-told .given .1) (c .judge .ensures)
+returns-2 c =
+    let at-enum-told = c .before .before in
+    let at-read-grammar = at-enum-told .before .before .before .before in
+    let at-entry = at-read-grammar .before .before .before .before in
+    compile-judged _ _ (at-entry .pre) (at-read-grammar .read-grammar .ensures) (at-enum-told .enum-told .given .1) (c .judge .ensures)
 
 pub compile-spec : {M : Type 1} → statement M
 compile-spec =

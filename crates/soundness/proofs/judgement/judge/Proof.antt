@@ -1,4 +1,4 @@
--- `soundness::judgement::judge` meets its contract.
+-- `soundness::judgement::judge` meets its contract: each way out, 6 refused or 7 asked, is one case of `judgeOf`.
 use borrow.Author.Needs.{needs}
 use Rattle.soundness.proofs.Judging.{judge-first, judge-second}
 use Rattle.soundness.proofs.judgement.judge.Statement.{statement}
@@ -17,10 +17,14 @@ verdict-on-requires-2 : tie.Need-verdict-on-requires-2
 verdict-on-requires-2 c κs = search needs
 
 returns : tie.Need-returns
-returns c = judge-first _ (c .before .before .before .verdict-on .ensures) (c .before .first .given .1)
+returns c =
+    let at-verdict-on = c .before .before .before in
+    judge-first _ (at-verdict-on .verdict-on .ensures) (c .before .first .given .1)
 
 returns-2 : tie.Need-returns-2
-returns-2 c = judge-second _ (c .before .before .before .verdict-on .ensures) (c .before .enum-told .given .1) (c .verdict-on2 .ensures)
+returns-2 c =
+    let at-verdict-on = c .before .before .before in
+    judge-second _ (at-verdict-on .verdict-on .ensures) (c .before .enum-told .given .1) (c .verdict-on2 .ensures)
 
 pub judge-spec : {M : Type 1} → statement M
 judge-spec =

@@ -1,4 +1,5 @@
--- `soundness::judgement::left_recursive` meets its contract.
+-- `soundness::judgement::left_recursive` meets its contract: rows that say where one move leads, closed by Warshall, say where one or more do, so a row that
+-- holds its own nonterminal is left recursion.
 use mathlib.Core.Path.{_∙_}
 use Rattle.soundness.proofs.Judging.{recursive-is}
 use borrow.Author.Needs.{needs}
@@ -27,7 +28,13 @@ lowest-own-requires : tie.Need-lowest-own-requires
 lowest-own-requires c κs = search needs
 
 returns : tie.Need-returns
-returns c = c .lowest-own .ensures ∙ recursive-is _ (c .before .before .before .before .before .before .before .before .before .before .pre) _ _ (c .before .before .before .before .before .before .before .before .nonterminals .ensures) (c .before .before .before .before .before .before .corners .kept .1 .0) (c .before .before .before .before .before .before .corners .ensures) (c .before .before .before .reach .ensures)
+returns c =
+    let at-reach = c .before .before .before in
+    let at-corners = at-reach .before .before .before in
+    let at-nonterminals = at-corners .before .before in
+    let at-entry = at-nonterminals .before .before in
+    c .lowest-own .ensures ∙ recursive-is _ (at-entry .pre) _ _ (at-nonterminals .nonterminals .ensures) (at-corners .corners .kept .1 .0)
+    (at-corners .corners .ensures) (at-reach .reach .ensures)
 
 pub left-recursive-spec : {M : Type 1} → statement M
 left-recursive-spec =

@@ -1,4 +1,5 @@
--- `soundness::judgement::lowest_missing` meets its contract.
+-- `soundness::judgement::lowest_missing` meets its contract: no nonterminal before the one looked at is missing, so the search from there on gives what the
+-- whole search gives.
 use borrow.Author.Needs.{needs}
 use mathlib.Core.Path.{_≡_, ap, sym, _∙_}
 use mathlib.Core.Bool.{not}
@@ -28,7 +29,11 @@ has-requires : tie.Need-has-requires Inv-loop μ-loop
 has-requires c κs = search needs
 
 returns : tie.Need-returns Inv-loop μ-loop
-returns c = ap (refuseAt Unproductive) (lowest-hit (λ a. not (testBit (c .before .before .before .before .args .set) a)) _ _ (c .before .before .before .loop .inv .1) (omega arith) (ap not (sym (c .before .has .ensures)) ∙ c .if1 .taken))
+returns c =
+    let at-loop = c .before .before .before in
+    let at-entry = at-loop .before in
+    ap (refuseAt Unproductive) (lowest-hit (λ a. not (testBit (at-entry .args .set) a)) _ _ (at-loop .loop .inv .1) (omega arith)
+    (ap not (sym (c .before .has .ensures)) ∙ c .if1 .taken))
 
 sub-left : tie.Need-sub-left Inv-loop μ-loop
 sub-left c = search needs
@@ -37,10 +42,18 @@ loop-less : tie.Need-loop-less Inv-loop μ-loop
 loop-less c = search needs
 
 loop-again : tie.Need-loop-again Inv-loop μ-loop
-loop-again c = (omega arith, lowest-next (λ a. not (testBit (c .before .before .before .before .args .set) a)) _ _ (c .before .before .before .loop .inv .1) (omega arith) (omega arith) (ap not (sym (c .before .has .ensures)) ∙ c .if1 .left))
+loop-again c =
+    let at-loop = c .before .before .before in
+    let at-entry = at-loop .before in (
+      omega arith,
+      lowest-next (λ a. not (testBit (at-entry .args .set) a)) _ _ (at-loop .loop .inv .1) (omega arith) (omega arith)
+          (ap not (sym (c .before .has .ensures)) ∙ c .if1 .left),
+    )
 
 returns-2 : tie.Need-returns-2 Inv-loop μ-loop
-returns-2 c = ap (refuseAt Unproductive) (lowest-none (λ a. not (testBit (c .before .before .args .set) a)) _ _ (c .before .loop .inv .1) (omega arith))
+returns-2 c =
+    let at-entry = c .before .before in
+    ap (refuseAt Unproductive) (lowest-none (λ a. not (testBit (at-entry .args .set) a)) _ _ (c .before .loop .inv .1) (omega arith))
 
 pub lowest-missing-spec : {M : Type 1} → statement M
 lowest-missing-spec =

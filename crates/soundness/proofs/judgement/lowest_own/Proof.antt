@@ -1,4 +1,5 @@
--- `soundness::judgement::lowest_own` meets its contract.
+-- `soundness::judgement::lowest_own` meets its contract: no row before the one looked at holds its own nonterminal, so the search from there on gives what the
+-- whole search gives.
 use borrow.Author.Needs.{needs}
 use mathlib.Core.Path.{_≡_, ap, sym, _∙_}
 use Prim.Native.Nat.{_≤_, _-_}
@@ -13,7 +14,8 @@ use Rattle.soundness.proofs.judgement.lowest_own.Statement.{statement}
 use Rattle.soundness.proofs.judgement.lowest_own.Tie as tie
 
 abbrev Inv-loop : tie.InvT-loop
-Inv-loop rows n left₀ left = (left ≤ n) × (lowestFrom (λ a. testBit (getD rows a 0) a) (n - left) left ≡ lowestFrom (λ a. testBit (getD rows a 0) a) 0 n)
+Inv-loop rows n left₀ left = (left ≤ n)
+    × (lowestFrom (λ a. testBit (getD rows a 0) a) (n - left) left ≡ lowestFrom (λ a. testBit (getD rows a 0) a) 0 n)
 
 abbrev μ-loop : tie.MeasureT-loop
 μ-loop rows n left₀ left = left
@@ -34,7 +36,11 @@ has-requires : tie.Need-has-requires Inv-loop μ-loop
 has-requires c κs = search needs
 
 returns : tie.Need-returns Inv-loop μ-loop
-returns c = ap (refuseAt LeftRecursive) (lowest-hit (λ a. testBit (getD (c .before .before .before .before .before .before .args .rows .now) a 0) a) _ _ (c .before .before .before .before .loop .inv .1) (omega arith) (sym (c .before .has .ensures) ∙ c .if1 .taken))
+returns c =
+    let at-loop = c .before .before .before .before in
+    let at-entry = at-loop .before .before in
+    ap (refuseAt LeftRecursive) (lowest-hit (λ a. testBit (getD (at-entry .args .rows .now) a 0) a) _ _ (at-loop .loop .inv .1) (omega arith)
+    (sym (c .before .has .ensures) ∙ c .if1 .taken))
 
 sub-left : tie.Need-sub-left Inv-loop μ-loop
 sub-left c = search needs
@@ -43,10 +49,18 @@ loop-less : tie.Need-loop-less Inv-loop μ-loop
 loop-less c = search needs
 
 loop-again : tie.Need-loop-again Inv-loop μ-loop
-loop-again c = (omega arith, lowest-next (λ a. testBit (getD (c .before .before .before .before .before .before .args .rows .now) a 0) a) _ _ (c .before .before .before .before .loop .inv .1) (omega arith) (omega arith) (sym (c .before .has .ensures) ∙ c .if1 .left))
+loop-again c =
+    let at-loop = c .before .before .before .before in
+    let at-entry = at-loop .before .before in (
+      omega arith,
+      lowest-next (λ a. testBit (getD (at-entry .args .rows .now) a 0) a) _ _ (at-loop .loop .inv .1) (omega arith) (omega arith)
+          (sym (c .before .has .ensures) ∙ c .if1 .left),
+    )
 
 returns-2 : tie.Need-returns-2 Inv-loop μ-loop
-returns-2 c = ap (refuseAt LeftRecursive) (lowest-none (λ a. testBit (getD (c .before .before .before .args .rows .now) a 0) a) _ _ (c .before .loop .inv .1) (omega arith))
+returns-2 c =
+    let at-entry = c .before .before .before in
+    ap (refuseAt LeftRecursive) (lowest-none (λ a. testBit (getD (at-entry .args .rows .now) a 0) a) _ _ (c .before .loop .inv .1) (omega arith))
 
 pub lowest-own-spec : {M : Type 1} → statement M
 lowest-own-spec =

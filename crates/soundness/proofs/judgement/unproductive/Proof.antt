@@ -1,4 +1,5 @@
--- `soundness::judgement::unproductive` meets its contract.
+-- `soundness::judgement::unproductive` meets its contract: the set holds exactly the nonterminals that derive some row of tokens, so the lowest that it misses
+-- is the lowest of 6.
 use Rattle.soundness.proofs.Judging.{unproductive-is}
 use mathlib.Core.Path.{_∙_}
 use borrow.Author.Needs.{needs}
@@ -15,7 +16,9 @@ lowest-missing-requires : tie.Need-lowest-missing-requires
 lowest-missing-requires c κs = search needs
 
 returns : tie.Need-returns
-returns c = c .lowest-missing .ensures ∙ unproductive-is _ _ _ (c .before .before .derivers .ensures) (c .before .nonterminals .ensures)
+returns c =
+    let at-derivers = c .before .before in
+    c .lowest-missing .ensures ∙ unproductive-is _ _ _ (at-derivers .derivers .ensures) (c .before .nonterminals .ensures)
 
 pub unproductive-spec : {M : Type 1} → statement M
 unproductive-spec =

@@ -1,4 +1,4 @@
--- `soundness::judgement::verdict_on` meets its contract.
+-- `soundness::judgement::verdict_on` meets its contract: each of the two ways out is one case of `verdictOn`.
 use borrow.Author.Needs.{needs}
 use Rattle.soundness.proofs.Judging.{verdict-six, verdict-seven}
 use Rattle.soundness.proofs.judgement.verdict_on.Statement.{statement}

@@ -1,0 +1,5 @@
+-- Laws on the cells' words and on reading them.
+pub mod Spots
+pub mod ThroughLaws
+pub mod GatherLaws
+pub mod MatchLaws

@@ -1,0 +1,35 @@
+-- The cell of a place, by the ends of nonterminals, the cells of the later positions and the cell of the place behind it.
+use mathlib.Core.Path.{_≡_}
+use mathlib.Core.Bool.{Bool, true}
+use mathlib.Core.List.{List}
+use Prim.Native.Nat.{ℕ, suc, _<_}
+use lib.ListN.{length}
+use Rattle.grammar.specs.declared.Symbol.the-variants.{End}
+use Rattle.grammar.specs.Grammar.{facing}
+use Rattle.grammar.specs.Tables.{grammarIn}
+use Rattle.positions.specs.Positions.{positionCount, member}
+use Rattle.derivation.specs.Cells.{derives?}
+use Rattle.cells.specs.Chart.{ChartedFrom, KeptBehind}
+use Rattle.ends.specs.Ends.{endHas, leadBy}
+use Rattle.ends.specs.Row.{cellsIn}
+
+-- r, if it is true, says that place q is a production's end
+abbrev pub EndIs : List ℕ → ℕ → Bool → Type 0
+EndIs t q r = r ≡ true → facing (grammarIn t) q ≡ End
+
+-- the cells from position i on are right, and what stands behind all cells is as it was
+pub record Settled (t w : List ℕ) (i : ℕ) (ws after : List ℕ) : Type 0 where
+  pub charted : ChartedFrom t w after i
+  pub behind : KeptBehind (grammarIn t .size) (length w) ws after
+
+module _ (t w ws : List ℕ) (i : ℕ) where
+  -- r is where place p leads to, by the cell of the place behind it
+  unfoldable pub Derived : List ℕ → ℕ → List ℕ → Type 0
+  unfolding leadBy
+  Derived ends p r =
+      (j : ℕ) → j < positionCount
+      → member r j ≡ leadBy (grammarIn t) w (endHas ends) (cellsIn t ws) i j p (facing (grammarIn t) p) (cellsIn t ws (suc p) i j)
+
+  -- the cell of the place behind p is right
+  unfoldable pub Behind : ℕ → Type 0
+  Behind p = suc p < grammarIn t .size → (j : ℕ) → j < positionCount → cellsIn t ws (suc p) i j ≡ derives? (grammarIn t) w (suc p) i j

@@ -1,0 +1,44 @@
+-- What the functions on one position may rely on, and what a look along a production gives.
+use mathlib.Core.Path.{_≡_}
+use mathlib.Core.Bool.{Bool}
+use mathlib.Core.List.{List}
+use Prim.Native.Nat.{ℕ, suc, _≤_, _<_}
+use lib.ListN.{length}
+use Rattle.base.specs.Rounds.{anyOf}
+use Rattle.grammar.specs.Grammar.{alternatives}
+use Rattle.grammar.specs.Tables.{grammarIn}
+use Rattle.positions.specs.Positions.{positionCount, member}
+use Rattle.derivation.specs.Ready.{Ready}
+use Rattle.cells.specs.Chart.{cellHas, Lent, ChartedFrom}
+use Rattle.ends.specs.Ends.{endWords, endHas, lead, RightEnds}
+
+-- at position i of the note w: the cells of the later positions are right
+pub record Row (t w : List ℕ) (i : ℕ) (ws : List ℕ) : Type 0 where
+  pub ready : Ready t
+  pub lent : Lent (grammarIn t .size) (length w) ws
+  pub here : i ≤ length w
+  pub later : ChartedFrom t w ws (suc i)
+
+-- and the sets `ends` hold exactly where the productions that begin at i end
+pub record Ended (t w : List ℕ) (i : ℕ) (ws ends : List ℕ) : Type 0 where
+  pub row : Row t w i ws
+  pub long : length ends ≡ endWords
+  pub right : RightEnds t w i ends
+
+-- the cells as the words ws hold them
+abbrev pub cellsIn : List ℕ → List ℕ → ℕ → ℕ → ℕ → Bool
+cellsIn t ws = cellHas (grammarIn t .size) ws
+
+module _ (t w ws : List ℕ) (i : ℕ) (ends : List ℕ) where
+  -- the production from place f on leads to j
+  abbrev pub leadsTo : ℕ → ℕ → Bool
+  leadsTo j f = lead (grammarIn t) w (endHas ends) (cellsIn t ws) i j f
+
+  -- some production of nonterminal a leads to j
+  abbrev pub offers : ℕ → ℕ → Bool
+  offers a j = anyOf (leadsTo j) (alternatives (grammarIn t) a)
+
+  -- r is where the production from place f on leads to
+  unfoldable pub Begun : ℕ → List ℕ → Type 0
+  unfolding lead
+  Begun f r = (j : ℕ) → j < positionCount → member r j ≡ leadsTo j f

@@ -1,0 +1,3 @@
+-- The nonterminals in an order: each behind its left corners.
+pub mod Order
+pub mod Placing

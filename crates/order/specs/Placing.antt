@@ -1,0 +1,35 @@
+-- Nonterminals placed one after the other: what holds while some have no place yet.
+use mathlib.Core.Path.{_≡_}
+use mathlib.Core.Bool.{Bool, true, false, not, _&&_}
+use mathlib.Core.List.{List}
+use Prim.Native.Nat.{ℕ, suc, _-_}
+use lib.Dec.{T}
+use lib.ListN.{length}
+use Rattle.base.specs.Bits.{testBit, isSubset}
+use Rattle.grammar.specs.Limits.{maxNonterminals}
+use Rattle.grammar.specs.Tables.{grammarIn, nonterminalsIn}
+use Rattle.derivation.specs.Ready.{Ready}
+use Rattle.corners.specs.Corners.{Corners}
+use Rattle.order.specs.Order.{Among, Lined}
+
+-- a has no place, and every nonterminal of its row has one
+unfoldable pub ripeOf : ℕ → ℕ → ℕ → Bool
+ripeOf row set a = not (testBit set a) && isSubset row set
+
+-- the k-th of n nonterminals, from the first up or from the last down
+unfoldable pub turnOf : Bool → ℕ → ℕ → ℕ
+turnOf true k n = k
+turnOf false k n = n - suc k
+
+-- the first `count` places are taken, by the nonterminals of `set`
+pub record Placing (t order : List ℕ) (set count : ℕ) : Type 0 where
+  pub long : length order ≡ maxNonterminals
+  pub lined : Lined (grammarIn t) (nonterminalsIn t) order count
+  pub listed : (a : ℕ) → T (testBit set a) → Among order count a
+  pub marked : (a : ℕ) → Among order count a → T (testBit set a)
+
+-- what a turn goes by: tables of a sound grammar, the left corners of its nonterminals
+pub record Cornered (t rows : List ℕ) : Type 0 where
+  pub ready : Ready t
+  pub long : length rows ≡ maxNonterminals
+  pub corners : Corners (grammarIn t) (nonterminalsIn t) rows
