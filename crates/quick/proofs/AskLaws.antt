@@ -16,7 +16,7 @@ use Rattle.cells.specs.Through.{throughOf}
 use Rattle.cells.specs.Through.{Onward}
 use Rattle.cells.proofs.ThroughLaws.{through-in}
 use Rattle.cells.proofs.Spots.{cell-member}
-use Rattle.plain.specs.Frames.{frameHas}
+use Rattle.machine.specs.Frames.{frameHas}
 use Rattle.quick.specs.Sets.{returnAt, SetsOnly, Framed, AskedDown}
 use Rattle.quick.proofs.RestLaws.{rest-put, rest-other, only-none, only-put, only-has}
 

@@ -23,13 +23,13 @@ use Rattle.derivation.proofs.MarkedCells.{derives-inside}
 use Rattle.cache.specs.Recording.{learned}
 use Rattle.cache.specs.Predict.{predict}
 use Rattle.cells.specs.Chart.{Lent, Filled}
-use Rattle.plain.specs.Frames.{Serving}
-use Rattle.plain.specs.Choice.{orZero, lowestIn}
-use Rattle.plain.specs.Machine.{pushIf, ground}
+use Rattle.machine.specs.Frames.{Serving}
+use Rattle.machine.specs.Choice.{orZero, lowestIn}
+use Rattle.derivation.specs.Machine.{pushIf, ground}
 use Rattle.plain.proofs.BeginLaws.{some-named, begin-right, begin-asks}
-use Rattle.plain.proofs.CallLaws.{pushed-if, push-kept}
-use Rattle.plain.proofs.PushLaws.{push-pushed, push-has, push-charted}
-use Rattle.quick.specs.Machine.{Picked, picked, settle, quickChoice}
+use Rattle.machine.proofs.CallLaws.{pushed-if, push-kept}
+use Rattle.machine.proofs.PushLaws.{push-pushed, push-has, push-charted}
+use Rattle.derivation.specs.Machine.{Picked, picked, settle, quickChoice}
 use Rattle.quick.specs.Going.{Began}
 use Rattle.adaptive.proofs.ChoiceLaws.{choice-decided, choice-single}
 use Rattle.derivation.proofs.CountLaws.{count-is, one-at-least}

@@ -11,10 +11,10 @@ use Rattle.grammar.specs.Grammar.{facing}
 use Rattle.grammar.specs.Tables.{grammarIn, nonterminalsIn}
 use Rattle.derivation.specs.Runs.{marked}
 use Rattle.derivation.specs.Ready.{Ready}
-use Rattle.plain.specs.Machine.{Named, waiting}
+use Rattle.derivation.specs.Machine.{Named, waiting}
 use Rattle.plain.specs.declared.machine.Outcome.{Outcome}
-use Rattle.plain.proofs.CallLaws.{some-of, named-small}
-use Rattle.quick.specs.Machine.{Ended, quickChoice}
+use Rattle.machine.proofs.CallLaws.{some-of, named-small}
+use Rattle.derivation.specs.Machine.{Ended, quickChoice}
 use Rattle.quick.specs.Going.{Going, Calls, choiceAt, Chose, Began, Ran}
 use Rattle.quick.proofs.NamedLaws.{choice-first, choice-counted, choice-length}
 

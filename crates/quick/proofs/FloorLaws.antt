@@ -19,7 +19,7 @@ use Rattle.derivation.proofs.Entries.{Entry, Below, ground, wait, Open, inside,
 use Rattle.derivation.proofs.FrameWords.{Held}
 use Rattle.derivation.proofs.ReadyLaws.{ready-call, ready-next}
 use Rattle.derivation.proofs.MarkedCells.{derives-inside}
-use Rattle.plain.specs.Frames.{FramesBelow, frameHas, Good}
+use Rattle.machine.specs.Frames.{FramesBelow, frameHas, Good}
 use Rattle.plain.proofs.GoingLaws.{quiet-calls}
 
 -- the return places of d frames

@@ -22,13 +22,13 @@ use Rattle.derivation.proofs.ReadyLaws.{ready-ordered}
 use Rattle.derivation.proofs.MarkedCells.{length-marked}
 use Rattle.words.specs.Layout.{minWords}
 use Rattle.cells.specs.Chart.{Charted}
-use Rattle.plain.specs.Frames.{FramesBelow, frameHas}
-use Rattle.plain.specs.Machine.{ground, waiting}
+use Rattle.machine.specs.Frames.{FramesBelow, frameHas}
+use Rattle.derivation.specs.Machine.{ground, waiting}
 use Rattle.plain.specs.Going.{steps}
-use Rattle.plain.proofs.GoodLaws.{good-match, good-pop, good-push}
+use Rattle.machine.proofs.GoodLaws.{good-match, good-pop, good-push}
 use Rattle.plain.proofs.GoingLaws.{reads, quiet}
 use Rattle.plain.proofs.StepLaws.{after-accepted, after-stuck, after-full}
-use Rattle.quick.specs.Machine.{Ended, stopped, prefixed}
+use Rattle.derivation.specs.Machine.{Ended, stopped, prefixed}
 use Rattle.quick.specs.Going.{beyond, onward, Going, choiceAt, Prepared}
 use Rattle.quick.proofs.RunSteps.{beyond-entry, run-end, run-match, run-none, run-other, run-full, run-unserved, run-pick, run-nothing, run-left}
 

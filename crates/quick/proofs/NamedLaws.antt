@@ -19,8 +19,8 @@ use Rattle.cache.specs.Recording.{Learned, askStart, askStep}
 use Rattle.cache.specs.Predict.{Meaning, chosen, undecided, at, meaning, follow, predict}
 use Rattle.cache.proofs.LengthLaws.{length-askStart, length-askStep}
 use Rattle.cache.proofs.FollowLaws.{follow-unsure, follow-sure, follow-over, follow-on}
-use Rattle.plain.specs.Machine.{Named}
-use Rattle.quick.specs.Machine.{Picked, picked, named?, settle, quickChoice}
+use Rattle.derivation.specs.Machine.{Named}
+use Rattle.derivation.specs.Machine.{Picked, picked, named?, settle, quickChoice}
 use Rattle.adaptive.proofs.ChoiceLaws.{settle-words, choice-decided, choice-single}
 use Rattle.derivation.proofs.CountLaws.{one-at-least, first-within}
 

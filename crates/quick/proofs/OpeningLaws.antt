@@ -19,14 +19,14 @@ use Rattle.derivation.proofs.ReadyLaws.{ready-ordered}
 use Rattle.derivation.proofs.MarkedCells.{length-marked}
 use Rattle.words.specs.Layout.{minWords}
 use Rattle.cells.specs.Chart.{Lent}
-use Rattle.plain.specs.Frames.{Good}
-use Rattle.plain.specs.Machine.{ground}
+use Rattle.machine.specs.Frames.{Good}
+use Rattle.derivation.specs.Machine.{ground}
 use Rattle.plain.specs.Going.{after, steps}
 use Rattle.plain.specs.declared.machine.Outcome.{Outcome}
 use Rattle.plain.specs.declared.machine.Outcome.the-variants.{Stuck, Full}
 use Rattle.plain.proofs.GoingLaws.{reads, quiet}
-use Rattle.plain.proofs.CallLaws.{some-of}
-use Rattle.quick.specs.Machine.{stopped, prefixed, quickChoice, quickCall, quickRead}
+use Rattle.machine.proofs.CallLaws.{some-of}
+use Rattle.derivation.specs.Machine.{stopped, prefixed, quickChoice, quickCall, quickRead}
 use Rattle.adaptive.specs.Quick.{quickNote}
 use Rattle.quick.specs.Going.{beyond, onward, Going, Began, ahead, Ran}
 use Rattle.quick.proofs.RunSteps.{beyond-entry}

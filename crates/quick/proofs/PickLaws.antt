@@ -22,14 +22,14 @@ use Rattle.derivation.proofs.ReadyLaws.{ready-size}
 use Rattle.derivation.proofs.Entries.{Open}
 use Rattle.cache.specs.Recording.{Learned, learned}
 use Rattle.cache.specs.Predict.{predict}
-use Rattle.plain.specs.Choice.{orZero}
-use Rattle.plain.specs.Frames.{FramesBelow, EveryFrame}
-use Rattle.plain.specs.Machine.{ground, waiting}
+use Rattle.machine.specs.Choice.{orZero}
+use Rattle.machine.specs.Frames.{FramesBelow, EveryFrame}
+use Rattle.derivation.specs.Machine.{ground, waiting}
 use Rattle.plain.specs.Waiting.{Waiting}
-use Rattle.plain.proofs.GoodLaws.{good-fewer}
+use Rattle.machine.proofs.GoodLaws.{good-fewer}
 use Rattle.plain.proofs.GoingLaws.{frame-room}
-use Rattle.plain.proofs.PushLaws.{low-charted}
-use Rattle.quick.specs.Machine.{Picked, picked, named?, settle}
+use Rattle.machine.proofs.PushLaws.{low-charted}
+use Rattle.derivation.specs.Machine.{Picked, picked, named?, settle}
 use Rattle.quick.specs.Going.{Calls, Tabled, Prepared, Found, choiceAt, Chose}
 use Rattle.quick.specs.Sets.{Unsettled, Settled}
 use Rattle.derivation.proofs.CountLaws.{count-is, one-at-least, first-within}

@@ -19,14 +19,14 @@ use Rattle.derivation.specs.Space.{frameWords, spareWords}
 use Rattle.derivation.specs.Ready.{Ready}
 use Rattle.derivation.proofs.MarkedCells.{length-marked}
 use Rattle.words.specs.Layout.{minWords}
-use Rattle.plain.specs.Choice.{orZero}
-use Rattle.plain.specs.Machine.{ground, outcomeIn}
+use Rattle.machine.specs.Choice.{orZero}
+use Rattle.derivation.specs.Machine.{ground, outcomeIn}
 use Rattle.plain.specs.declared.machine.Outcome.{Outcome}
 use Rattle.plain.specs.declared.machine.Outcome.the-variants.{Accepted, Stuck, Full}
 use Rattle.plain.proofs.GoingLaws.{frames-in}
-use Rattle.plain.proofs.CallLaws.{some-of}
-use Rattle.plain.proofs.RanLaws.{no-token}
-use Rattle.quick.specs.Machine.{Picked, quickChoice, Ended, stopped}
+use Rattle.machine.proofs.CallLaws.{some-of}
+use Rattle.quick.proofs.RanLaws.{no-token}
+use Rattle.derivation.specs.Machine.{Picked, quickChoice, Ended, stopped}
 use Rattle.quick.specs.Going.{Going, choiceAt, Chose, Ran}
 use Rattle.quick.proofs.GoingLaws.{going-pop, going-match, going-prepared, going-pick, going-none, going-other, going-full, going-unserved, going-accepted, going-left}
 

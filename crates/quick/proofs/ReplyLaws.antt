@@ -22,10 +22,10 @@ use Rattle.derivation.proofs.ReadyLaws.{verdict-is, sound-judged}
 use Rattle.words.specs.Layout.{minWords}
 use Rattle.words.specs.Begin.{begun?}
 use Rattle.plain.specs.declared.machine.Outcome.{Outcome}
-use Rattle.plain.specs.declared.reading.Reading.the-variants as reading
+use Rattle.gate.specs.declared.reading.Reading.the-variants as reading
 use Rattle.gate.specs.declared.tokens.Tokens.{Tokens}
 use Rattle.gate.specs.declared.tokens.Tokens.the-variants as tokens
-use Rattle.plain.specs.Machine.{outcomeIn}
+use Rattle.derivation.specs.Machine.{outcomeIn}
 use Rattle.gate.specs.Reading.{tokensOf}
 use Rattle.plain.proofs.FinishLaws.{outcome-length, unknown-of, known-of}
 use Rattle.derivation.specs.Demand2.{Known}

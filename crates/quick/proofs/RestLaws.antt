@@ -14,8 +14,8 @@ use Rattle.positions.proofs.WordLaws.{length-put, put-word, put-same, put-other
 use Rattle.derivation.specs.Space.{frameWords, returnsOf}
 use Rattle.cells.specs.Chart.{spot, cellsEnd, cellHas, Charted}
 use Rattle.cells.proofs.Spots.{spot-below, lent-kept}
-use Rattle.plain.specs.Frames.{frameHas}
-use Rattle.plain.proofs.PushLaws.{low-charted}
+use Rattle.machine.specs.Frames.{frameHas}
+use Rattle.machine.proofs.PushLaws.{low-charted}
 use Rattle.quick.specs.Sets.{SetsOnly, Framed}
 
 -- words that agree where a set stands

@@ -12,7 +12,7 @@ use Rattle.grammar.specs.declared.Symbol.the-variants.{Token, Nonterminal, End}
 use Rattle.grammar.specs.Grammar.{Grammar, facing, admits, first}
 use Rattle.derivation.specs.Machine.{Outcome, accepted, stuck, full, onToken, onChoice}
 use Rattle.plain.proofs.StepLaws.{after-entry}
-use Rattle.quick.specs.Machine.{quickChoice, quickCall, quickSymbol, quickStep, Ended, stopped, prefixed, quickRun}
+use Rattle.derivation.specs.Machine.{quickChoice, quickCall, quickSymbol, quickStep, Ended, stopped, prefixed, quickRun}
 use Rattle.quick.specs.Going.{beyond}
 
 -- an entry more in the row

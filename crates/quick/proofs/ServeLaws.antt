@@ -13,8 +13,8 @@ use Rattle.positions.specs.Words.{setAt, putAt}
 use Rattle.positions.proofs.WordLaws.{member-set}
 use Rattle.derivation.specs.Space.{frameWords}
 use Rattle.cells.specs.Chart.{spot, cellsEnd}
-use Rattle.plain.specs.Frames.{frameHas}
-use Rattle.plain.specs.Choice.{Leading}
+use Rattle.machine.specs.Frames.{frameHas}
+use Rattle.machine.specs.Choice.{Leading}
 use Rattle.quick.specs.Sets.{returnAt, Framed, ServedUp}
 use Rattle.quick.proofs.RestLaws.{rest-put, rest-other, rest-below, only-none, only-put, only-cell, only-high}
 

@@ -20,9 +20,9 @@ use Rattle.derivation.specs.Ready.{Ready}
 use Rattle.derivation.proofs.CellLaws.{derives-sound}
 use Rattle.derivation.proofs.RunLaws.{der-in}
 use Rattle.derivation.proofs.MarkedCells.{length-marked, derives-inside}
-use Rattle.plain.specs.Frames.{frameHas, EveryFrame, FramesBelow, Good}
-use Rattle.plain.specs.Machine.{ground}
-use Rattle.plain.proofs.ServingLaws.{cell-holds, meets-runs}
+use Rattle.machine.specs.Frames.{frameHas, EveryFrame, FramesBelow, Good}
+use Rattle.derivation.specs.Machine.{ground}
+use Rattle.machine.proofs.ServingLaws.{cell-holds, meets-runs}
 use Rattle.quick.specs.Sets.{returnAt, SetsOnly, Framed, AskedDown, ServedUp, Unsettled, Settled}
 use Rattle.quick.proofs.RestLaws.{only-on, only-returns, only-cell, only-charted, only-low}
 

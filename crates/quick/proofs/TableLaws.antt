@@ -13,11 +13,11 @@ use Rattle.derivation.specs.Space.{frameWords, spareWords, returnsOf}
 use Rattle.derivation.specs.Ready.{Ready}
 use Rattle.derivation.proofs.ReadyLaws.{ready-call}
 use Rattle.cells.specs.Chart.{Filled}
-use Rattle.plain.specs.Frames.{FramesBelow, frameHas}
-use Rattle.plain.specs.Machine.{ground}
-use Rattle.plain.proofs.GoodLaws.{good-fewer}
+use Rattle.machine.specs.Frames.{FramesBelow, frameHas}
+use Rattle.derivation.specs.Machine.{ground}
+use Rattle.machine.proofs.GoodLaws.{good-fewer}
 use Rattle.plain.proofs.GoingLaws.{open-calls, frames-in}
-use Rattle.plain.proofs.ServingLaws.{end-runs}
+use Rattle.machine.proofs.ServingLaws.{end-runs}
 use Rattle.quick.specs.Going.{Calls, Tabled}
 use Rattle.quick.specs.Sets.{SetsOnly}
 use Rattle.quick.proofs.FloorLaws.{Floored, held-floored, good-floor}

@@ -15,13 +15,13 @@ use Rattle.derivation.specs.Cells.{derives?, runs?}
 use Rattle.derivation.specs.Space.{frameWords, returnsOf, Pushed}
 use Rattle.derivation.proofs.FrameWords.{Held}
 use Rattle.cells.specs.Chart.{Lent, Charted}
-use Rattle.plain.specs.Choice.{orZero}
-use Rattle.plain.specs.Frames.{FramesBelow, frameHas, Good}
+use Rattle.machine.specs.Choice.{orZero}
+use Rattle.machine.specs.Frames.{FramesBelow, frameHas, Good}
 use Rattle.plain.specs.declared.machine.Outcome.{Outcome}
-use Rattle.plain.specs.Machine.{ground, waiting, Called, outcomeIn, Counted}
+use Rattle.derivation.specs.Machine.{ground, waiting, Called, outcomeIn, Counted}
 use Rattle.plain.specs.Going.{after, steps}
 use Rattle.words.specs.Layout.{minWords}
-use Rattle.quick.specs.Machine.{Picked, quickChoice, Ended, stopped, quickRun}
+use Rattle.derivation.specs.Machine.{Picked, quickChoice, Ended, stopped, quickRun}
 
 -- the alternatives of a list, and then this end
 abbrev pub beyond : List ℕ → Ended → Ended

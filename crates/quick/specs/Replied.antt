@@ -5,7 +5,7 @@ use Prim.Native.Nat.{ℕ}
 use lib.ListN.{length}
 use Rattle.grammar.specs.Grammar.{Grammar}
 use Rattle.cells.specs.Chart.{Charted}
-use Rattle.plain.specs.declared.reading.Reading.{Reading}
+use Rattle.gate.specs.declared.reading.Reading.{Reading}
 use Rattle.gate.specs.Reading as plain
 use Rattle.adaptive.specs.Quick.{Reply, reply, quickNote, answered}
 

@@ -12,8 +12,8 @@ use Rattle.positions.specs.Words.{setAt}
 use Rattle.derivation.specs.Runs.{marked}
 use Rattle.derivation.specs.Space.{frameWords, returnsOf}
 use Rattle.cells.specs.Chart.{spot, cellsEnd, cellHas, Lent, Charted}
-use Rattle.plain.specs.Frames.{frameHas, EveryFrame, FramesBelow, Good}
-use Rattle.plain.specs.Machine.{ground}
+use Rattle.machine.specs.Frames.{frameHas, EveryFrame, FramesBelow, Good}
+use Rattle.derivation.specs.Machine.{ground}
 
 -- the return place of frame k
 abbrev pub returnAt : List ℕ → ℕ → ℕ → ℕ

@@ -8,7 +8,7 @@ ghost use Rattle.grammar.specs.Tables.{grammarIn};
 ghost use Rattle.derivation.specs.Ready.{Ready};
 ghost use Rattle.derivation.specs.Space.{frameWords};
 ghost use Rattle.words.specs.Layout.{minWords};
-ghost use Rattle.plain.specs.Machine.{ground};
+ghost use Rattle.derivation.specs.Machine.{ground};
 ghost use Rattle.derivation.specs.Demand2.{Known};
 ghost use Rattle.quick.specs.Going.{Calls, Tabled, Found, Chose};
 

@@ -12,7 +12,7 @@ ghost use Rattle.derivation.specs.Ready.{Ready};
 ghost use Rattle.derivation.specs.Plain.{onOutcome};
 ghost use Rattle.words.specs.Layout.{minWords};
 ghost use Rattle.cells.specs.Chart.{Lent, Charted, Filled};
-ghost use Rattle.plain.specs.Machine.{outcomeIn, Counted};
+ghost use Rattle.derivation.specs.Machine.{outcomeIn, Counted};
 ghost use Rattle.gate.specs.Reading.{answered};
 ghost use Rattle.derivation.specs.Demand2.{Known};
 ghost use Rattle.adaptive.specs.Quick.{quickNote, quick12, quick11, quick8, quickReading};

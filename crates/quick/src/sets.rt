@@ -4,7 +4,7 @@ ghost use mathlib.Core.Path.{_≡_};
 ghost use Prim.Native.Nat.{_≤_, _<_};
 ghost use Rattle.grammar.specs.Tables.{grammarIn};
 ghost use Rattle.derivation.specs.Ready.{Ready};
-ghost use Rattle.plain.specs.Machine.{ground};
+ghost use Rattle.derivation.specs.Machine.{ground};
 ghost use Rattle.quick.specs.Sets.{Framed, AskedDown, ServedUp, Unsettled, Settled};
 
 // From the topmost of d frames down to frame `known`: into its set the positions at which it can be asked from place p at position i.

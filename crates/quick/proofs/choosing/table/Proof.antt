@@ -1,6 +1,6 @@
 -- `quick::choosing::table` meets its contract.
 use native.Mathlib.Omega.{arith}
-use Rattle.plain.proofs.CallLaws.{lent-of}
+use Rattle.machine.proofs.CallLaws.{lent-of}
 use Rattle.quick.proofs.TableLaws.{table-put, table-again}
 use borrow.Author.Needs.{needs}
 use Rattle.quick.proofs.choosing.table.Statement.{statement}

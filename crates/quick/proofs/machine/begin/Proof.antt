@@ -6,7 +6,7 @@ use lib.ListN.{length}
 use borrow.Author.Needs.{needs}
 use Rattle.cells.proofs.Spots.{lent-kept}
 use Rattle.plain.proofs.BeginLaws.{some-named}
-use Rattle.plain.proofs.CallLaws.{lent-of, lent-at}
+use Rattle.machine.proofs.CallLaws.{lent-of, lent-at}
 use Rattle.quick.proofs.BeginLaws.{begin-room, begin-order, begin-single, begin-named, begin-full}
 use Rattle.quick.proofs.machine.begin.Statement.{statement}
 use Rattle.quick.proofs.machine.begin.Tie as tie

@@ -5,7 +5,7 @@ use native.Mathlib.Omega.{arith}
 use lib.ListN.{length, length-set}
 use borrow.Author.Needs.{needs}
 use Rattle.grammar.proofs.WordLaws.{facing-of}
-use Rattle.plain.proofs.RanLaws.{place-small}
+use Rattle.quick.proofs.RanLaws.{place-small}
 use Rattle.quick.specs.Going.{Going, ahead}
 use Rattle.quick.proofs.RanLaws.{going-frames, turn-match, turn-pick, turn-pop, out-none, out-other, out-full, out-unserved, out-accepted, out-left}
 use Rattle.quick.proofs.ChoseLaws.{ran-none, going-calls, chose-length, chose-counted, chose-named, chose-small}

@@ -4,7 +4,7 @@ use native.Mathlib.Omega.{arith}
 use lib.ListN.{length-set}
 use borrow.Author.Needs.{needs}
 use Rattle.plain.proofs.BeginLaws.{ground-is, some-named}
-use Rattle.plain.proofs.CallLaws.{lent-of}
+use Rattle.machine.proofs.CallLaws.{lent-of}
 use Rattle.quick.proofs.ChoseLaws.{began-length, began-counted, began-named, began-small}
 use Rattle.quick.proofs.OpeningLaws.{opening-full, opening-stuck, opening-going, opening-ran}
 use Rattle.quick.proofs.machine.run.Statement.{statement}
