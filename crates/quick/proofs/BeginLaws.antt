@@ -68,16 +68,20 @@ module _ (t : List ℕ) (h : Ready t) (w ws : List ℕ) (lent : Lent (grammarIn 
             sets = λ f m n u v. absurd (omega arith);
           }
 
-      pub begin-single : {after : List ℕ} {known : ℕ} → e - s < 2 → after ≡ set ws (base + frameWords * 0) endPlace → known ≡ 0 → Began t w ws after c c known 1
-      begin-single l = begin-taken 1 (choice-single (grammarIn t) (marked w) c (endPlace ∷ []) 0 0 (le-ltb 1 (length (alternatives (grammarIn t) 0)) (omega (arith, counted))))
+      pub begin-single : {after : List ℕ} {known : ℕ} → e - s < 2 → after ≡ set ws (base + frameWords * 0) endPlace → known ≡ 0
+          → Began t w ws after c c known 1
+      begin-single l = begin-taken 1 (choice-single (grammarIn t) (marked w) c (endPlace ∷ []) 0 0
+          (le-ltb 1 (length (alternatives (grammarIn t) 0)) (omega (arith, counted))))
 
       module _ {x : Forecast} {c′ : List ℕ} (u : predicted x c′ ≡ predict (grammarIn t) c 0 (drop 0 (marked w))) (l : 2 ≤ e - s) where
-        pub begin-named : {b : ℕ} {after : List ℕ} {known : ℕ} → x ≡ Alternative b → after ≡ set ws (base + frameWords * 0) endPlace → known ≡ 0
+        pub begin-named : {b : ℕ} {after : List ℕ} {known : ℕ} → x ≡ Alternative b → after ≡ set ws (base + frameWords * 0) endPlace → known
+            ≡ 0
             → Began t w ws after c c′ known b
         begin-named {b} m q n = begin-taken b (decided c u l ∙ settle-named (grammarIn t) (marked w) (endPlace ∷ []) 0 0 (predicted x c′) b m) q n
 
         -- FULL: the cells, and by them the lowest alternative that serves
-        pub begin-full : {after us es ss : List ℕ} {b known : ℕ} → x ≡ Full → Filled t w ws us → Fit us → es ≡ emptySet → ss ≡ withOf es (length w)
+        pub begin-full : {after us es ss : List ℕ} {b known : ℕ} → x ≡ Full → Filled t w ws us → Fit us → es ≡ emptySet → ss
+            ≡ withOf es (length w)
             → b ≡ lowestIn t us 0 0 ss → after ≡ pushIf b us base 0 endPlace ss → known ≡ 1 → Began t w ws after c c′ known b
         unfolding Serving
         begin-full {after} {us} {es} {ss} {b} {known} m f fit p q k a n = go b refl
@@ -118,5 +122,6 @@ module _ (t : List ℕ) (h : Ready t) (w ws : List ℕ) (lent : Lent (grammarIn 
                   pushed = λ _. rw same (push-pushed us (ground t w) 0 endPlace ss room .top);
                   sets = λ g m l u v.
                       let k′ = derives-inside t h w g 0 m (ready-first t h 0 b g u) (omega arith) v in
-                      rw same (push-has us (ground t w) 0 endPlace ss room m (omega (arith, lent .short)) ∙ begin-right t h w us fit lent′ (f .charted) p q k b g m u v);
+                      rw same (push-has us (ground t w) 0 endPlace ss room m (omega (arith, lent .short))
+                      ∙ begin-right t h w us fit lent′ (f .charted) p q k b g m u v);
                 }

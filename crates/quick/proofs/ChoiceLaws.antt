@@ -44,7 +44,8 @@ module _ (g : Grammar) (w : List ℕ) where
       go (Alternative b) = refl
       go Full = refl
 
-  pub choice-decided : (c S : List ℕ) (a i : ℕ) → ltb 1 (length (alternatives g a)) ≡ true → quickChoice g w c S a i ≡ settle g w S a i (predict g c a (drop i w))
+  pub choice-decided : (c S : List ℕ) (a i : ℕ) → ltb 1 (length (alternatives g a)) ≡ true → quickChoice g w c S a i
+      ≡ settle g w S a i (predict g c a (drop i w))
   unfolding quickChoice
   choice-decided c S a i e = rw (quickChoice, e)
 
@@ -90,18 +91,21 @@ module _ (g : Grammar) (bytes w : List ℕ) (law : Predictor (Coherent g bytes) 
   settle-same : (c S : List ℕ) (a i : ℕ) → Coherent g bytes c → Decides g a → Served g w S a i → i < length w
       → ((b f : ℕ) → first g a b ≡ some f → Valid g (f ∷ S)) → (settle g w S a i (predict g c a (drop i w))) .choice ≡ lowest g w S a i
   unfolding settle
-  settle-same c S a i h d v l valid = go ((predict g c a (drop i w)) .forecast) (λ b y. law .agrees c a b (y .0) i S h d (y .1) (valid b (y .0) (y .1), l) (y .2))
+  settle-same c S a i h d v l valid =
+      go ((predict g c a (drop i w)) .forecast) (λ b y. law .agrees c a b (y .0) i S h d (y .1) (valid b (y .0) (y .1), l) (y .2))
     where
       only : (b e : ℕ) → FullOr b (Alternative e) → e ≡ b
       only b e (inl q) = clash (cc)
       only b e (inr q) = let z : e ≡ b = cc in z
 
-      go : (x : Forecast) → ((b : ℕ) → Serves g w S a i b → FullOr b x) → (settled g w S a i x ((predict g c a (drop i w)) .state)) .choice ≡ lowest g w S a i
+      go : (x : Forecast) → ((b : ℕ) → Serves g w S a i b → FullOr b x) → (settled g w S a i x ((predict g c a (drop i w)) .state)) .choice
+          ≡ lowest g w S a i
       go (Alternative e) agrees = lowest-of g w S a i e v (λ b y. only b e (agrees b y))
       go Full agrees = refl
 
   -- where some alternative serves, the lowest that does is chosen
-  pub choice-same : (c S : List ℕ) (a i : ℕ) → Coherent g bytes c → Served g w S a i → i < length w → ((b f : ℕ) → first g a b ≡ some f → Valid g (f ∷ S))
+  pub choice-same : (c S : List ℕ) (a i : ℕ) → Coherent g bytes c → Served g w S a i → i < length w
+      → ((b f : ℕ) → first g a b ≡ some f → Valid g (f ∷ S))
       → (quickChoice g w c S a i) .choice ≡ lowest g w S a i
   choice-same c S a i h v l valid = go (ltb 1 (length (alternatives g a))) refl
     where

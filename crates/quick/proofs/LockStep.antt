@@ -62,30 +62,36 @@ module _ (g : Grammar) (ordered : Ordered g) where
 
 module _ (g : Grammar) (bytes : List ℕ) (ordered : Ordered g) (w : List ℕ)
     (law : Predictor (Coherent g bytes) (Extends g) g w (Stands g w) (predict g)) where
-  pub call-lowest : (c S : List ℕ) (a i room : ℕ) → Coherent g bytes c → Served g w S a i → i < length w → ((b f : ℕ) → first g a b ≡ some f → Valid g (f ∷ S))
+  pub call-lowest : (c S : List ℕ) (a i room : ℕ) → Coherent g bytes c → Served g w S a i → i < length w
+      → ((b f : ℕ) → first g a b ≡ some f → Valid g (f ∷ S))
       → (quickCall g w c S a i room) .step ≡ onCall g (lowest g w) S a i room
   unfolding quickCall onCall
   call-lowest c S a i zero h v l valid = refl
   call-lowest c S a i (suc room) h v l valid = ap (onChoice g S a) (choice-same g bytes w law c S a i h v l valid)
 
-  symbol-lowest : (c : List ℕ) (p : ℕ) (S : List ℕ) (i room : ℕ) (s : Symbol) → facing g p ≡ s → Coherent g bytes c → Opens g w (p ∷ S) i → Valid g (p ∷ S) → Rests (p ∷ S)
+  symbol-lowest : (c : List ℕ) (p : ℕ) (S : List ℕ) (i room : ℕ) (s : Symbol) → facing g p ≡ s → Coherent g bytes c → Opens g w (p ∷ S) i
+      → Valid g (p ∷ S) → Rests (p ∷ S)
       → (quickSymbol g w c p S i room s) .step ≡ onSymbol g w (lowest g w) p S i room s
   unfolding quickSymbol onSymbol
   symbol-lowest c p S i room (Token k) e h x v y = refl
   symbol-lowest c p S i room (Nonterminal a) e h x v y =
-      call-lowest c (suc p ∷ S) a i room h (call-served (x .1) e) (based-left g ordered (x .1) (on (rests-call g ordered p a S e y))) (λ b f q. valid-call g ordered p a b f S e q v)
+      call-lowest c (suc p ∷ S) a i room h (call-served (x .1) e) (based-left g ordered (x .1) (on (rests-call g ordered p a S e y)))
+      (λ b f q. valid-call g ordered p a b f S e q v)
   symbol-lowest c p S i room End e h x v y = refl
 
-  pub step-lowest : (c S : List ℕ) (i room : ℕ) → Coherent g bytes c → Opens g w S i → Valid g S → Rests S → (quickStep g w c S i room) .step ≡ step g w (lowest g w) S i room
+  pub step-lowest : (c S : List ℕ) (i room : ℕ) → Coherent g bytes c → Opens g w S i → Valid g S → Rests S → (quickStep g w c S i room) .step
+      ≡ step g w (lowest g w) S i room
   unfolding quickStep step
   step-lowest c [] i room h x v y = refl
   step-lowest c (p ∷ S) i room h x v y = symbol-lowest c p S i room (facing g p) refl h x v y
 
   -- ---- the same steps
   abbrev Same : ℕ → Type 0
-  Same k = (S : List ℕ) (i room : ℕ) (c : List ℕ) → Coherent g bytes c → Opens g w S i → Valid g S → Rests S → (quickRun g w k S i room c) .outcome ≡ run g w (lowest g w) k S i room
+  Same k = (S : List ℕ) (i room : ℕ) (c : List ℕ) → Coherent g bytes c → Opens g w S i → Valid g S → Rests S
+      → (quickRun g w k S i room c) .outcome ≡ run g w (lowest g w) k S i room
 
-  on-same : (k : ℕ) → Same k → (S : List ℕ) (i room : ℕ) (c : List ℕ) (x : Step) → Seen g w (lowest g w) S i room x → Coherent g bytes c → Opens g w S i → Valid g S → Rests S
+  on-same : (k : ℕ) → Same k → (S : List ℕ) (i room : ℕ) (c : List ℕ) (x : Step) → Seen g w (lowest g w) S i room x → Coherent g bytes c
+      → Opens g w S i → Valid g S → Rests S
       → (followed (quickRun g w k) i room x c) .outcome ≡ follow (run g w (lowest g w) k) i room x
   on-same k rec S i room c x (ended e) h o v y = refl
   on-same k rec S i room c x (halted n) h o v y = refl
@@ -97,7 +103,8 @@ module _ (g : Grammar) (bytes : List ℕ) (ordered : Ordered g) (w : List ℕ)
       rec (suc p ∷ S′) (suc i₀) room₀ c h (o .0, z) (valid-token g ordered p k′ S′ e v) (rests-token g ordered p k′ S′ e y)
   on-same k rec S i room c x (picked {p = p} {a = a} {b = b} {f = f} {i = i₀} {room = room₀} {S = S′} e d q) h o v y =
       ap (prefix b)
-      (rec (f ∷ suc p ∷ S′) i₀ room₀ c h (serves-at a b (right-serves (lowest-right g w) (call-served (o .1) e) d) q) (valid-call g ordered p a b f S′ e q v)
+      (rec (f ∷ suc p ∷ S′) i₀ room₀ c h (serves-at a b (right-serves (lowest-right g w) (call-served (o .1) e) d) q)
+      (valid-call g ordered p a b f S′ e q v)
       (based (on (on (rests-call g ordered p a S′ e y)))))
 
   pub run-same : (k : ℕ) → Same k
@@ -107,4 +114,5 @@ module _ (g : Grammar) (bytes : List ℕ) (ordered : Ordered g) (w : List ℕ)
       let m = quickStep g w c S i room in
       let e = step-lowest c S i room h o v y in
       ap (λ (x : Step). (followed (quickRun g w k) i room x (m .words)) .outcome) e
-      ∙ on-same k (run-same k) S i room (m .words) (step g w (lowest g w) S i room) (see g w (lowest g w) S i room) (step-grows g bytes w law c S i room h .coherent) o v y
+      ∙ on-same k (run-same k) S i room (m .words) (step g w (lowest g w) S i room) (see g w (lowest g w) S i room)
+      (step-grows g bytes w law c S i room h .coherent) o v y

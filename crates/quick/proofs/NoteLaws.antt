@@ -53,10 +53,12 @@ module _ (g : Grammar) (ordered : Ordered g) (v : List ℕ) where
   read-sound k room c r q =
       let m = quickCall g (marked v) c (endPlace ∷ []) 0 0 room in
       let seen = call-seen g (chooser g (marked v) c) (endPlace ∷ []) 0 0 room in
-      called-sound k room c (m .words) r (m .step) (subst (Called g (chooser g (marked v) c) (endPlace ∷ []) 0 0 room) (sym (call-same g (marked v) c (endPlace ∷ []) 0 0 room)) seen) q
+      called-sound k room c (m .words) r (m .step)
+      (subst (Called g (chooser g (marked v) c) (endPlace ∷ []) 0 0 room) (sym (call-same g (marked v) c (endPlace ∷ []) 0 0 room)) seen) q
 
   -- a note that is no sentence is refused with 10 by any reading that accepts sentences alone
-  no-sentence : (row : List ℕ) (o : Outcome) → sentence? g v ≡ false → ((d : List ℕ) → o ≡ accepted d → Sentence g v) → onOutcome g v row o ≡ clear 10 (wrongPlace g v) row
+  no-sentence : (row : List ℕ) (o : Outcome) → sentence? g v ≡ false → ((d : List ℕ) → o ≡ accepted d → Sentence g v) → onOutcome g v row o
+      ≡ clear 10 (wrongPlace g v) row
   unfolding onOutcome
   no-sentence row (accepted d) e h = absurd (false→¬T (sentence? g v) e (sentence-iff g (ordered .end-mark) (ordered .end-past) v .1 (h d refl)))
   no-sentence row stuck e h = refl
@@ -86,15 +88,18 @@ module _ (g : Grammar) (bytes : List ℕ) (suits : Suits g bytes) (ordered : Ord
       (based (on floor)))
 
   -- a sentence is read as the plain reading reads it
-  read-same : (k room : ℕ) (c : List ℕ) → Sentence g v → Coherent g bytes c → (quickRead g (marked v) k room c) .outcome ≡ reading g (marked v) (lowest g (marked v)) k room
+  read-same : (k room : ℕ) (c : List ℕ) → Sentence g v → Coherent g bytes c → (quickRead g (marked v) k room c) .outcome
+      ≡ reading g (marked v) (lowest g (marked v)) k room
   unfolding quickRead reading
   read-same k room c h j =
       let m = quickCall g (marked v) c (endPlace ∷ []) 0 0 room in
       let served = sentence-serves g (ordered .end-mark) (ordered .end-past) v h in
-      let e = call-lowest g bytes ordered (marked v) law c (endPlace ∷ []) 0 0 room j served (omega (arith, length-marked v)) (λ b f q. (last (ordered .owns 0 b f q) refl, tt)) in
+      let e = call-lowest g bytes ordered (marked v) law c (endPlace ∷ []) 0 0 room j served (omega (arith, length-marked v))
+      (λ b f q. (last (ordered .owns 0 b f q) refl, tt)) in
       let grown = call-grows g bytes (marked v) law c (endPlace ∷ []) 0 0 room j in
       ap (λ (x : Step). (followed (quickRun g (marked v) k) 0 room x (m .words)) .outcome) e
-      ∙ called-same k room (m .words) (onCall g (lowest g (marked v)) (endPlace ∷ []) 0 0 room) h (grown .coherent) (call-seen g (lowest g (marked v)) (endPlace ∷ []) 0 0 room)
+      ∙ called-same k room (m .words) (onCall g (lowest g (marked v)) (endPlace ∷ []) 0 0 room) h (grown .coherent)
+      (call-seen g (lowest g (marked v)) (endPlace ∷ []) 0 0 room)
 
   -- THE SAME ANSWER
   pub note-answer : (row c : List ℕ) → Coherent g bytes c → onOutcome g v row ((quickNote g v (length row) c) .outcome) ≡ readNote g v row
@@ -105,8 +110,10 @@ module _ (g : Grammar) (bytes : List ℕ) (suits : Suits g bytes) (ordered : Ord
       k = suc (2 * length row + length (marked v))
 
       go : (x : Bool) → sentence? g v ≡ x
-          → onOutcome g v row ((quickRead g (marked v) k (length row) c) .outcome) ≡ onOutcome g v row (reading g (marked v) (lowest g (marked v)) k (length row))
-      go true e = ap (onOutcome g v row) (read-same k (length row) c (sentence-iff g (ordered .end-mark) (ordered .end-past) v .0 (true→T (sentence? g v) e)) j)
+          → onOutcome g v row ((quickRead g (marked v) k (length row) c) .outcome)
+          ≡ onOutcome g v row (reading g (marked v) (lowest g (marked v)) k (length row))
+      go true e = ap (onOutcome g v row)
+          (read-same k (length row) c (sentence-iff g (ordered .end-mark) (ordered .end-past) v .0 (true→T (sentence? g v) e)) j)
       go false e =
           no-sentence g ordered v row ((quickRead g (marked v) k (length row) c) .outcome) e (λ d q. read-sound g ordered v k (length row) c d q)
           ∙ sym (no-sentence g ordered v row (reading g (marked v) (lowest g (marked v)) k (length row)) e
@@ -122,7 +129,8 @@ module _ (g : Grammar) (bytes : List ℕ) (suits : Suits g bytes) (ordered : Ord
       on-grown g bytes (marked v) law c (m .words) _ x (go-grows g bytes (marked v) law k 0 room m (x .coherent))
 
   -- READ AGAIN over words that have only grown since, it leaves them as found
-  pub note-again : (room : ℕ) (c d : List ℕ) → Coherent g bytes c → Coherent g bytes d → Extends g ((quickNote g v room c) .words) d → (quickNote g v room d) .words ≡ d
+  pub note-again : (room : ℕ) (c d : List ℕ) → Coherent g bytes c → Coherent g bytes d → Extends g ((quickNote g v room c) .words) d
+      → (quickNote g v room d) .words ≡ d
   unfolding quickNote quickRead
   note-again room c d j i e =
       let k = suc (2 * room + length (marked v)) in
@@ -130,5 +138,7 @@ module _ (g : Grammar) (bytes : List ℕ) (suits : Suits g bytes) (ordered : Ord
       let x = call-grows g bytes (marked v) law c (endPlace ∷ []) 0 0 room j in
       let y = go-grows g bytes (marked v) law k 0 room m (x .coherent) in
       let q = call-again g bytes (marked v) law c d (endPlace ∷ []) 0 0 room j i (extends-trans g _ _ _ (y .extends) e) in
-      let z : goOn (quickRun g (marked v) k) 0 room (quickCall g (marked v) d (endPlace ∷ []) 0 0 room) ≡ stopped ((goOn (quickRun g (marked v) k) 0 room m) .outcome) d = ap (goOn (quickRun g (marked v) k) 0 room) q ∙ go-again g bytes (marked v) law k 0 room m d (x .coherent) i e in
+      let z : goOn (quickRun g (marked v) k) 0 room (quickCall g (marked v) d (endPlace ∷ []) 0 0 room)
+      ≡ stopped ((goOn (quickRun g (marked v) k) 0 room m) .outcome) d = ap (goOn (quickRun g (marked v) k) 0 room) q
+      ∙ go-again g bytes (marked v) law k 0 room m d (x .coherent) i e in
       rw z

@@ -57,7 +57,8 @@ module _ (t : List ℕ) (h : Ready t) (w ws c : List ℕ) {d p a i known : ℕ} 
         chosen = rw e;
         words = rw e;
         kept = ap length z ∙ length-set ws (ground t w + frameWords * d) (suc p);
-        charted = λ n. rw z (low-charted t w ws (set ws (ground t w + frameWords * d) (suc p)) (λ j l. getD-set-other ws (ground t w + frameWords * d) j (suc p) 0 (λ y. omega arith)) (x .charted (omega arith)));
+        charted = λ n. rw z (low-charted t w ws (set ws (ground t w + frameWords * d) (suc p))
+            (λ j l. getD-set-other ws (ground t w + frameWords * d) j (suc p) 0 (λ y. omega arith)) (x .charted (omega arith)));
         mid = ws;
         prepared = record {
           kept = refl;
@@ -130,7 +131,8 @@ module _ (t : List ℕ) (h : Ready t) (w ws c : List ℕ) {d p a i known : ℕ} 
         → ((r ≡ 0 → ⊥) → known′ ≡ suc d) → Chose t w ws after c (l .state) d p a i known′ r
     pick-full {known′} {r} {after} n y zero-known some-known =
         record {
-          chosen = y .called .chosen ∙ (ap (λ (S : List ℕ). orZero (lowest (grammarIn t) (marked w) (suc p ∷ S) a i)) (v .same) ∙ sym (ap (λ (o : Picked). orZero (o .choice)) q));
+          chosen = y .called .chosen ∙ (ap (λ (S : List ℕ). orZero (lowest (grammarIn t) (marked w) (suc p ∷ S) a i)) (v .same)
+              ∙ sym (ap (λ (o : Picked). orZero (o .choice)) q));
           words = sym (ap (λ (o : Picked). o .words) q);
           kept = y .called .kept ∙ v .kept;
           charted = λ _. y .called .charted;
@@ -154,7 +156,8 @@ module _ (t : List ℕ) (h : Ready t) (w ws c : List ℕ) {d p a i known : ℕ} 
   -- a single production
   pub pick-single : {known′ f : ℕ} {after : List ℕ} → length (alternatives (grammarIn t) a) ≤ 1 → first (grammarIn t) a 1 ≡ some f
       → after ≡ set ws (ground t w + frameWords * d) (suc p) → known′ ≡ min known d → Chose t w ws after c c d p a i known′ 1
-  pick-single {known′} {f} n q z k = taken 1 known′ (choice-single (grammarIn t) (marked w) c (waiting t w ws d p) a i (le-ltb 1 (length (alternatives (grammarIn t) a)) n)) f q z k
+  pick-single {known′} {f} n q z k =
+      taken 1 known′ (choice-single (grammarIn t) (marked w) c (waiting t w ws d p) a i (le-ltb 1 (length (alternatives (grammarIn t) a)) n)) f q z k
 
 -- ---- with the tables' count of alternatives, and with what the code's calls ensure
 module _ (t : List ℕ) (h : Ready t) (w ws : List ℕ) {d p a i known : ℕ} (call : Calls t w ws d p a i known) where
@@ -182,16 +185,19 @@ module _ (t : List ℕ) (h : Ready t) (w ws : List ℕ) {d p a i known : ℕ} (c
         omega (arith, frame-room t h w ws (call .lent) d p i (call .held) 1 (call .calls) (f .1))
 
     module _ (c : List ℕ) {base : ℕ} (z : base ≡ ground t w) {after : List ℕ} {known′ : ℕ} where
-      pub decide-single : e - s < 2 → after ≡ set ws (base + frameWords * d) (p + 1) → known′ ≡ min known d → Chose t w ws after c c d p a i known′ 1
+      pub decide-single : e - s < 2 → after ≡ set ws (base + frameWords * d) (p + 1) → known′ ≡ min known d
+          → Chose t w ws after c c d p a i known′ 1
       decide-single l q k =
           let m = decide-order in
           let f = within 1 (omega arith) (omega arith) in
           pick-single t h w ws c call (omega (arith, counted)) (f .1) (rw (z, add-one) at q) k
 
       module _ {x : Forecast} {c′ : List ℕ} (u : predicted x c′ ≡ predict (grammarIn t) c a (drop i (marked w))) (l : 2 ≤ e - s) where
-        pub decide-named : {b : ℕ} → x ≡ Alternative b → after ≡ set ws (base + frameWords * d) (p + 1) → known′ ≡ min known d → Chose t w ws after c c′ d p a i known′ b
+        pub decide-named : {b : ℕ} → x ≡ Alternative b → after ≡ set ws (base + frameWords * d) (p + 1) → known′ ≡ min known d
+            → Chose t w ws after c c′ d p a i known′ b
         decide-named {b} m q n =
-            let said : (predict (grammarIn t) c a (drop i (marked w))) .forecast ≡ Alternative b = ap (λ (v : Predicted (List ℕ)). v .forecast) (sym u) ∙ m in
+            let said : (predict (grammarIn t) c a (drop i (marked w))) .forecast ≡ Alternative b = ap (λ (v : Predicted (List ℕ)). v .forecast) (sym u)
+            ∙ m in
             let (low, high) = predict-named (grammarIn t) c a (drop i (marked w)) b said in
             let f = within b low (omega (arith, counted)) in
             pick-named t h w ws c call (sym u) (omega (arith, counted)) m (f .1) (rw (z, add-one) at q) n

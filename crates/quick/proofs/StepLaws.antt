@@ -30,7 +30,8 @@ module _ (g : Grammar) (w : List ℕ) where
   call-same c S a i zero = refl
   call-same c S a i (suc room) = refl
 
-  symbol-same : (c : List ℕ) (p : ℕ) (S : List ℕ) (i room : ℕ) (s : Symbol) → (quickSymbol g w c p S i room s) .step ≡ onSymbol g w (chooser c) p S i room s
+  symbol-same : (c : List ℕ) (p : ℕ) (S : List ℕ) (i room : ℕ) (s : Symbol) → (quickSymbol g w c p S i room s) .step
+      ≡ onSymbol g w (chooser c) p S i room s
   unfolding quickSymbol onSymbol
   symbol-same c p S i room (Token k) = refl
   symbol-same c p S i room (Nonterminal a) = call-same c (suc p ∷ S) a i room
@@ -43,15 +44,18 @@ module _ (g : Grammar) (w : List ℕ) where
 
   -- ---- sound, whatever the words
   abbrev Sound : ℕ → Type 0
-  Sound k = (S : List ℕ) (i room : ℕ) (c r : List ℕ) → (quickRun g w k S i room c) .outcome ≡ accepted r → Run g w S i (length w) r × (length r ≤ room)
+  Sound k = (S : List ℕ) (i room : ℕ) (c r : List ℕ) → (quickRun g w k S i room c) .outcome ≡ accepted r → Run g w S i (length w) r
+      × (length r ≤ room)
 
-  sound-on : (k : ℕ) → Sound k → (S : List ℕ) (i room : ℕ) (c d r : List ℕ) (x : Step) → Seen g w (chooser c) S i room x → (followed (quickRun g w k) i room x d) .outcome ≡ accepted r
+  sound-on : (k : ℕ) → Sound k → (S : List ℕ) (i room : ℕ) (c d r : List ℕ) (x : Step) → Seen g w (chooser c) S i room x
+      → (followed (quickRun g w k) i room x d) .outcome ≡ accepted r
       → Run g w S i (length w) r × (length r ≤ room)
   sound-on k rec S i room c d r x (ended e) q = let z : [] ≡ r = cc in rw (← z, e) (Run.done {i = length w} (omega arith), omega arith)
   sound-on k rec S i room c d r x (halted n) q = clash (cc)
   sound-on k rec S i room c d r x (crammed e) q = clash (cc)
   sound-on k rec S i room c d r x (popped {i = i₀} {room = room₀} {S = S′} e) q = let h = rec S′ i₀ room₀ d r q in (Run.finish e (h .0), h .1)
-  sound-on k rec S i room c d r x (matched {p = p} {i = i₀} {room = room₀} {S = S′} e f t) q = let h = rec (suc p ∷ S′) (suc i₀) room₀ d r q in (Run.match e f t (h .0), h .1)
+  sound-on k rec S i room c d r x (matched {p = p} {i = i₀} {room = room₀} {S = S′} e f t) q = let h = rec (suc p ∷ S′) (suc i₀) room₀ d r q in
+      (Run.match e f t (h .0), h .1)
   sound-on k rec S i room c d r x (picked {p = p} {b = b} {f = f} {i = i₀} {room = room₀} {S = S′} e y u) q =
       let (s, q′, z) = prefix-accepted b ((quickRun g w k (f ∷ suc p ∷ S′) i₀ room₀ d) .outcome) {r = r} q in
       let h = rec (f ∷ suc p ∷ S′) i₀ room₀ d s q′ in
@@ -63,7 +67,8 @@ module _ (g : Grammar) (w : List ℕ) where
   run-sound zero S i room c r q = clash (cc)
   run-sound (suc k) S i room c r q =
       let m = quickStep g w c S i room in
-      sound-on k (run-sound k) S i room c (m .words) r (m .step) (subst (Seen g w (chooser c) S i room) (sym (step-same c S i room)) (see g w (chooser c) S i room)) q
+      sound-on k (run-sound k) S i room c (m .words) r (m .step)
+      (subst (Seen g w (chooser c) S i room) (sym (step-same c S i room)) (see g w (chooser c) S i room)) q
 
 module _ (g : Grammar) (bytes w : List ℕ) (law : Predictor (Coherent g bytes) (Extends g) g w (Stands g w) (predict g)) where
   -- ---- words only grow
@@ -81,7 +86,8 @@ module _ (g : Grammar) (bytes w : List ℕ) (law : Predictor (Coherent g bytes) 
   call-grows c S a i zero h = still c h
   call-grows c S a i (suc room) h = choice-grows g bytes w law c S a i h
 
-  symbol-grows : (c : List ℕ) (p : ℕ) (S : List ℕ) (i room : ℕ) (s : Symbol) → Coherent g bytes c → Grows c ((quickSymbol g w c p S i room s) .words)
+  symbol-grows : (c : List ℕ) (p : ℕ) (S : List ℕ) (i room : ℕ) (s : Symbol) → Coherent g bytes c
+      → Grows c ((quickSymbol g w c p S i room s) .words)
   unfolding quickSymbol
   symbol-grows c p S i room (Token k) h = still c h
   symbol-grows c p S i room (Nonterminal a) h = call-grows c (suc p ∷ S) a i room h
@@ -95,7 +101,8 @@ module _ (g : Grammar) (bytes w : List ℕ) (law : Predictor (Coherent g bytes) 
   abbrev RunGrows : ℕ → Type 0
   RunGrows k = (S : List ℕ) (i room : ℕ) (c : List ℕ) → Coherent g bytes c → Grows c ((quickRun g w k S i room c) .words)
 
-  on-grows : (k : ℕ) → RunGrows k → (i room : ℕ) (x : Step) (c : List ℕ) → Coherent g bytes c → Grows c ((followed (quickRun g w k) i room x c) .words)
+  on-grows : (k : ℕ) → RunGrows k → (i room : ℕ) (x : Step) (c : List ℕ) → Coherent g bytes c
+      → Grows c ((followed (quickRun g w k) i room x c) .words)
   on-grows k rec i room (halt o) c h = still c h
   on-grows k rec i room (move S i′) c h = rec S i′ room c h
   on-grows k rec i room (pick b S) c h = rec S i (pred room) c h
@@ -119,7 +126,8 @@ module _ (g : Grammar) (bytes w : List ℕ) (law : Predictor (Coherent g bytes) 
   call-again c d S a i zero h j x = refl
   call-again c d S a i (suc room) h j x = ap (chosenStep g S a) (choice-again g bytes w law c d S a i h j x)
 
-  symbol-again : (c d : List ℕ) (p : ℕ) (S : List ℕ) (i room : ℕ) (s : Symbol) → Coherent g bytes c → Coherent g bytes d → Extends g ((quickSymbol g w c p S i room s) .words) d
+  symbol-again : (c d : List ℕ) (p : ℕ) (S : List ℕ) (i room : ℕ) (s : Symbol) → Coherent g bytes c → Coherent g bytes d
+      → Extends g ((quickSymbol g w c p S i room s) .words) d
       → quickSymbol g w d p S i room s ≡ moved ((quickSymbol g w c p S i room s) .step) d
   unfolding quickSymbol
   symbol-again c d p S i room (Token k) h j x = refl
@@ -136,7 +144,8 @@ module _ (g : Grammar) (bytes w : List ℕ) (law : Predictor (Coherent g bytes) 
   RunAgain k = (S : List ℕ) (i room : ℕ) (c d : List ℕ) → Coherent g bytes c → Coherent g bytes d → Extends g ((quickRun g w k S i room c) .words) d
       → quickRun g w k S i room d ≡ stopped ((quickRun g w k S i room c) .outcome) d
 
-  on-again : (k : ℕ) → RunAgain k → (i room : ℕ) (x : Step) (c d : List ℕ) → Coherent g bytes c → Coherent g bytes d → Extends g ((followed (quickRun g w k) i room x c) .words) d
+  on-again : (k : ℕ) → RunAgain k → (i room : ℕ) (x : Step) (c d : List ℕ) → Coherent g bytes c → Coherent g bytes d
+      → Extends g ((followed (quickRun g w k) i room x c) .words) d
       → followed (quickRun g w k) i room x d ≡ stopped ((followed (quickRun g w k) i room x c) .outcome) d
   on-again k rec i room (halt o) c d h j e = refl
   on-again k rec i room (move S i′) c d h j e = rec S i′ room c d h j e
@@ -152,6 +161,7 @@ module _ (g : Grammar) (bytes w : List ℕ) (law : Predictor (Coherent g bytes) 
       let z = step-again c d S i room h j (extends-trans g _ _ _ (y .extends) e) in
       ap (goOn (quickRun g w k) i room) z ∙ on-again k (run-again k) i room (m .step) (m .words) d (x .coherent) j e
 
-  pub go-again : (k i room : ℕ) (m : Moved) (d : List ℕ) → Coherent g bytes (m .words) → Coherent g bytes d → Extends g ((goOn (quickRun g w k) i room m) .words) d
+  pub go-again : (k i room : ℕ) (m : Moved) (d : List ℕ) → Coherent g bytes (m .words) → Coherent g bytes d
+      → Extends g ((goOn (quickRun g w k) i room m) .words) d
       → goOn (quickRun g w k) i room (moved (m .step) d) ≡ stopped ((goOn (quickRun g w k) i room m) .outcome) d
   go-again k i room m d h j e = on-again k (run-again k) i room (m .step) (m .words) d h j e

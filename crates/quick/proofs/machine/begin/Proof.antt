@@ -1,6 +1,6 @@
--- `quick::machine::begin` meets its contract.
+-- `quick::machine::begin` meets its contract: a single production and a predicted alternative are taken without a set, and where FULL is said the lowest
+-- alternative that serves is.
 use mathlib.Core.Path.{_≡_, refl, sym}
-use mathlib.Core.Logic.{⊎-elim}
 use native.Mathlib.Omega.{arith}
 use lib.ListN.{length}
 use borrow.Author.Needs.{needs}
@@ -11,81 +11,130 @@ use Rattle.quick.proofs.BeginLaws.{begin-room, begin-order, begin-singl
 use Rattle.quick.proofs.machine.begin.Statement.{statement}
 use Rattle.quick.proofs.machine.begin.Tie as tie
 
--- src/machine.rt:39:17
 rule-at-requires : tie.Need-rule-at-requires
 rule-at-requires c κs = search needs
 
--- src/machine.rt:39:47
 rule-at-requires-2 : tie.Need-rule-at-requires-2
 rule-at-requires-2 c κs = search needs
 
--- src/machine.rt:39:17
 sub-count : tie.Need-sub-count
-sub-count c = omega (arith, begin-order ((c .before .before .before .before .before .before .args .tables .now)) (c .before .before .before .before .before .before .pre .0) ((c .before .before .before .before .before .before .args .note .now)) ((c .before .before .before .before .before .before .args .ws .now)) (lent-of (sym (c .before .before .before .before .before .before .pre .1)) (c .before .before .before .before .before .before .pre .3)) (c .rule-at2 .ensures) (c .before .rule-at .ensures))
+sub-count c =
+    let at-entry = c .before .before .before .before .before .before in
+    omega (
+      arith,
+      begin-order ((at-entry .args .tables .now)) (at-entry .pre .0) ((at-entry .args .note .now)) ((at-entry .args .ws .now))
+          (lent-of (sym (at-entry .pre .1)) (at-entry .pre .3)) (c .rule-at2 .ensures) (c .before .rule-at .ensures),
+    )
 
--- src/machine.rt:41:13
 push-requires : tie.Need-push-requires
-push-requires c κs = (rw (c .before .before .before .before .before .before .before .before .pre .2) (begin-room ((c .before .before .before .before .before .before .before .before .args .tables .now)) (c .before .before .before .before .before .before .before .before .pre .0) ((c .before .before .before .before .before .before .before .before .args .note .now)) ((c .before .before .before .before .before .before .before .before .args .ws .now)) (lent-of (sym (c .before .before .before .before .before .before .before .before .pre .1)) (c .before .before .before .before .before .before .before .before .pre .3))), omega arith)
+push-requires c κs =
+    let at-entry = c .before .before .before .before .before .before .before .before in (
+      rw (at-entry .pre .2) (begin-room ((at-entry .args .tables .now)) (at-entry .pre .0) ((at-entry .args .note .now)) ((at-entry .args .ws .now))
+          (lent-of (sym (at-entry .pre .1)) (at-entry .pre .3))),
+      omega arith,
+    )
 
--- src/machine.rt:42:9
 same-length : tie.Need-same-length
 same-length c = search needs
 
--- src/machine.rt:42:9
 returns : tie.Need-returns
-returns c = begin-single ((c .before .before .before .before .before .before .before .before .before .before .before .args .tables .now)) (c .before .before .before .before .before .before .before .before .before .before .before .pre .0) ((c .before .before .before .before .before .before .before .before .before .before .before .args .note .now)) ((c .before .before .before .before .before .before .before .before .before .before .before .args .ws .now)) (lent-of (sym (c .before .before .before .before .before .before .before .before .before .before .before .pre .1)) (c .before .before .before .before .before .before .before .before .before .before .before .pre .3)) (c .before .before .before .before .before .rule-at2 .ensures) (c .before .before .before .before .before .before .rule-at .ensures) _ (c .before .before .before .before .before .before .before .before .before .before .before .pre .2) (omega arith) (c .before .before .push .ensures .0) (c .before .before .push .ensures .1)
+returns c =
+    let at-push = c .before .before in
+    let at-rule-at2 = at-push .before .before .before in
+    let at-rule-at = at-rule-at2 .before in
+    let at-entry = at-rule-at .before .before .before .before .before in
+    begin-single ((at-entry .args .tables .now)) (at-entry .pre .0) ((at-entry .args .note .now)) ((at-entry .args .ws .now))
+    (lent-of (sym (at-entry .pre .1)) (at-entry .pre .3)) (at-rule-at2 .rule-at2 .ensures) (at-rule-at .rule-at .ensures) _ (at-entry .pre .2)
+    (omega arith) (at-push .push .ensures .0) (at-push .push .ensures .1)
 
--- src/machine.rt:44:29
 predict-requires : tie.Need-predict-requires
-predict-requires c κs = ((c .before .before .before .before .before .before .before .before .pre .0), (c .before .before .before .before .before .before .before .before .pre .4), some-named _ (c .before .before .before .before .before .before .before .before .pre .0), omega arith, (c .before .before .before .before .before .before .before .before .pre .5))
+predict-requires c κs =
+    let at-entry = c .before .before .before .before .before .before .before .before in
+    let call = at-entry .pre in
+    record { ready = call .0; long = call .4; names = some-named _ (call .0); within = omega arith; known = call .5 }
 
--- src/machine.rt:44:9
-number-requires : tie.Need-number-requires
-number-requires c κs = search needs
+enum-known-forecast : tie.Need-enum-known-forecast
+enum-known-forecast c = search needs
 
--- src/machine.rt:47:17
+enum-told : tie.Need-enum-told
+enum-told c = search needs
+
 push-requires-2 : tie.Need-push-requires-2
-push-requires-2 c κs = (rw (c .before .before .before .before .before .before .before .before .before .before .before .before .before .before .before .pre .2) (begin-room ((c .before .before .before .before .before .before .before .before .before .before .before .before .before .before .before .args .tables .now)) (c .before .before .before .before .before .before .before .before .before .before .before .before .before .before .before .pre .0) ((c .before .before .before .before .before .before .before .before .before .before .before .before .before .before .before .args .note .now)) ((c .before .before .before .before .before .before .before .before .before .before .before .before .before .before .before .args .ws .now)) (lent-of (sym (c .before .before .before .before .before .before .before .before .before .before .before .before .before .before .before .pre .1)) (c .before .before .before .before .before .before .before .before .before .before .before .before .before .before .before .pre .3))), omega arith)
+push-requires-2 c κs =
+    let at-entry = c .before .before .before .before .before .before .before .before .before .before .before .before .before .before .before in (
+      rw (at-entry .pre .2) (begin-room ((at-entry .args .tables .now)) (at-entry .pre .0) ((at-entry .args .note .now)) ((at-entry .args .ws .now))
+          (lent-of (sym (at-entry .pre .1)) (at-entry .pre .3))),
+      omega arith,
+    )
 
--- src/machine.rt:48:13
 same-length-2 : tie.Need-same-length-2
 same-length-2 c = search needs
 
--- src/machine.rt:48:13
 same-length-3 : tie.Need-same-length-3
 same-length-3 c = search needs
 
--- src/machine.rt:48:13
 returns-2 : tie.Need-returns-2
-returns-2 c = begin-named ((c .before .before .before .before .before .before .before .before .before .before .before .before .before .before .before .before .before .before .args .tables .now)) (c .before .before .before .before .before .before .before .before .before .before .before .before .before .before .before .before .before .before .pre .0) ((c .before .before .before .before .before .before .before .before .before .before .before .before .before .before .before .before .before .before .args .note .now)) ((c .before .before .before .before .before .before .before .before .before .before .before .before .before .before .before .before .before .before .args .ws .now)) (lent-of (sym (c .before .before .before .before .before .before .before .before .before .before .before .before .before .before .before .before .before .before .pre .1)) (c .before .before .before .before .before .before .before .before .before .before .before .before .before .before .before .before .before .before .pre .3)) (c .before .before .before .before .before .before .before .before .before .before .before .before .rule-at2 .ensures) (c .before .before .before .before .before .before .before .before .before .before .before .before .before .rule-at .ensures) _ (c .before .before .before .before .before .before .before .before .before .before .before .before .before .before .before .before .before .before .pre .2) (c .before .before .before .before .before .before .before .before .before .predict .ensures) (c .before .before .before .before .before .before .number .ensures) (omega arith) (omega arith) (omega arith) (c .before .before .push2 .ensures .0) (c .before .before .push2 .ensures .1)
+returns-2 c =
+    let at-push2 = c .before .before in
+    let at-forecast = at-push2 .before .before .before in
+    let at-predict = at-forecast .before .before .before .before in
+    let at-rule-at2 = at-predict .before .before .before in
+    let at-rule-at = at-rule-at2 .before in
+    let at-entry = at-rule-at .before .before .before .before .before in
+    begin-named ((at-entry .args .tables .now)) (at-entry .pre .0) ((at-entry .args .note .now)) ((at-entry .args .ws .now))
+    (lent-of (sym (at-entry .pre .1)) (at-entry .pre .3)) (at-rule-at2 .rule-at2 .ensures) (at-rule-at .rule-at .ensures) _ (at-entry .pre .2)
+    (at-predict .predict .ensures) (omega arith) (at-forecast .forecast .given .1) (at-push2 .push2 .ensures .0) (at-push2 .push2 .ensures .1)
 
--- src/machine.rt:51:5
 fill-requires : tie.Need-fill-requires
 fill-requires c κs = search needs
 
--- src/machine.rt:52:13
 empty-requires : tie.Need-empty-requires
 empty-requires c κs = search needs
 
--- src/machine.rt:52:9
 with-requires : tie.Need-with-requires
 with-requires c κs = search needs
 
--- src/machine.rt:53:9
 choose-requires : tie.Need-choose-requires
-choose-requires c κs = ((c .before .before .before .before .before .before .before .before .before .before .before .before .before .before .before .before .before .before .before .before .pre .0), (c .before .before .before .before .before .before .before .before .before .before .before .before .before .before .before .before .before .before .before .before .pre .1), lent-at (length ((c .before .before .before .before .before .before .before .before .before .before .before .before .before .before .before .before .before .before .before .before .args .note .now))) 0 refl (lent-kept (c .before .before .before .before .before .fill .ensures .kept) (c .before .before .before .before .before .before .before .before .before .before .before .before .before .before .before .before .before .before .before .before .pre .3)) (omega arith), some-named _ (c .before .before .before .before .before .before .before .before .before .before .before .before .before .before .before .before .before .before .before .before .pre .0), (λ b f e. rw (c .before .before .before .before .before .before .before .before .before .before .before .before .before .before .before .before .before .before .before .before .pre .2) (omega (arith, begin-room ((c .before .before .before .before .before .before .before .before .before .before .before .before .before .before .before .before .before .before .before .before .args .tables .now)) (c .before .before .before .before .before .before .before .before .before .before .before .before .before .before .before .before .before .before .before .before .pre .0) ((c .before .before .before .before .before .before .before .before .before .before .before .before .before .before .before .before .before .before .before .before .args .note .now)) ((c .before .before .before .before .before .before .before .before .before .before .before .before .before .before .before .before .before .before .before .before .args .ws .now)) (lent-of (sym (c .before .before .before .before .before .before .before .before .before .before .before .before .before .before .before .before .before .before .before .before .pre .1)) (c .before .before .before .before .before .before .before .before .before .before .before .before .before .before .before .before .before .before .before .before .pre .3)), (c .before .before .before .before .before .fill .ensures .kept)))), omega arith)
+choose-requires c κs =
+    let at-fill = c .before .before .before .before .before in
+    let at-entry = at-fill .before .before .before .before .before .before .before .before .before .before .before .before .before .before .before in (
+      (at-entry .pre .0),
+      (at-entry .pre .1),
+      lent-at (length ((at-entry .args .note .now))) 0 refl (lent-kept (at-fill .fill .ensures .kept) (at-entry .pre .3)) (omega arith),
+      some-named _ (at-entry .pre .0),
+      (λ b f e. rw (at-entry .pre .2)
+          (omega (
+            arith,
+            begin-room ((at-entry .args .tables .now)) (at-entry .pre .0) ((at-entry .args .note .now)) ((at-entry .args .ws .now))
+                (lent-of (sym (at-entry .pre .1)) (at-entry .pre .3)),
+            (at-fill .fill .ensures .kept),
+          ))),
+      omega arith,
+    )
 
--- src/machine.rt:28:1
 same-length-4 : tie.Need-same-length-4
 same-length-4 c = search needs
 
--- src/machine.rt:28:1
 same-length-5 : tie.Need-same-length-5
 same-length-5 c = search needs
 
--- src/machine.rt:28:1
 returns-3 : tie.Need-returns-3
-returns-3 c = begin-full ((c .before .before .before .before .before .before .before .before .before .before .before .before .before .before .before .before .before .before .before .before .before .before .before .args .tables .now)) (c .before .before .before .before .before .before .before .before .before .before .before .before .before .before .before .before .before .before .before .before .before .before .before .pre .0) ((c .before .before .before .before .before .before .before .before .before .before .before .before .before .before .before .before .before .before .before .before .before .before .before .args .note .now)) ((c .before .before .before .before .before .before .before .before .before .before .before .before .before .before .before .before .before .before .before .before .before .before .before .args .ws .now)) (lent-of (sym (c .before .before .before .before .before .before .before .before .before .before .before .before .before .before .before .before .before .before .before .before .before .before .before .pre .1)) (c .before .before .before .before .before .before .before .before .before .before .before .before .before .before .before .before .before .before .before .before .before .before .before .pre .3)) (c .before .before .before .before .before .before .before .before .before .before .before .before .before .before .before .before .before .rule-at2 .ensures) (c .before .before .before .before .before .before .before .before .before .before .before .before .before .before .before .before .before .before .rule-at .ensures) _ (c .before .before .before .before .before .before .before .before .before .before .before .before .before .before .before .before .before .before .before .before .before .before .before .pre .2) (c .before .before .before .before .before .before .before .before .before .before .before .before .before .before .predict .ensures) (c .before .before .before .before .before .before .before .before .before .before .before .number .ensures) (omega arith) (⊎-elim (λ y m. omega (arith, y .1 .left)) (λ y m. omega (arith, y .left)) (c .before .before .before .before .before .before .before .before .before .before .if2 .came)) (c .before .before .before .before .before .before .before .before .fill .ensures) (λ k. (c .before .before .before .before .before .before .slice-known6 .given) k .fits) (c .before .before .before .before .before .empty .ensures) (c .before .before .before .before .with .ensures) (c .before .before .choose .ensures .0) (c .before .before .choose .ensures .1) refl
+returns-3 c =
+    let at-choose = c .before .before in
+    let at-with = at-choose .before .before in
+    let at-empty = at-with .before in
+    let at-slice-known6 = at-empty .before in
+    let at-fill = at-slice-known6 .before .before in
+    let at-enum-told = at-fill .before .before in
+    let at-predict = at-enum-told .before .before .before .before in
+    let at-rule-at2 = at-predict .before .before .before in
+    let at-rule-at = at-rule-at2 .before in
+    let at-entry = at-rule-at .before .before .before .before .before in
+    begin-full ((at-entry .args .tables .now)) (at-entry .pre .0) ((at-entry .args .note .now)) ((at-entry .args .ws .now))
+    (lent-of (sym (at-entry .pre .1)) (at-entry .pre .3)) (at-rule-at2 .rule-at2 .ensures) (at-rule-at .rule-at .ensures) _ (at-entry .pre .2)
+    (at-predict .predict .ensures) (omega arith) (at-enum-told .enum-told .given .1) (at-fill .fill .ensures)
+    (λ k. (at-slice-known6 .slice-known6 .given) k .fits) (at-empty .empty .ensures) (at-with .with .ensures) (at-choose .choose .ensures .0)
+    (at-choose .choose .ensures .1) refl
 
 pub begin-spec : {M : Type 1} → statement M
 begin-spec =
@@ -98,11 +147,12 @@ begin-spec =
     same-length
     returns
     predict-requires
-    number-requires
+    enum-known-forecast
     push-requires-2
     same-length-2
     same-length-3
     returns-2
+    enum-told
     fill-requires
     empty-requires
     with-requires
