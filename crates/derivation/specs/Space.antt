@@ -8,9 +8,16 @@ use lib.ListN.{getD}
 abbrev pub maxTokens : ℕ
 maxTokens = 128
 
--- words that a reading of n tokens by a grammar of P places is lent
+-- words that a reading is lent: so many, and so many for each place and position
+abbrev pub spaceFixed : ℕ
+spaceFixed = 8192
+
+abbrev pub spaceEach : ℕ
+spaceEach = 8
+
+-- for n tokens and a grammar of P places
 abbrev pub spaceWords : ℕ → ℕ → ℕ
-spaceWords P n = 8192 + 8 * (P * suc n)
+spaceWords P n = spaceFixed + spaceEach * (P * suc n)
 
 -- a cell, one for each place and position, is a set of positions 0 to 128
 abbrev pub cellWords : ℕ

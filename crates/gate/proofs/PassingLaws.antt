@@ -14,7 +14,7 @@ use Rattle.grammar.specs.Tables.{grammarIn}
 use Rattle.soundness.specs.declared.judgement.Verdict.{Verdict}
 use Rattle.soundness.specs.declared.judgement.Verdict.the-variants.{Sound, Refused}
 use Rattle.soundness.specs.Compiled.{Compiled}
-use Rattle.derivation.specs.Space.{maxTokens, spaceWords}
+use Rattle.derivation.specs.Space.{maxTokens, spaceWords, spaceFixed, spaceEach}
 use Rattle.derivation.specs.Ready.{Ready}
 use Rattle.derivation.specs.Demand2.{Known as AllKnown}
 use Rattle.derivation.specs.Gate as definition
@@ -30,7 +30,7 @@ use Rattle.gate.specs.declared.tokens.Tokens.{Tokens}
 use Rattle.gate.specs.declared.tokens.Tokens.the-variants.{Known, Unknown}
 
 -- ---- the words of working space, as the code works them out
-pub space-is : {P Q : ℕ} (n : ℕ) → P ≡ Q → 8192 + 8 * (P * (n + 1)) ≡ spaceWords Q n
+pub space-is : {P Q : ℕ} (n : ℕ) → P ≡ Q → spaceFixed + spaceEach * (P * (n + 1)) ≡ spaceWords Q n
 space-is n e = rw (e, add-one)
 
 pub space-small : (t w : List ℕ) → Ready t → {P : ℕ} → P ≡ grammarIn t .size → length w ≤ maxTokens → P * (length w + 1) ≤ 32895
@@ -71,12 +71,12 @@ module _ (t w : List ℕ) (space : ℕ) where
       tokens : AllKnown (grammarIn t .kinds) w
       tokens = none-known (grammarIn t .kinds) w (rw c at (known-of (definition.firstUnknown kinds w) e f))
 
-      pub short-space : space < 8192 + 8 * (P * (length w + 1)) → Noted t w space (Shut ShortWorkspace)
+      pub short-space : space < spaceFixed + spaceEach * (P * (length w + 1)) → Noted t w space (Shut ShortWorkspace)
       short-space l =
           shut-answers said t w space ShortWorkspace refl
           (sym (note-11 (grammarIn t) w space short tokens (omega (arith, space-is (length w) size))))
 
-      pub note-passed : Ready t → 8192 + 8 * (P * (length w + 1)) ≤ space → Noted t w space Passed
+      pub note-passed : Ready t → spaceFixed + spaceEach * (P * (length w + 1)) ≤ space → Noted t w space Passed
       note-passed h l =
           let room : spaceWords (grammarIn t .size) (length w) ≤ space = omega (arith, space-is (length w) size) in
           record {

@@ -4,5 +4,8 @@ pub mod reading;
 pub mod tokens;
 
 pub use passing::Gate;
+pub use passing::MAX_TOKENS;
+pub use passing::SPACE_WORDS;
+pub use passing::SPACE_WORDS_EACH;
 pub use passing::pass;
 pub use reading::Reading;

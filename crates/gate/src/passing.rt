@@ -8,6 +8,14 @@ ghost use Rattle.grammar.specs.Tables.{tableWords};
 ghost use Rattle.derivation.specs.Ready.{Ready};
 ghost use Rattle.gate.specs.Passing.{Noted, Gated};
 
+// The most tokens of a note.
+pub const MAX_TOKENS: usize = 128;
+
+// The words of working space that a reading asks for: so many, and so many for each place of the grammar and position of the note.
+pub const SPACE_WORDS: usize = 8192;
+
+pub const SPACE_WORDS_EACH: usize = 8;
+
 // What the gate answers: passed, or shut with the refusal as a reading answers it.
 pub enum Gate {
     Passed,
@@ -19,7 +27,7 @@ fn note_gate(tables: &[u16], note: &[u16], space: usize) -> Gate
     requires { ⌜ Ready (now tables) ⌝ }
     ensures { λ r. ⌜ Noted (now (tables .entry)) (now (note .entry)) space r ⌝ }
 {
-    if 128 < note.len() {
+    if MAX_TOKENS < note.len() {
         return Gate::Shut(Reading::LongNote);
     }
     let tokens = crate::tokens::first_unknown(note, grammar::kinds(tables));
@@ -27,7 +35,7 @@ fn note_gate(tables: &[u16], note: &[u16], space: usize) -> Gate
         Tokens::Unknown(at) => Gate::Shut(Reading::UnknownToken(at)),
         Tokens::Known => {
             let places = grammar::size(tables);
-            if space < 8192 + 8 * (places * (note.len() + 1)) {
+            if space < SPACE_WORDS + SPACE_WORDS_EACH * (places * (note.len() + 1)) {
                 return Gate::Shut(Reading::ShortWorkspace);
             }
             Gate::Passed

@@ -11,7 +11,7 @@ ghost use Rattle.lines.specs.Line.{maxKept};
 const ROW_ENTRIES: usize = lines::MAX_TOKENS;
 
 // The words of the cache: it has six slots.
-const CACHE_WORDS: usize = 3968;
+const CACHE_WORDS: usize = words::layout::FIXED_WORDS + 6 * words::layout::SLOT_WORDS;
 
 // Grammar G1: tokens 1 and 2; nonterminal 0 is [1] or [1, less], nonterminal 1 is [grade] or [grade, less].
 const G1: [u8; 14] = [2, 2, 2, 1, 3, 2, 3, 4, 2, 1, 2, 2, 2, 4];
@@ -20,7 +20,8 @@ const G1: [u8; 14] = [2, 2, 2, 1, 3, 2, 3, 4, 2, 1, 2, 2, 2, 4];
 const G1_PLACES: usize = 10;
 
 // The words that refusal 11 asks for.
-const SPACE_WORDS: usize = 8192 + 8 * (G1_PLACES * (lines::MAX_TOKENS + 1));
+const SPACE_WORDS: usize = gate::SPACE_WORDS
+    + gate::SPACE_WORDS_EACH * (G1_PLACES * (lines::MAX_TOKENS + 1));
 
 // Writes a blank and a number.
 fn write_number(n: u64) {
