@@ -47,7 +47,8 @@ module _ (g : Grammar) (bytes : List ℕ) (suits : Suits g bytes) {c : List ℕ}
     cell-stays : {i : ℕ} → Cell i → word after i ≡ word c i
     cell-stays {i} x = new .elsewhere i (cell-held x) (cell-slot x (held c)) (cell-count x (held c)) (go (cell-configs x (held c)))
       where
-        go : (i < configsAt (held c)) ⊎ (configsAt (held c) + keptRoom ≤ i) → (i < configsAt (held c)) ⊎ (configsAt (held c) + length (packAll ks) ≤ i)
+        go : (i < configsAt (held c)) ⊎ (configsAt (held c) + keptRoom ≤ i) → (i < configsAt (held c))
+            ⊎ (configsAt (held c) + length (packAll ks) ≤ i)
         go (inl h) = inl h
         go (inr h) = inr (omega (arith, length-packAll ks, keep .few))
 

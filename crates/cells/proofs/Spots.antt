@@ -29,7 +29,8 @@ lent-sized e h = rw e h
 pub behind-none : {P n : ℕ} {ws : List ℕ} → KeptBehind P n ws ws
 behind-none = record { word = λ j l. refl }
 
-pub behind-put : (P n p i : ℕ) {ws us vs : List ℕ} (s : List ℕ) → KeptBehind P n ws us → p < P → i ≤ n → vs ≡ putAt us (spot P p i) s → KeptBehind P n ws vs
+pub behind-put : (P n p i : ℕ) {ws us vs : List ℕ} (s : List ℕ) → KeptBehind P n ws us → p < P → i ≤ n → vs ≡ putAt us (spot P p i) s
+    → KeptBehind P n ws vs
 behind-put P n p i {ws} {us} s h l k e =
     record { word = λ j m. rw e (put-word us (spot P p i) j s (inr (omega (arith, spot-below P n p i l k))) ∙ h .word j m) }
 
@@ -37,7 +38,8 @@ pub behind-on : {P n : ℕ} {ws us vs : List ℕ} → KeptBehind P n ws us → K
 behind-on h k = record { word = λ j l. k .word j l ∙ h .word j l }
 
 -- a cell that is read
-pub cell-member : (P : ℕ) (ws : List ℕ) (p i j : ℕ) {s : List ℕ} → s ≡ setAt ws (spot P p i) → j < positionCount → member s j ≡ cellHas P ws p i j
+pub cell-member : (P : ℕ) (ws : List ℕ) (p i j : ℕ) {s : List ℕ} → s ≡ setAt ws (spot P p i) → j < positionCount → member s j
+    ≡ cellHas P ws p i j
 unfolding cellHas
 cell-member P ws p i j e l = rw e (member-set ws (spot P p i) j l)
 

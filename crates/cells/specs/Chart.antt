@@ -38,7 +38,8 @@ pub record LentAt (P i : ℕ) (ws : List ℕ) : Type 0 where
 -- the cells from position i on are right: each holds exactly the positions up to which its place derives the note w
 unfoldable pub ChartedFrom : List ℕ → List ℕ → List ℕ → ℕ → Type 0
 ChartedFrom t w ws i =
-    (p k j : ℕ) → p < grammarIn t .size → i ≤ k → k ≤ length w → j < positionCount → cellHas (grammarIn t .size) ws p k j ≡ derives? (grammarIn t) w p k j
+    (p k j : ℕ) → p < grammarIn t .size → i ≤ k → k ≤ length w → j < positionCount → cellHas (grammarIn t .size) ws p k j
+    ≡ derives? (grammarIn t) w p k j
 
 -- all cells are right
 abbrev pub Charted : List ℕ → List ℕ → List ℕ → Type 0

@@ -88,7 +88,8 @@ module _ (t w : List ℕ) (i : ℕ) where
         }
 
   -- the same as the code meets it: p counts down
-  pub written-on : (p : ℕ) (ws ends s : List ℕ) {P : ℕ} {us : List ℕ} → P ≡ grammarIn t .size → 0 < p → p ≤ P → Written t w i p ws → RightEnds t w i ends
+  pub written-on : (p : ℕ) (ws ends s : List ℕ) {P : ℕ} {us : List ℕ} → P ≡ grammarIn t .size → 0 < p → p ≤ P → Written t w i p ws
+      → RightEnds t w i ends
       → Derived t w ws i ends (p - 1) s → us ≡ putAt ws (spot P (p - 1) i) s → Written t w i (p - 1) us
   written-on p ws ends s size h k inv exact derived e =
       let q : suc (p - 1) ≡ p = omega arith in
@@ -112,7 +113,8 @@ module _ (t w : List ℕ) (i : ℕ) where
       later : (k ≡ i → ⊥) → cellsIn t ws q k j ≡ derives? (grammarIn t) w q k j
       later e = inv .row .later q k j h (omega arith) n l
 
-  pub written-all : (p : ℕ) (ws₀ ws : List ℕ) {P : ℕ} → P ≡ grammarIn t .size → p ≡ 0 → Written t w i p ws → KeptBehind P (length w) ws₀ ws
+  pub written-all : (p : ℕ) (ws₀ ws : List ℕ) {P : ℕ} → P ≡ grammarIn t .size → p ≡ 0 → Written t w i p ws
+      → KeptBehind P (length w) ws₀ ws
       → Settled t w i ws₀ ws
   written-all p ws₀ ws size z inv b = record { charted = charted-now p ws z inv; behind = rw size at b }
 
@@ -122,12 +124,14 @@ unfolding ChartedFrom
 charted-none t w ws i e q k j h m n l = absurd (omega arith)
 
 -- the next position to settle
-pub row-next : (t w : List ℕ) (i : ℕ) (ws us : List ℕ) → Ready t → Lent (grammarIn t .size) (length w) ws → length us ≡ length ws → 0 < i → i ≤ length w + 1
+pub row-next : (t w : List ℕ) (i : ℕ) (ws us : List ℕ) → Ready t → Lent (grammarIn t .size) (length w) ws → length us ≡ length ws → 0 < i
+    → i ≤ length w + 1
     → ChartedFrom t w us i → Row t w (i - 1) us
 row-next t w i ws us r n e h l c =
     let q : suc (i - 1) ≡ i = omega arith in
     record { ready = r; lent = lent-kept e n; here = omega arith; later = rw q c }
 
-pub filled : (t w ws us : List ℕ) (i : ℕ) → i ≡ 0 → ChartedFrom t w us i → length us ≡ length ws → KeptBehind (grammarIn t .size) (length w) ws us
+pub filled : (t w ws us : List ℕ) (i : ℕ) → i ≡ 0 → ChartedFrom t w us i → length us ≡ length ws
+    → KeptBehind (grammarIn t .size) (length w) ws us
     → Filled t w ws us
 filled t w ws us i z c e b = record { charted = rw z at c; kept = e; behind = b .word }

@@ -28,7 +28,8 @@ fn is_end(tables: &[u16], q: usize) -> bool
 
 // What the cell of p at i is, by `ends`, the cells of the later positions and, at i, the cell of the place behind p.
 fn derived(tables: &[u16], note: &[u16], ws: &[u32], ends: &[u32], i: usize, p: usize) -> Positions
-    requires { ⌜ Ended (now tables) (now note) i (now ws) (now ends) × (p < grammarIn (now tables) .size) × Behind (now tables) (now note) (now ws) i p ⌝ }
+    requires { ⌜ Ended (now tables) (now note) i (now ws) (now ends) × (p < grammarIn (now tables) .size)
+        × Behind (now tables) (now note) (now ws) i p ⌝ }
     ensures { λ r. ⌜ Derived (now (tables .entry)) (now (note .entry)) (now (ws .entry)) i (now (ends .entry)) p (r .words) ⌝ }
 {
     let places = grammar::size(tables);

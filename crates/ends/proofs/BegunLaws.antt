@@ -42,7 +42,8 @@ module _ (t w ws : List ℕ) (i : ℕ) (ends : List ℕ) (f : ℕ) where
 
   module _ (p : ℕ) (r : List ℕ) (inv : Leading p r) where
     -- the place adds x, and nothing follows
-    last : (x : ℕ → Bool) → ((j : ℕ) → j < positionCount → led p j ≡ x j) → (j : ℕ) → j < positionCount → (member r j || x j) ≡ leads j f
+    last : (x : ℕ → Bool) → ((j : ℕ) → j < positionCount → led p j ≡ x j) → (j : ℕ) → j < positionCount → (member r j || x j)
+        ≡ leads j f
     unfolding Leading
     last x h j l = rw (← h j l, ← lead-place (grammarIn t) w (endHas ends) (cellsIn t ws) i j p) (inv j l)
 
@@ -51,16 +52,19 @@ module _ (t w ws : List ℕ) (i : ℕ) (ends : List ℕ) (f : ℕ) where
     unfolding Begun
     stays h j l = rw or-none at (last (λ _. false) h j l)
 
-    pub leading-end : {r′ : List ℕ} → facing (grammarIn t) p ≡ End → i < positionCount → length r ≡ setWords → r′ ≡ withOf r i → Begun t w ws i ends f r′
+    pub leading-end : {r′ : List ℕ} → facing (grammarIn t) p ≡ End → i < positionCount → length r ≡ setWords → r′ ≡ withOf r i
+        → Begun t w ws i ends f r′
     unfolding Begun
     leading-end {r′} e k m d j l =
         rw (d, member-with r i j (omega arith), eqb-comm j i) (last (λ j. eqb i j) (λ j l. by-end (grammarIn t) w (endHas ends) (cellsIn t ws) i j p _ e) j l)
 
-    pub leading-other : {k : ℕ} {m : Bool} → facing (grammarIn t) p ≡ Token k → m ≡ matchesAt (grammarIn t) w i k → not m ≡ true → Begun t w ws i ends f r
+    pub leading-other : {k : ℕ} {m : Bool} → facing (grammarIn t) p ≡ Token k → m ≡ matchesAt (grammarIn t) w i k → not m ≡ true
+        → Begun t w ws i ends f r
     leading-other {k} {m} e q n = stays (λ j l. by-other (grammarIn t) w (endHas ends) (cellsIn t ws) i j p _ e (sym q ∙ not-true m n))
 
     pub leading-token : {k P : ℕ} {m : Bool} (u : List ℕ) {r′ : List ℕ} → P ≡ grammarIn t .size → facing (grammarIn t) p ≡ Token k
-        → m ≡ matchesAt (grammarIn t) w i k → not m ≡ false → u ≡ setAt ws (spot P (p + 1) (i + 1)) → r′ ≡ unionOf r u → Begun t w ws i ends f r′
+        → m ≡ matchesAt (grammarIn t) w i k → not m ≡ false → u ≡ setAt ws (spot P (p + 1) (i + 1)) → r′ ≡ unionOf r u
+        → Begun t w ws i ends f r′
     unfolding Begun
     leading-token {k} {P} {m} u {r′} s e q n c d j l =
         rw (d, member-union r u j l, cell-member (grammarIn t .size) ws (p + 1) (i + 1) j (rw s at c) l, add-one p, add-one i)

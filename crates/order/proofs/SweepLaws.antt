@@ -52,7 +52,8 @@ pub none-yet : (rows : List ℕ) (up : Bool) (n set : ℕ) → NoneRipe rows up 
 unfolding NoneRipe
 none-yet rows up n set m h = absurd (omega arith)
 
-pub none-more : (rows : List ℕ) (up : Bool) (n k set : ℕ) {a row : ℕ} {r : Bool} → NoneRipe rows up n k set → a ≡ turnOf up k n → row ≡ getD rows a 0
+pub none-more : (rows : List ℕ) (up : Bool) (n k set : ℕ) {a row : ℕ} {r : Bool} → NoneRipe rows up n k set → a ≡ turnOf up k n → row
+    ≡ getD rows a 0
     → r ≡ ripeOf row set a → r ≡ false → NoneRipe rows up n (k + 1) set
 unfolding NoneRipe
 none-more rows up n k set {a} {row} x e q d f m h = ⊎-elim here before (same? m k)
@@ -67,7 +68,8 @@ none-more rows up n k set {a} {row} x e q d f m h = ⊎-elim here before (same? 
     before z = x m (omega arith)
 
 -- so a whole turn places somebody
-pub sweep-grows : (t rows order : List ℕ) (up : Bool) (from set count k : ℕ) {n : ℕ} → Cornered t rows → Placing t order set count → n ≡ nonterminalsIn t
+pub sweep-grows : (t rows order : List ℕ) (up : Bool) (from set count k : ℕ) {n : ℕ} → Cornered t rows → Placing t order set count → n
+    ≡ nonterminalsIn t
     → from < nonterminalsIn t → from ≤ count → (count ≡ from → NoneRipe rows up n k set) → n ≤ k → from < count
 unfolding NoneRipe
 sweep-grows t rows order up from set count k {n} known inv z h l none m = ⊎-elim full (λ d. omega arith) (same? count from)

@@ -41,7 +41,8 @@ fn turn(up: bool, k: usize, n: usize) -> usize
 // Nonterminal a takes the next place.
 fn place(order: &mut [usize], placed: Placed, a: usize) -> Placed
     requires { ⌜ (placed .count < length (now order)) × (a < maxNonterminals) ⌝ }
-    ensures { λ r. ⌜ (r .set ≡ setBit (placed .set) a) × (r .count ≡ suc (placed .count)) × (now (order .exit) ≡ set (now (order .entry)) (placed .count) a) ⌝ }
+    ensures { λ r. ⌜ (r .set ≡ setBit (placed .set) a) × (r .count ≡ suc (placed .count))
+        × (now (order .exit) ≡ set (now (order .entry)) (placed .count) a) ⌝ }
 {
     let count = placed.count;
     order[count] = a;
@@ -53,7 +54,8 @@ fn place(order: &mut [usize], placed: Placed, a: usize) -> Placed
 
 // Every nonterminal once, upwards or downwards: those that are ripe then take the next place. At least one does.
 fn sweep(tables: &[u16], rows: &[u32], order: &mut [usize], from: Placed, up: bool) -> Placed
-    requires { ⌜ Cornered (now tables) (now rows) × Placing (now tables) (now order) (from .set) (from .count) × (from .count < nonterminalsIn (now tables)) ⌝ }
+    requires { ⌜ Cornered (now tables) (now rows) × Placing (now tables) (now order) (from .set) (from .count)
+        × (from .count < nonterminalsIn (now tables)) ⌝ }
     ensures { λ r. ⌜ Placing (now (tables .entry)) (now (order .exit)) (r .set) (r .count) × (from .count < r .count) ⌝ }
 {
     let n = grammar::nonterminals(tables);

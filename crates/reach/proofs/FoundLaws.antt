@@ -81,7 +81,8 @@ module _ (t w : List ℕ) (ready : Ready t) (short : length w < positionCount) w
     found (Reach.return b x e d y) = on x (found x) (return b e d y)
 
     -- the positions at which a reader can stand somewhere are those at which something arrives
-    pub found-all : (all : List ℕ) {m : ℕ} → m ≡ grammarIn t .size → Anywhere ws m all → (k : ℕ) → k ≤ length w → member all k ≡ arrives? (grammarIn t) w k
+    pub found-all : (all : List ℕ) {m : ℕ} → m ≡ grammarIn t .size → Anywhere ws m all → (k : ℕ) → k ≤ length w → member all k
+        ≡ arrives? (grammarIn t) w k
     unfolding Anywhere
     found-all all {m} z y k l =
         same (member all k) (arrives? (grammarIn t) w k) (λ u. to (y k (omega arith) .0 u)) (λ u. from (arrives-iff (grammarIn t) w k .0 u))

@@ -78,7 +78,8 @@ module _ (g : Grammar) (w : List ℕ) (p i : ℕ) where
     step-other ws {m} q n = none-added ws (λ q j x. none x)
       where
         none : {q j : ℕ} → Leads g w p i q j → ⊥
-        none (match {k = k′} e′ d a) = let h : k′ ≡ k = cc in false→¬T (matchesAt g w i k) (sym q ∙ not-true m n) (matches-in g w i k d (rw h at a))
+        none (match {k = k′} e′ d a) = let h : k′ ≡ k = cc in
+            false→¬T (matchesAt g w i k) (sym q ∙ not-true m n) (matches-in g w i k d (rw h at a))
         none (call b e′ d) = clash (cc)
         none (return b e′ d x) = clash (cc)
 
@@ -100,7 +101,8 @@ abbrev Ended : Grammar → List ℕ → ℕ → ℕ → ℕ → Type 0
 Ended g w a i j = (b : ℕ) × (f : ℕ) × (first g a b ≡ some f) × T (derives? g w f i j)
 
 module _ (t w cs : List ℕ) (a i : ℕ) (ends : List ℕ) (ready : Ready t) (chart : Charted t w cs) (l : i ≤ length w) (h : EndsOf t cs a i ends) where
-  cell-is : (b f j : ℕ) → j < positionCount → first (grammarIn t) a b ≡ some f → cellHas (grammarIn t .size) cs f i j ≡ derives? (grammarIn t) w f i j
+  cell-is : (b f j : ℕ) → j < positionCount → first (grammarIn t) a b ≡ some f → cellHas (grammarIn t .size) cs f i j
+      ≡ derives? (grammarIn t) w f i j
   unfolding ChartedFrom
   cell-is b f j m e = chart f i j (ready-first t ready a b f e) (omega arith) l m
 

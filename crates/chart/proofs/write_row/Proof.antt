@@ -13,7 +13,8 @@ use Rattle.chart.proofs.write_row.Statement.{statement}
 use Rattle.chart.proofs.write_row.Tie as tie
 
 abbrev Inv-loop : tie.InvT-loop
-Inv-loop tables note ws₀ ends i places p₀ ws p = (p ≤ places) × (length ws ≡ length ws₀) × Written tables note i p ws × KeptBehind places (length note) ws₀ ws
+Inv-loop tables note ws₀ ends i places p₀ ws p = (p ≤ places) × (length ws ≡ length ws₀) × Written tables note i p ws
+    × KeptBehind places (length note) ws₀ ws
 
 abbrev μ-loop : tie.MeasureT-loop
 μ-loop tables note ws₀ ends i places p₀ ws p = p

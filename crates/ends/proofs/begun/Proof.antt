@@ -17,7 +17,8 @@ use Rattle.ends.proofs.begun.Statement.{statement}
 use Rattle.ends.proofs.begun.Tie as tie
 
 abbrev Inv-loop : tie.InvT-loop
-Inv-loop tables note ws ends i f places r₀ p₀ r p = (p < grammarIn tables .size) × (length (r .words) ≡ setWords) × Leading tables note ws i ends f p (r .words)
+Inv-loop tables note ws ends i f places r₀ p₀ r p = (p < grammarIn tables .size) × (length (r .words) ≡ setWords)
+    × Leading tables note ws i ends f p (r .words)
 
 abbrev μ-loop : tie.MeasureT-loop
 μ-loop tables note ws ends i f places r₀ p₀ r p = placeWords - p
