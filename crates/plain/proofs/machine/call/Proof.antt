@@ -1,4 +1,5 @@
 -- `plain::machine::call` meets its contract.
+use mathlib.Core.Path.{refl}
 use native.Mathlib.Omega.{arith}
 use borrow.Author.Needs.{needs}
 use Rattle.derivation.proofs.ReadyLaws.{ready-size}
@@ -7,7 +8,7 @@ use Rattle.plain.proofs.machine.call.Statement.{statement}
 use Rattle.plain.proofs.machine.call.Tie as tie
 
 ends-of-requires : tie.Need-ends-of-requires
-ends-of-requires c κs = (c .before .before .before .before .pre .0, c .before .before .before .before .pre .1, lent-at _ _ (c .before .before .before .before .pre .1) (c .before .before .before .before .pre .3 .lent) (call-position _ (c .before .before .before .before .pre .0) _ _ (λ k. c .before .slice-known .given k .fits) _ _ _ _ (c .before .before .before .before .pre .3)), call-named _ (c .before .before .before .before .pre .0) _ _ (λ k. c .before .slice-known .given k .fits) _ _ _ _ (c .before .before .before .before .pre .3))
+ends-of-requires c κs = (c .before .before .before .before .pre .0, lent-at _ _ refl (c .before .before .before .before .pre .3 .lent) (call-position _ (c .before .before .before .before .pre .0) _ _ (λ k. c .before .slice-known .given k .fits) _ _ _ _ (c .before .before .before .before .pre .3)), call-named _ (c .before .before .before .before .pre .0) _ _ (λ k. c .before .slice-known .given k .fits) _ _ _ _ (c .before .before .before .before .pre .3))
 
 sub-rest : tie.Need-sub-rest
 sub-rest c = omega (arith, call-depth _ (c .before .before .before .before .before .before .pre .0) _ _ (λ k. c .before .before .before .slice-known .given k .fits) _ _ _ _ (c .before .before .before .before .before .before .pre .3))

@@ -1,13 +1,15 @@
 -- `plain::reading::read` meets its contract.
-use mathlib.Core.Path.{_∙_}
+use mathlib.Core.Path.{sym, _∙_}
 use borrow.Author.Needs.{needs}
-use Rattle.cells.proofs.Spots.{lent-kept}
+use Rattle.cells.proofs.Spots.{lent-kept, lent-sized}
 use Rattle.plain.proofs.FinishLaws.{read-is}
 use Rattle.plain.proofs.reading.read.Statement.{statement}
 use Rattle.plain.proofs.reading.read.Tie as tie
 
 fill-requires : tie.Need-fill-requires
-fill-requires c κs = (c .before .before .before .before .before .pre .0, c .before .before .before .before .before .pre .1, c .before .before .before .before .before .pre .2)
+fill-requires c κs =
+    let start = c .before .before .before .before .before .pre in
+    (start .0, lent-sized (sym (start .1)) (start .2))
 
 run-requires : tie.Need-run-requires
 run-requires c κs = (c .before .before .before .before .before .before .before .before .before .before .pre .0, c .before .before .before .before .before .before .before .before .before .before .pre .1, lent-kept (c .before .before .before .before .fill .ensures .kept) (c .before .before .before .before .before .before .before .before .before .before .pre .2), c .before .before .before .before .fill .ensures .charted)

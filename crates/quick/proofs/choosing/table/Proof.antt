@@ -7,7 +7,7 @@ use Rattle.quick.proofs.choosing.table.Statement.{statement}
 use Rattle.quick.proofs.choosing.table.Tie as tie
 
 fill-requires : tie.Need-fill-requires
-fill-requires c κs = (c .before .before .before .before .before .pre .0, c .before .before .before .before .before .pre .1, lent-of (c .before .before .before .before .before .pre .1) (c .before .before .before .before .before .pre .3 .lent))
+fill-requires c κs = (c .before .before .before .before .before .pre .0, lent-of refl (c .before .before .before .before .before .pre .3 .lent))
 
 empty-requires : tie.Need-empty-requires
 empty-requires c κs = search needs
