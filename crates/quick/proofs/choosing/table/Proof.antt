@@ -2,6 +2,7 @@
 use native.Mathlib.Omega.{arith}
 use Rattle.plain.proofs.CallLaws.{lent-of}
 use Rattle.quick.proofs.TableLaws.{table-put, table-again}
+use mathlib.Core.Path.{refl}
 use borrow.Author.Needs.{needs}
 use Rattle.quick.proofs.choosing.table.Statement.{statement}
 use Rattle.quick.proofs.choosing.table.Tie as tie

@@ -4,7 +4,7 @@ use mathlib.Core.Logic.{⊎-elim}
 use native.Mathlib.Omega.{arith}
 use lib.ListN.{length}
 use borrow.Author.Needs.{needs}
-use Rattle.cells.proofs.Spots.{lent-kept}
+use Rattle.cells.proofs.Spots.{lent-kept, lent-sized}
 use Rattle.plain.proofs.BeginLaws.{some-named}
 use Rattle.plain.proofs.CallLaws.{lent-of, lent-at}
 use Rattle.quick.proofs.BeginLaws.{begin-room, begin-order, begin-single, begin-named, begin-full}
@@ -61,7 +61,9 @@ returns-2 c = begin-named ((c .before .before .before .before .before .before .b
 
 -- src/machine.rt:51:5
 fill-requires : tie.Need-fill-requires
-fill-requires c κs = search needs
+fill-requires c κs =
+    let start = c .before .before .before .before .before .before .before .before .before .before .before .before .before .before .pre in
+    (start .0, lent-sized (sym (start .1)) (start .3))
 
 -- src/machine.rt:52:13
 empty-requires : tie.Need-empty-requires
