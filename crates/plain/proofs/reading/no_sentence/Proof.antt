@@ -11,7 +11,7 @@ clear-from-requires : tie.Need-clear-from-requires
 clear-from-requires c κs = omega arith
 
 wrong-place-requires : tie.Need-wrong-place-requires
-wrong-place-requires c κs = 
+wrong-place-requires c κs =
     let start = c .before .before .before .before .before .before .before .before .pre in
     record { ready = start .0; lent = lent-sized (sym (start .1)) (start .2); charted = start .3 }
 
