@@ -8,7 +8,6 @@ use Rattle.grammar.specs.Grammar.{Grammar, admits}
 
 -- this token, if there is one, may stand where kind k is called for
 unfoldable pub admitted : Grammar → ℕ → Option ℕ → Bool
-unfolding admits
 admitted g k none = false
 admitted g k (some t) = admits g k t
 
