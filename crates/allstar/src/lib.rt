@@ -23,8 +23,8 @@
 // After 10 and 14 the row is all zeros and the cache keeps what it learned; every other refusal leaves row and cache as they were.
 pub use cache::Beginning;
 pub use cache::begin;
+pub use gate::Reading;
 pub use number::Refusal;
-pub use plain::Reading;
 pub use plain::plain;
 pub use quick::quick;
 pub use soundness::Verdict;

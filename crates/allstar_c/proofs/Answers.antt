@@ -6,7 +6,7 @@ use Rattle.derivation.specs.Plain.{Answer, answer}
 use Rattle.words.specs.Begin.{Begun, begun}
 use Rattle.words.specs.declared.beginning.Beginning.{Beginning}
 use Rattle.words.specs.Beginning.{beginningNumber, beginningPlace, begunBy}
-use Rattle.plain.specs.declared.reading.Reading.{Reading}
+use Rattle.gate.specs.declared.reading.Reading.{Reading}
 use Rattle.gate.specs.Reading.{readingNumber, readingPlace, readingCount, answered}
 use Rattle.adaptive.specs.Quick.{Reply, reply}
 use Rattle.quick.specs.Replied.{replied}

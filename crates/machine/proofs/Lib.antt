@@ -9,3 +9,6 @@ pub mod AdvanceLaws
 pub mod WaitLaws
 pub mod CallLaws
 pub mod SpaceLaws
+pub mod ClearLaws
+pub mod EndingLaws
+pub mod GoingLaws

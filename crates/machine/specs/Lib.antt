@@ -4,3 +4,5 @@ pub mod Choice
 pub mod Space
 pub mod Moves
 pub mod Waits
+pub mod Ending
+pub mod Going

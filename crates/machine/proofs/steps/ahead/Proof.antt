@@ -29,7 +29,7 @@ ends-of-requires c κs =
     let at-entry = c .before .before .before .before .before in
     let at-words = c .before .before in (
       at-entry .pre .ready,
-      calling-at _ _ _ (λ k. at-words .shared-slice-known3 .given k .fits) _ _ _ (at-entry .pre),
+      (calling-at _ _ _ (λ k. at-words .shared-slice-known3 .given k .fits) _ _ _ (at-entry .pre)),
       waits-named _ (at-entry .pre .ready) _ (at-entry .pre .waits),
     )
 

@@ -1,30 +1,35 @@
--- `plain::reading::plain` meets its contract.
+-- `plain::reading::plain` meets its contract: the gate is the definition's, and where it is passed the tables hold the grammar by which the note is read.
 use borrow.Author.Needs.{needs}
-use Rattle.derivation.proofs.ReadyLaws.{sound-ready}
-use Rattle.plain.proofs.FinishLaws.{refused-is, sound-is}
+use Rattle.plain.proofs.ReadingLaws.{shut-is, passed-is}
 use Rattle.plain.proofs.reading.plain.Statement.{statement}
 use Rattle.plain.proofs.reading.plain.Tie as tie
 
-slice-aggregate-compile : tie.Need-slice-aggregate-compile
-slice-aggregate-compile c = search needs
+slice-aggregate-pass : tie.Need-slice-aggregate-pass
+slice-aggregate-pass c = search needs
 
-compile-requires : tie.Need-compile-requires
-compile-requires c κs = search needs
+pass-requires : tie.Need-pass-requires
+pass-requires c κs = search needs
 
-enum-known-verdict : tie.Need-enum-known-verdict
-enum-known-verdict c = search needs
+enum-known-gate : tie.Need-enum-known-gate
+enum-known-gate c = search needs
 
 enum-told : tie.Need-enum-told
 enum-told c = search needs
 
-slice-aggregate-judged : tie.Need-slice-aggregate-judged
-slice-aggregate-judged c = search needs
+slice-aggregate-read : tie.Need-slice-aggregate-read
+slice-aggregate-read c = search needs
 
-judged-requires : tie.Need-judged-requires
-judged-requires c κs = let a = c .before .before .before .before .before .before .before .before .before .before .before .before .args in sound-ready (a .grammar .now) (c .before .before .before .before .before .before .compile .ensures) (c .before .before .before .enum-told .given .1)
+read-requires : tie.Need-read-requires
+read-requires c κs =
+    let at-pass = c .before .before .before .before .before .before in
+    let at-enum-told = c .before .before .before in
+    (at-pass .pass .ensures .admits) (at-enum-told .enum-told .given .1)
 
 returns : tie.Need-returns
-returns c = refused-is _ _ _ _ (c .before .before .before .before .compile .ensures) (c .before .verdict .given .1)
+returns c =
+    let at-pass = c .before .before .before .before in
+    let at-gate = c .before in
+    shut-is _ _ _ _ (at-pass .pass .ensures) (at-gate .gate .given .1)
 
 same-length : tie.Need-same-length
 same-length c = search needs
@@ -33,18 +38,22 @@ same-length-2 : tie.Need-same-length-2
 same-length-2 c = search needs
 
 returns-2 : tie.Need-returns-2
-returns-2 c = sound-is _ _ _ _ (c .before .before .before .before .before .before .before .before .before .before .before .compile .ensures) (c .before .before .before .before .before .before .before .before .enum-told .given .1) (c .before .before .before .before .judged .ensures)
+returns-2 c =
+    let at-pass = c .before .before .before .before .before .before .before .before .before .before .before in
+    let at-enum-told = c .before .before .before .before .before .before .before .before in
+    let at-read = c .before .before .before .before in
+    passed-is _ _ _ _ (at-pass .pass .ensures) (at-enum-told .enum-told .given .1) (at-read .read .ensures)
 
 pub plain-spec : {M : Type 1} → statement M
 plain-spec =
     tie.close
     (tie.spec
-    slice-aggregate-compile
-    compile-requires
-    enum-known-verdict
+    slice-aggregate-pass
+    pass-requires
+    enum-known-gate
     enum-told
-    slice-aggregate-judged
-    judged-requires
+    slice-aggregate-read
+    read-requires
     returns
     same-length
     same-length-2
