@@ -7,7 +7,7 @@ use Rattle.grammar.specs.Grammar.{Grammar}
 use Rattle.derivation.specs.Space.{spaceWords}
 use Rattle.derivation.specs.Plain.{plainReading}
 use Rattle.lookahead.specs.Configs.{In}
-use Rattle.plain.specs.declared.reading.Reading.{Reading}
+use Rattle.gate.specs.declared.reading.Reading.{Reading}
 use Rattle.gate.specs.Reading.{readingNumber, readingPlace, readingCount, answered}
 use Rattle.adaptive.specs.Quick.{quickReading}
 use Rattle.adaptive.specs.Demand3.{Call, taught, taughtAll}
