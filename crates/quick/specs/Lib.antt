@@ -1,6 +1,4 @@
--- The quick reading, and demand 3.
-pub mod Going
-pub mod Stop
+-- The quick reading, and demand 3 of the calls.
+pub mod Run
 pub mod Replied
-pub mod Sets
 pub mod Whole

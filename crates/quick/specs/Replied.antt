@@ -1,23 +1,16 @@
 -- What the code of the quick reading answers and leaves, as the definitions have it.
-use mathlib.Core.Path.{_≡_}
 use mathlib.Core.List.{List}
 use Prim.Native.Nat.{ℕ}
 use lib.ListN.{length}
 use Rattle.grammar.specs.Grammar.{Grammar}
-use Rattle.cells.specs.Chart.{Charted}
+use Rattle.gate.specs.Reading as gate
 use Rattle.gate.specs.declared.reading.Reading.{Reading}
-use Rattle.gate.specs.Reading as plain
 use Rattle.adaptive.specs.Quick.{Reply, reply, quickNote, answered}
 
 -- a reading, the row and the cache that it left
 abbrev pub replied : Reading → List ℕ → List ℕ → Reply
-replied r row c = reply (plain.answered r row) c
+replied r row c = reply (gate.answered r row) c
 
 -- the reading of a note by a sound grammar, in enough working space and over a begun cache
 abbrev pub readingOf : Grammar → List ℕ → List ℕ → List ℕ → Reply
 readingOf g w row c = answered g w row (quickNote g w (length row) c)
-
--- the cells are right
-pub record Tabled (t w ws after : List ℕ) : Type 0 where
-  pub charted : Charted t w after
-  pub kept : length after ≡ length ws

@@ -1,8 +1,5 @@
 // The quick reading: alternatives are predicted by what the lookahead cache has learned; derivation cells are worked out only where that says nothing.
-mod choosing;
-mod machine;
-mod predict;
 mod reading;
-mod sets;
+mod running;
 
 pub use reading::quick;

@@ -1,0 +1,59 @@
+-- `choosing::deciding::table` meets its contract: what is not there yet is filled, and the end place derives the rest only from the note's end.
+use native.Mathlib.Omega.{arith}
+use Rattle.choosing.proofs.TableLaws.{table-put, table-again}
+use borrow.Author.Needs.{needs}
+use Rattle.choosing.proofs.deciding.table.Statement.{statement}
+use Rattle.choosing.proofs.deciding.table.Tie as tie
+
+fill-requires : tie.Need-fill-requires
+fill-requires c κs =
+    let at-entry = c .before .before .before .before .before in
+    (at-entry .pre .0, at-entry .pre .2 .lent)
+
+empty-requires : tie.Need-empty-requires
+empty-requires c κs = search needs
+
+with-requires : tie.Need-with-requires
+with-requires c κs = search needs
+
+put-rest-requires : tie.Need-put-rest-requires
+put-rest-requires c κs =
+    let at-fill = c .before .before .before .before .before in
+    let at-entry = at-fill .before .before .before .before .before .before in
+    omega (arith, at-entry .pre .1 .base, at-entry .pre .2 .room, at-entry .pre .2 .floored .some, at-fill .fill .ensures .kept)
+
+same-length : tie.Need-same-length
+same-length c = search needs
+
+returns : tie.Need-returns
+returns c =
+    let at-put-rest = c .before .before in
+    let at-with = at-put-rest .before .before in
+    let at-empty = at-with .before in
+    let at-fill = at-empty .before .before .before in
+    let at-entry = at-fill .before .before .before .before .before .before in
+    table-put _ (at-entry .pre .0) _ _ (at-entry .pre .2) (at-entry .pre .1 .base) (at-empty .empty .ensures) (at-with .with .ensures)
+    (at-put-rest .put-rest .ensures) (at-fill .fill .ensures)
+
+returns-2 : tie.Need-returns-2
+returns-2 c =
+    let at-entry = c .before .before .before .before .before .before in
+    table-again _ (at-entry .pre .0) _ _ (at-entry .pre .2) (omega arith) (omega arith)
+
+returns-3 : tie.Need-returns-3
+returns-3 c =
+    let at-entry = c .before .before .before .before .before .before in
+    table-again _ (at-entry .pre .0) _ _ (at-entry .pre .2) (omega arith) (omega arith)
+
+pub table-spec : {M : Type 1} → statement M
+table-spec =
+    tie.close
+    (tie.spec
+    fill-requires
+    empty-requires
+    with-requires
+    put-rest-requires
+    same-length
+    returns
+    returns-2
+    returns-3)

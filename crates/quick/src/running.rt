@@ -1,0 +1,76 @@
+// The machine with the quick reading's choices.
+use machine::At;
+use machine::Outcome;
+use machine::Turn;
+ghost use Prim.Native.Nat.{_≤_};
+ghost use lib.ListN.{length};
+ghost use Rattle.words.specs.Layout.{minWords};
+ghost use Rattle.gate.specs.Passing.{Admitted};
+ghost use Rattle.quick.specs.Run.{QuickRan};
+
+// How the machine stopped, and of how many open frames the sets stood: 0 where no cell was worked out.
+pub struct Stop {
+    pub outcome: Outcome,
+    pub known: usize,
+}
+
+// From nonterminal 0 over the end place on: at each nonterminal what is predicted, and where that is FULL the lowest alternative that serves.
+pub fn run(
+    tables: &[u16],
+    note: &[u16],
+    row: &mut [u16],
+    cache: &mut [u32],
+    ws: &mut [u32],
+) -> Stop
+    requires { ⌜ Admitted (now tables) (now note) (length (now ws)) × (minWords ≤ length (now cache)) ⌝ }
+    ensures { λ r. ⌜ QuickRan (now (tables .entry)) (now (note .entry)) (now (row .entry)) (now (ws .entry)) (now (cache .entry))
+        r (now (row .exit)) (now (ws .exit)) (now (cache .exit)) ⌝ }
+{
+    let space = machine::space_of(tables, note);
+    let mut count = 0;
+    let mut known = 0;
+    let mut a = 0;
+    let mut at = At {
+        place: grammar::END_PLACE,
+        position: 0,
+        depth: 0,
+    };
+    loop {
+        if count == row.len() {
+            return Stop {
+                outcome: Outcome::Full,
+                known: known,
+            };
+        }
+        let pick = choosing::decide(tables, note, cache, ws, space, known, at, a);
+        known = pick.known;
+        let b = pick.alternative;
+        if b == 0 {
+            return Stop {
+                outcome: Outcome::Stuck,
+                known: known,
+            };
+        }
+        row[count] = base::narrow(b);
+        count += 1;
+        let turn = machine::enter(tables, note, ws, space.base, at, a, b);
+        match turn {
+            Turn::Ended => {
+                return Stop {
+                    outcome: Outcome::Accepted(count),
+                    known: known,
+                };
+            }
+            Turn::Stuck => {
+                return Stop {
+                    outcome: Outcome::Stuck,
+                    known: known,
+                };
+            }
+            Turn::Calls(next, called) => {
+                at = next;
+                a = called;
+            }
+        }
+    }
+}
