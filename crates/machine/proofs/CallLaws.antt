@@ -19,13 +19,13 @@ use Rattle.cells.specs.Chart.{Lent, LentAt, EndsOf}
 use Rattle.machine.specs.Frames.{EveryFrame, Serving, pushOf}
 use Rattle.machine.specs.Choice.{Leading, orZero, lowestIn}
 use Rattle.machine.specs.Space.{Named, pushIf, ground, opened}
-use Rattle.machine.specs.Waits.{Waits, begins, called, Calling, Called}
+use Rattle.machine.specs.Waits.{Waits, begins, called, Calling, Choosing, Called}
 use Rattle.machine.specs.declared.steps.At.{At}
 use Rattle.machine.specs.declared.steps.Space.{Space}
 use Rattle.machine.proofs.ServingLaws.{lowest-is, serving-end, serving-over}
 use Rattle.machine.proofs.PushLaws.{length-push, push-pushed, push-has, push-charted}
 use Rattle.machine.proofs.AlternativeLaws.{lowest-named, named-of, named-small}
-use Rattle.machine.proofs.WaitLaws.{waits-position, waits-first, waits-roomy}
+use Rattle.machine.proofs.WaitLaws.{waits-position, waits-first, waits-named, waits-roomy, waits-small}
 
 -- ---- as the code has it: its own names for the number of places
 pub lent-of : {P Q n : ℕ} {ws : List ℕ} → P ≡ Q → Lent Q n ws → Lent P n ws
@@ -46,6 +46,16 @@ module _ (t w ws : List ℕ) (fit : Fit ws) (space : Space) (at : At) (a : ℕ) 
 
   pub calling-at : LentAt (grammarIn t .size) (at .position) ws
   calling-at = lent-at (length w) (at .position) refl (x .lent) calling-position
+
+  pub calling-chooses : Choosing t ws (space .base) at a
+  calling-chooses =
+      record {
+        ready = x .ready;
+        lent = calling-at;
+        named = waits-named t (x .ready) w (x .waits);
+        roomy = rw (x .spaced .base) (waits-roomy t (x .ready) w (x .lent) (x .waits));
+        small = let l = waits-small t (x .ready) w (x .waits) in omega arith;
+      }
 
   -- the set s says from where what stays open derives the rest
   abbrev pub Right : List ℕ → Type 0

@@ -2,23 +2,23 @@
 use mathlib.Core.Path.{_≡_}
 use mathlib.Core.Option.{some}
 use mathlib.Core.List.{List, [], _∷_}
-use Prim.Native.Nat.{ℕ, suc}
+use Prim.Native.Nat.{ℕ, suc, _<_}
 use lib.Dec.{T}
 use lib.ListN.{length}
 use Rattle.grammar.specs.declared.Symbol.the-variants.{Nonterminal}
 use Rattle.grammar.specs.Limits.{endPlace}
 use Rattle.grammar.specs.Grammar.{facing, first}
-use Rattle.grammar.specs.Tables.{grammarIn}
+use Rattle.grammar.specs.Tables.{grammarIn, nonterminalsIn}
 use Rattle.derivation.specs.Runs.{marked}
 use Rattle.derivation.specs.Cells.{derives?, runs?}
 use Rattle.derivation.specs.Machine.{lowest}
 use Rattle.derivation.specs.Space.{Pushed}
 use Rattle.derivation.specs.Ready.{Ready}
 use Rattle.derivation.proofs.FrameWords.{Held}
-use Rattle.cells.specs.Chart.{Lent, Charted}
+use Rattle.cells.specs.Chart.{Lent, LentAt, Charted}
 use Rattle.machine.specs.Frames.{frameHas, EveryFrame, Good}
 use Rattle.machine.specs.Choice.{orZero}
-use Rattle.machine.specs.Space.{ground, Spaced, opened}
+use Rattle.machine.specs.Space.{Roomy, ground, Spaced, opened}
 use Rattle.machine.specs.declared.steps.At.{At}
 use Rattle.machine.specs.declared.steps.Space.{Space}
 
@@ -36,6 +36,14 @@ pub record Calling (t w ws : List ℕ) (s : Space) (at : At) (a : ℕ) : Type 0 
   pub lent : Lent (grammarIn t .size) (length w) ws
   pub charted : Charted t w ws
   pub waits : Waits t w ws EveryFrame (at .depth) (at .place) a (at .position)
+
+-- what a choice by a set of positions rests on: cells at this position, a nonterminal of the grammar, room for a frame, a place that fits a word
+pub record Choosing (t ws : List ℕ) (base : ℕ) (at : At) (a : ℕ) : Type 0 where
+  pub ready : Ready t
+  pub lent : LentAt (grammarIn t .size) (at .position) ws
+  pub named : a < nonterminalsIn t
+  pub roomy : Roomy t ws base (at .depth) a
+  pub small : at .place < 4294967296
 
 -- r is the plain chooser's alternative for a over the stack that stays open, 0 for none; if there is one, the stack's top is frame d, with the right set
 pub record Called (t w ws after : List ℕ) (d q a i r : ℕ) : Type 0 where

@@ -6,16 +6,15 @@ ghost use mathlib.Core.Option.{some};
 ghost use Prim.Native.Nat.{suc, _+_, _*_, _≤_, _<_};
 ghost use lib.ListN.{length};
 ghost use Rattle.grammar.specs.Grammar.{first};
-ghost use Rattle.grammar.specs.Tables.{grammarIn, nonterminalsIn};
+ghost use Rattle.grammar.specs.Tables.{grammarIn};
 ghost use Rattle.derivation.specs.Runs.{marked};
 ghost use Rattle.derivation.specs.Space.{maxTokens, frameWords, returnsOf};
 ghost use Rattle.derivation.specs.Ready.{Ready};
-ghost use Rattle.cells.specs.Chart.{LentAt};
 ghost use Rattle.machine.specs.Frames.{Serving};
 ghost use Rattle.machine.specs.Choice.{lowestIn};
-ghost use Rattle.machine.specs.Space.{Named, Roomy, pushIf, ground, Spaced};
+ghost use Rattle.machine.specs.Space.{Named, pushIf, ground, Spaced};
 ghost use Rattle.machine.specs.Moves.{Advanced, Entered};
-ghost use Rattle.machine.specs.Waits.{Calling, Called};
+ghost use Rattle.machine.specs.Waits.{Calling, Choosing, Called};
 
 // Where the machine stands: a place, a position of the note, and how many frames are open. Where a nonterminal waits, the place is the one behind it.
 pub struct At {
@@ -143,8 +142,7 @@ fn ahead(tables: &[u16], note: &[u16], ws: &[u32], space: Space, at: At, a: usiz
 
 // The lowest alternative of a by which a position in s is come to, 0 if there is none. If there is one, at.place with s becomes frame at.depth.
 fn choose(tables: &[u16], ws: &mut [u32], base: usize, at: At, a: usize, s: Positions) -> usize
-    requires { ⌜ Ready (now tables) × LentAt (grammarIn (now tables) .size) (at .position) (now ws) × (a < nonterminalsIn (now tables))
-        × Roomy (now tables) (now ws) base (at .depth) a × (at .place < 4294967296) ⌝ }
+    requires { ⌜ Choosing (now tables) (now ws) base at a ⌝ }
     ensures { λ r. ⌜ (r ≡ lowestIn (now (tables .entry)) (now (ws .entry)) a (at .position) (s .words))
         × (now (ws .exit) ≡ pushIf r (now (ws .entry)) base (at .depth) (at .place) (s .words)) ⌝ }
 {

@@ -1,9 +1,7 @@
 -- `machine::steps::call` meets its contract: of the positions where the nonterminal can end, the set holds those from which what stays open derives the
 -- rest, so the lowest alternative that ends in it is the plain chooser's.
-use native.Mathlib.Omega.{arith}
 use borrow.Author.Needs.{needs}
-use Rattle.machine.proofs.CallLaws.{calling-at, call-leaves}
-use Rattle.machine.proofs.WaitLaws.{waits-named, waits-roomy, waits-small}
+use Rattle.machine.proofs.CallLaws.{calling-chooses, call-leaves}
 use Rattle.machine.proofs.steps.call.Statement.{statement}
 use Rattle.machine.proofs.steps.call.Tie as tie
 
@@ -14,14 +12,9 @@ ahead-requires c κs =
 
 choose-requires : tie.Need-choose-requires
 choose-requires c κs =
+    let at-words = c .before .before .before in
     let at-entry = c .before .before .before .before .before .before in
-    let at-words = c .before .before .before in (
-      at-entry .pre .ready,
-      calling-at _ _ _ (λ k. at-words .slice-known .given k .fits) _ _ _ (at-entry .pre),
-      waits-named _ (at-entry .pre .ready) _ (at-entry .pre .waits),
-      rw (at-entry .pre .spaced .base) (waits-roomy _ (at-entry .pre .ready) _ (at-entry .pre .lent) (at-entry .pre .waits)),
-      omega (arith, waits-small _ (at-entry .pre .ready) _ (at-entry .pre .waits)),
-    )
+    calling-chooses _ _ _ (λ k. at-words .slice-known .given k .fits) _ _ _ (at-entry .pre)
 
 same-length : tie.Need-same-length
 same-length c = search needs

@@ -24,7 +24,7 @@ push-requires c κs =
     let at-if1 = c .before in
     let h = lowest-named (at-entry .args .tables .now) (at-entry .args .ws .now) (at-entry .args .a) (at-entry .args .at .position) (at-entry .args .s .words)
     (at-lowest .lowest .ensures) (at-if1 .if1 .left) in
-    ((at-entry .pre .3) (at-lowest .lowest .result) (h .0) (h .1), at-entry .pre .4)
+    ((at-entry .pre .roomy) (at-lowest .lowest .result) (h .0) (h .1), at-entry .pre .small)
 
 same-length-2 : tie.Need-same-length-2
 same-length-2 c = search needs
