@@ -127,7 +127,8 @@ module _ (t w row₀ ws₀ c₀ : List ℕ) (h : Admitted t w (length ws₀)) {r
               charted = y .charted;
             }
 
-        pub out-ended : r ≡ Ended → QuickRan t w row₀ ws₀ c₀ (record { outcome = Accepted (count + 1); known = known′ }) (set row count v) after c′
+        pub out-ended : r ≡ Ended → QuickRan t w row₀ ws₀ c₀ (record { outcome = Accepted (count + 1); known = known′ }) (set row count v) after
+            c′
         out-ended q =
             record {
               ran = record {
@@ -147,7 +148,8 @@ module _ (t w row₀ ws₀ c₀ : List ℕ) (h : Admitted t w (length ws₀)) {r
             (moves-good (FramesBelow known′) (m .moves) (omega (arith, length-marked w, waits-position t (h .ready) w (x .waits)))
             (y .entering .good (to .start) (to .begins)))
 
-        pub turning-again : {next : At} {a′ : ℕ} → r ≡ Calls next a′ → Turning t w row₀ ws₀ c₀ (set row count v) after c′ (count + 1) known′ next a′
+        pub turning-again : {next : At} {a′ : ℕ} → r ≡ Calls next a′
+            → Turning t w row₀ ws₀ c₀ (set row count v) after c′ (count + 1) known′ next a′
         turning-again q =
             record {
               charted = y .charted;

@@ -46,7 +46,8 @@ module _ (s : List ℕ) (g : Grammar) where
 -- DEMAND 3, WHOLE: `begin` answered 0 and left c; then for every list of quick calls over it, with any notes, rows and working spaces, each taking the
 -- cache as the last one left it: each answers and leaves in its row what a plain call answers and leaves, the cache holds exactly what the learning rules
 -- give, and a call that repeats an earlier one leaves every word as found
-pub demand3-whole : (s c₀ c : List ℕ) (b : Beginning) → begunBy b c ≡ beginning s c₀ → beginningNumber b ≡ 0 → (xs : List Both) → Session s c xs
+pub demand3-whole : (s c₀ c : List ℕ) (b : Beginning) → begunBy b c ≡ beginning s c₀ → beginningNumber b ≡ 0 → (xs : List Both)
+    → Session s c xs
     → (r : Rules) × (m : Mark) × (decode s ≡ got r m) × Whole (compile r) c xs
 demand3-whole s c₀ c b e z xs d =
     let x = begins s c₀ (sym (ap (λ (k : Begun). k .number) e) ∙ z) in
@@ -54,5 +55,10 @@ demand3-whole s c₀ c b e z xs d =
     let h = demand3-begun s (x .rules) (x .mark) (x .decoded) (x .sound) (length c₀) (calls xs) (x .long) in
     let g = compile (x .rules) in
     let d′ : Session s (beginWords s (length c₀)) xs = subst (λ (k : List ℕ). Session s k xs) w d in
-    let y : Whole g (beginWords s (length c₀)) xs = record { each = all-same s g xs [] (beginWords s (length c₀)) d′ (h .each); words = last-words s g xs (beginWords s (length c₀)) d′ ∙ h .words } in
+    let y : Whole g (beginWords s (length c₀)) xs =
+    record {
+      each = all-same s g xs [] (beginWords s (length c₀)) d′ (h .each);
+      words = last-words s g xs (beginWords s (length c₀)) d′
+          ∙ h .words;
+    } in
     (x .rules, x .mark, x .decoded, subst (λ (k : List ℕ). Whole g k xs) (sym w) y)

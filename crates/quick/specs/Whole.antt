@@ -48,7 +48,8 @@ pub record Same (g : Grammar) (c : List ℕ) (earlier : List Call) (x : Both) : 
   pub count : readingCount (x .quickly) ≡ readingCount (x .plainly)
   pub row : x .row ≡ x .plain-row
   pub learned : x .words ≡ taught g c (x .call)
-  pub nothing-new : (j : Call) → In j earlier → j .note ≡ x .call .note → spaceWords (g .size) (length (j .note)) ≤ j .space → length (j .row) ≡ length (x .call .row)
+  pub nothing-new : (j : Call) → In j earlier → j .note ≡ x .call .note → spaceWords (g .size) (length (j .note)) ≤ j .space → length (j .row)
+      ≡ length (x .call .row)
       → x .words ≡ c
 
 abbrev pub AllSame : Grammar → List ℕ → List Call → List Both → Type 0

@@ -53,13 +53,7 @@ fn finish(tables: &[u16], note: &[u16], row: &mut [u16], ws: &mut [u32], stop: S
 }
 
 // The note, for which the gate was passed, over a begun cache.
-fn read(
-    tables: &[u16],
-    note: &[u16],
-    row: &mut [u16],
-    cache: &mut [u32],
-    ws: &mut [u32],
-) -> Reading
+fn read(tables: &[u16], note: &[u16], row: &mut [u16], cache: &mut [u32], ws: &mut [u32]) -> Reading
     requires { ⌜ Admitted (now tables) (now note) (length (now ws)) × (minWords ≤ length (now cache)) ⌝ }
     ensures { λ r. ⌜ replied r (now (row .exit)) (now (cache .exit))
         ≡ readingOf (grammarIn (now (tables .entry))) (now (note .entry)) (now (row .entry)) (now (cache .entry)) ⌝ }

@@ -15,13 +15,7 @@ pub struct Stop {
 }
 
 // From nonterminal 0 over the end place on: at each nonterminal what is predicted, and where that is FULL the lowest alternative that serves.
-pub fn run(
-    tables: &[u16],
-    note: &[u16],
-    row: &mut [u16],
-    cache: &mut [u32],
-    ws: &mut [u32],
-) -> Stop
+pub fn run(tables: &[u16], note: &[u16], row: &mut [u16], cache: &mut [u32], ws: &mut [u32]) -> Stop
     requires { ⌜ Admitted (now tables) (now note) (length (now ws)) × (minWords ≤ length (now cache)) ⌝ }
     ensures { λ r. ⌜ QuickRan (now (tables .entry)) (now (note .entry)) (now (row .entry)) (now (ws .entry)) (now (cache .entry))
         r (now (row .exit)) (now (ws .exit)) (now (cache .exit)) ⌝ }

@@ -1,93 +1,84 @@
+-- `quick::reading::finish` meets its contract: an accepted note needs no cells, and for any other they are right before it is asked why.
+use native.Mathlib.Omega.{arith}
+use Rattle.base.proofs.Booleans.{clash}
+use Rattle.machine.proofs.EndingLaws.{end-accepted, by-outcome}
+use Rattle.quick.proofs.ReadingLaws.{stopped-given}
 use borrow.Author.Needs.{needs}
 use Rattle.quick.proofs.reading.finish.Statement.{statement}
 use Rattle.quick.proofs.reading.finish.Tie as tie
-use Rattle.quick.proofs.reading.finish.Reads as reads
-use Rattle.quick.proofs.reading.finish.Lts as lts
-use Rattle.machine.proofs.ending.clear_from.Reads as clear-from-reads
-use Rattle.reader.proofs.finish.Reads as finish-reads
-use Rattle.quick.proofs.reading.table.Reads as table-reads
 
--- src/reading.rt:40:27
 enum-known-outcome : tie.Need-enum-known-outcome
 enum-known-outcome c = search needs
 
--- src/reading.rt:41:13
 clear-from-requires : tie.Need-clear-from-requires
-clear-from-requires c κs = ?
+clear-from-requires c κs =
+    let at-outcome = c .before .before in
+    let at-entry = at-outcome .before .before .before .before .before .before in
+    (at-entry .pre .within) _ (at-outcome .outcome .given .1)
 
--- src/reading.rt:45:33
 enum-told : tie.Need-enum-told
 enum-told c = search needs
 
--- src/reading.rt:45:13
 table-requires : tie.Need-table-requires
-table-requires c κs = search needs
+table-requires c κs =
+    let at-entry = c .before .before .before .before .before .before .before in
+    (at-entry .pre .ready, at-entry .pre .lent, at-entry .pre .charted)
 
--- src/reading.rt:46:13
 finish-requires : tie.Need-finish-requires
-finish-requires c κs = ?
+finish-requires c κs =
+    let at-table = c .before .before .before .before in
+    let at-entry = at-table .before .before .before .before .before .before .before .before in
+    (stopped-given _ _ _ _ (at-entry .pre) (at-table .table .ensures), λ k z. clash (cc))
 
--- src/reading.rt:49:33
 enum-told-2 : tie.Need-enum-told-2
 enum-told-2 c = search needs
 
--- src/reading.rt:49:13
 table-requires-2 : tie.Need-table-requires-2
-table-requires-2 c κs = search needs
+table-requires-2 c κs =
+    let at-entry = c .before .before .before .before .before .before .before in
+    (at-entry .pre .ready, at-entry .pre .lent, at-entry .pre .charted)
 
--- src/reading.rt:50:13
 finish-requires-2 : tie.Need-finish-requires-2
-finish-requires-2 c κs = ?
+finish-requires-2 c κs =
+    let at-table2 = c .before .before .before .before in
+    let at-entry = at-table2 .before .before .before .before .before .before .before .before in
+    (stopped-given _ _ _ _ (at-entry .pre) (at-table2 .table2 .ensures), λ k z. clash (cc))
 
--- src/reading.rt:33:1
 same-length : tie.Need-same-length
 same-length c = search needs
 
--- src/reading.rt:33:1
 returns : tie.Need-returns
-returns c = ?
+returns c =
+    let at-clear-from = c .before .before in
+    let at-outcome = at-clear-from .before .before .before in
+    let at-entry = at-outcome .before .before .before .before .before .before in
+    by-outcome _ _ _ (at-outcome .outcome .given .1)
+    (end-accepted _ _ _ _ ((at-entry .pre .within) _ (at-outcome .outcome .given .1)) (at-clear-from .clear-from .ensures))
 
--- src/reading.rt:33:1
 same-length-2 : tie.Need-same-length-2
 same-length-2 c = search needs
 
--- src/reading.rt:33:1
 same-length-3 : tie.Need-same-length-3
 same-length-3 c = search needs
 
--- src/reading.rt:33:1
 returns-2 : tie.Need-returns-2
-returns-2 c = ?
+returns-2 c =
+    let at-finish = c .before .before in
+    let at-enum-told = at-finish .before .before .before .before .before .before .before in
+    by-outcome _ _ _ (at-enum-told .enum-told .given .1) (at-finish .finish .ensures)
 
--- src/reading.rt:33:1
 same-length-4 : tie.Need-same-length-4
 same-length-4 c = search needs
 
--- src/reading.rt:33:1
 same-length-5 : tie.Need-same-length-5
 same-length-5 c = search needs
 
--- src/reading.rt:33:1
 returns-3 : tie.Need-returns-3
-returns-3 c = ?
+returns-3 c =
+    let at-finish2 = c .before .before in
+    let at-enum-told2 = at-finish2 .before .before .before .before .before .before .before in
+    by-outcome _ _ _ (at-enum-told2 .enum-told2 .given .1) (at-finish2 .finish2 .ensures)
 
 pub finish-spec : {M : Type 1} → statement M
-finish-spec =
-    tie.close
-    (tie.spec
-    enum-known-outcome
-    clear-from-requires
-    enum-told
-    table-requires
-    finish-requires
-    enum-told-2
-    table-requires-2
-    finish-requires-2
-    same-length
-    returns
-    same-length-2
-    same-length-3
-    returns-2
-    same-length-4
-    same-length-5
-    returns-3)
+finish-spec = tie.close (tie.spec enum-known-outcome clear-from-requires enum-told table-requires finish-requires enum-told-2 table-requires-2
+    finish-requires-2 same-length returns same-length-2 same-length-3 returns-2 same-length-4 same-length-5 returns-3)

@@ -1,166 +1,199 @@
+-- `quick::running::run` meets its contract: each turn a nonterminal waits, takes the alternative that the definition's chooser takes over the same words, and
+-- what is left from there ends as the whole reading does; each turn writes an entry of the row.
+use mathlib.Core.Path.{_∙_}
+use Prim.Native.Nat.{_-_}
+use native.Mathlib.Omega.{arith}
+use lib.ListN.{length, length-set}
+use Rattle.quick.proofs.RunLaws.{Turning, turning-begins, turning-decides, out-full, out-none, taken-small, taken-room, out-stuck}
+use Rattle.quick.proofs.RunLaws.{out-ended, turning-again}
+use borrow.Author.Needs.{needs}
 use Rattle.quick.proofs.running.run.Statement.{statement}
 use Rattle.quick.proofs.running.run.Tie as tie
-use Rattle.quick.proofs.running.run.Reads as reads
-use Rattle.quick.proofs.running.run.Lts as lts
-use Rattle.base.proofs.narrow.Reads as narrow-reads
-use Rattle.choosing.proofs.decide.Reads as decide-reads
-use Rattle.reach.proofs.enter.Reads as enter-reads
-use Rattle.machine.proofs.space_of.Reads as space-of-reads
 
 abbrev Inv-loop : tie.InvT-loop
-Inv-loop tables note row₀ cache₀ ws₀ space count₀ known₀ a₀ at₀ row cache ws count known a at = ?
+Inv-loop tables note row₀ cache₀ ws₀ space count₀ known₀ a₀ at₀ row cache ws count known a at =
+    Turning tables note row₀ ws₀ cache₀ row ws cache count known at a
 
 abbrev μ-loop : tie.MeasureT-loop
-μ-loop tables note row₀ cache₀ ws₀ space count₀ known₀ a₀ at₀ row cache ws count known a at = ?
+μ-loop tables note row₀ cache₀ ws₀ space count₀ known₀ a₀ at₀ row cache ws count known a at = length row - count
 
--- src/running.rt:29:9
 space-of-requires : tie.Need-space-of-requires Inv-loop μ-loop
-space-of-requires c κs = ?
+space-of-requires c κs =
+    let at-entry = c .before .before .before .before .before in
+    (at-entry .pre .0 .ready, at-entry .pre .0 .short)
 
--- src/running.rt:38:5
 loop-holds : tie.Need-loop-holds Inv-loop μ-loop
-loop-holds c = ?
+loop-holds c = turning-begins _ _ _ _ _
 
--- src/running.rt:40:13
 same-length : tie.Need-same-length Inv-loop μ-loop
-same-length c = ?
+same-length c = c .before .loop .inv .row-kept
 
--- src/running.rt:40:13
 same-length-2 : tie.Need-same-length-2 Inv-loop μ-loop
-same-length-2 c = ?
+same-length-2 c = c .before .loop .inv .words-kept
 
--- src/running.rt:40:13
 same-length-3 : tie.Need-same-length-3 Inv-loop μ-loop
-same-length-3 c = ?
+same-length-3 c = c .before .loop .inv .space-kept
 
--- src/running.rt:40:13
 returns : tie.Need-returns Inv-loop μ-loop
-returns c = ?
+returns c =
+    let at-entry = c .before .before .before .before .before .before .before .before in
+    out-full _ _ _ _ _ (at-entry .pre .0) (c .before .loop .inv) (c .if1 .taken)
 
--- src/running.rt:45:13
 decide-requires : tie.Need-decide-requires Inv-loop μ-loop
-decide-requires c κs = ?
+decide-requires c κs =
+    let at-loop = c .before .before .before in
+    let at-space-of = at-loop .before in
+    let at-entry = at-space-of .before .before .before .before .before .before in
+    turning-decides _ _ _ _ _ (at-entry .pre .0) (at-loop .loop .inv) (at-entry .pre .1) _ (at-space-of .space-of .ensures)
 
--- src/running.rt:49:13
 same-length-4 : tie.Need-same-length-4 Inv-loop μ-loop
-same-length-4 c = ?
+same-length-4 c =
+    let at-loop = c .before .before .before .before .before .before .before .before .before in
+    at-loop .loop .inv .row-kept
 
--- src/running.rt:49:13
 same-length-5 : tie.Need-same-length-5 Inv-loop μ-loop
-same-length-5 c = ?
+same-length-5 c =
+    let at-decide = c .before .before .before .before .before in
+    let at-loop = at-decide .before .before .before .before in
+    (at-decide .decide .ensures .long) ∙ (at-loop .loop .inv .words-kept)
 
--- src/running.rt:49:13
 same-length-6 : tie.Need-same-length-6 Inv-loop μ-loop
-same-length-6 c = ?
+same-length-6 c =
+    let at-decide = c .before .before .before .before .before in
+    let at-loop = at-decide .before .before .before .before in
+    (at-decide .decide .ensures .entering .kept) ∙ (at-loop .loop .inv .space-kept)
 
--- src/running.rt:49:13
 returns-2 : tie.Need-returns-2 Inv-loop μ-loop
-returns-2 c = ?
+returns-2 c =
+    let at-decide = c .before .before .before .before .before in
+    let at-if1 = at-decide .before .before .before in
+    let at-loop = at-if1 .before in
+    let at-entry = at-loop .before .before .before .before .before .before .before in
+    out-none _ _ _ _ _ (at-entry .pre .0) (at-loop .loop .inv) (at-if1 .if1 .left) (at-decide .decide .ensures) (c .if2 .taken)
 
--- src/running.rt:54:22
 narrow-requires : tie.Need-narrow-requires Inv-loop μ-loop
-narrow-requires c κs = ?
+narrow-requires c κs =
+    let at-decide = c .before .before .before .before .before in
+    let at-if1 = at-decide .before .before .before in
+    let at-loop = at-if1 .before in
+    let at-entry = at-loop .before .before .before .before .before .before .before in
+    omega (arith, taken-small _ _ _ _ _ (at-entry .pre .0) (at-loop .loop .inv) (at-if1 .if1 .left) (at-decide .decide .ensures) (c .if2 .left))
 
--- src/running.rt:54:9
 mul-row : tie.Need-mul-row Inv-loop μ-loop
-mul-row c = ?
+mul-row c = search needs
 
--- src/running.rt:54:9
 slice-write-row : tie.Need-slice-write-row Inv-loop μ-loop
-slice-write-row c = ?
+slice-write-row c =
+    let at-if1 = c .before .before .before .before .before .before .before .before .before in
+    let at-loop = at-if1 .before in
+    omega (arith, at-loop .loop .inv .going .fits, at-if1 .if1 .left)
 
--- src/running.rt:55:9
 add-count : tie.Need-add-count Inv-loop μ-loop
-add-count c = ?
+add-count c = search needs
 
--- src/running.rt:56:13
 enter-requires : tie.Need-enter-requires Inv-loop μ-loop
-enter-requires c κs = ?
+enter-requires c κs =
+    let at-if2 = c .before .before in
+    let at-decide = at-if2 .before .before .before .before .before in
+    let at-if1 = at-decide .before .before .before in
+    let at-loop = at-if1 .before in
+    let at-space-of = at-loop .before in
+    let at-entry = at-space-of .before .before .before .before .before .before in (
+      at-entry .pre .0 .ready,
+      at-decide .decide .ensures .named (at-if2 .if2 .left),
+      taken-room _ _ _ _ _ (at-entry .pre .0) (at-loop .loop .inv) (at-if1 .if1 .left) (at-decide .decide .ensures) (at-if2 .if2 .left)
+          (at-space-of .space-of .ensures .base),
+    )
 
--- src/running.rt:60:30
 enum-told : tie.Need-enum-told Inv-loop μ-loop
-enum-told c = ?
+enum-told c = search needs
 
--- src/running.rt:59:17
 same-length-7 : tie.Need-same-length-7 Inv-loop μ-loop
-same-length-7 c = ?
+same-length-7 c =
+    let at-loop = c .before .before .before .before .before .before .before .before .before .before .before .before .before .before in
+    simp length-set (at-loop .loop .inv .row-kept)
 
--- src/running.rt:59:17
 same-length-8 : tie.Need-same-length-8 Inv-loop μ-loop
-same-length-8 c = ?
+same-length-8 c =
+    let at-decide = c .before .before .before .before .before .before .before .before .before .before in
+    let at-loop = at-decide .before .before .before .before in
+    (at-decide .decide .ensures .long) ∙ (at-loop .loop .inv .words-kept)
 
--- src/running.rt:59:17
 same-length-9 : tie.Need-same-length-9 Inv-loop μ-loop
-same-length-9 c = ?
+same-length-9 c =
+    let at-decide = c .before .before .before .before .before .before .before .before .before .before in
+    let at-loop = at-decide .before .before .before .before in
+    (at-decide .decide .ensures .entering .kept) ∙ (at-loop .loop .inv .space-kept)
 
--- src/running.rt:59:17
 returns-3 : tie.Need-returns-3 Inv-loop μ-loop
-returns-3 c = ?
+returns-3 c =
+    let at-enter = c .before .before in
+    let at-narrow = at-enter .before .before in
+    let at-if2 = at-narrow .before in
+    let at-decide = at-if2 .before .before .before .before .before in
+    let at-if1 = at-decide .before .before .before in
+    let at-loop = at-if1 .before in
+    let at-space-of = at-loop .before in
+    let at-entry = at-space-of .before .before .before .before .before .before in
+    out-ended _ _ _ _ _ (at-entry .pre .0) (at-loop .loop .inv) (at-if1 .if1 .left) (at-decide .decide .ensures) (at-if2 .if2 .left)
+    (at-narrow .narrow .ensures) (at-space-of .space-of .ensures .base) (at-enter .enter .ensures) (c .enum-told .given .1)
 
--- src/running.rt:66:30
 enum-told-2 : tie.Need-enum-told-2 Inv-loop μ-loop
-enum-told-2 c = ?
+enum-told-2 c = search needs
 
--- src/running.rt:65:17
 same-length-10 : tie.Need-same-length-10 Inv-loop μ-loop
-same-length-10 c = ?
+same-length-10 c =
+    let at-loop = c .before .before .before .before .before .before .before .before .before .before .before .before .before .before in
+    simp length-set (at-loop .loop .inv .row-kept)
 
--- src/running.rt:65:17
 same-length-11 : tie.Need-same-length-11 Inv-loop μ-loop
-same-length-11 c = ?
+same-length-11 c =
+    let at-decide = c .before .before .before .before .before .before .before .before .before .before in
+    let at-loop = at-decide .before .before .before .before in
+    (at-decide .decide .ensures .long) ∙ (at-loop .loop .inv .words-kept)
 
--- src/running.rt:65:17
 same-length-12 : tie.Need-same-length-12 Inv-loop μ-loop
-same-length-12 c = ?
+same-length-12 c =
+    let at-decide = c .before .before .before .before .before .before .before .before .before .before in
+    let at-loop = at-decide .before .before .before .before in
+    (at-decide .decide .ensures .entering .kept) ∙ (at-loop .loop .inv .space-kept)
 
--- src/running.rt:65:17
 returns-4 : tie.Need-returns-4 Inv-loop μ-loop
-returns-4 c = ?
+returns-4 c =
+    let at-enter = c .before .before in
+    let at-narrow = at-enter .before .before in
+    let at-if2 = at-narrow .before in
+    let at-decide = at-if2 .before .before .before .before .before in
+    let at-if1 = at-decide .before .before .before in
+    let at-loop = at-if1 .before in
+    let at-space-of = at-loop .before in
+    let at-entry = at-space-of .before .before .before .before .before .before in
+    out-stuck _ _ _ _ _ (at-entry .pre .0) (at-loop .loop .inv) (at-if1 .if1 .left) (at-decide .decide .ensures) (at-if2 .if2 .left)
+    (at-narrow .narrow .ensures) (at-space-of .space-of .ensures .base) (at-enter .enter .ensures) (c .enum-told2 .given .1)
 
--- src/running.rt:70:25
 enum-known-turn : tie.Need-enum-known-turn Inv-loop μ-loop
-enum-known-turn c = ?
+enum-known-turn c = search needs
 
--- src/running.rt:38:5
 loop-less : tie.Need-loop-less Inv-loop μ-loop
-loop-less c = ?
+loop-less c =
+    let at-if1 = c .before .before .before .before .before .before .before .before .before .before .before .before .before .before in
+    let at-loop = at-if1 .before in
+    simp length-set (omega (arith, at-loop .loop .inv .going .fits, at-if1 .if1 .left))
 
--- src/running.rt:38:5
 loop-again : tie.Need-loop-again Inv-loop μ-loop
-loop-again c = ?
+loop-again c =
+    let at-enter = c .before .before .before in
+    let at-narrow = at-enter .before .before in
+    let at-if2 = at-narrow .before in
+    let at-decide = at-if2 .before .before .before .before .before in
+    let at-if1 = at-decide .before .before .before in
+    let at-loop = at-if1 .before in
+    let at-space-of = at-loop .before in
+    let at-entry = at-space-of .before .before .before .before .before .before in
+    turning-again _ _ _ _ _ (at-entry .pre .0) (at-loop .loop .inv) (at-if1 .if1 .left) (at-decide .decide .ensures) (at-if2 .if2 .left)
+    (at-narrow .narrow .ensures) (at-space-of .space-of .ensures .base) (at-enter .enter .ensures) (c .before .turn .given .1)
 
 pub run-spec : {M : Type 1} → statement M
-run-spec =
-    tie.close
-    (tie.spec
-    Inv-loop
-    μ-loop
-    space-of-requires
-    loop-holds
-    same-length
-    same-length-2
-    same-length-3
-    returns
-    decide-requires
-    same-length-4
-    same-length-5
-    same-length-6
-    returns-2
-    narrow-requires
-    mul-row
-    slice-write-row
-    add-count
-    enter-requires
-    enum-told
-    same-length-7
-    same-length-8
-    same-length-9
-    returns-3
-    enum-told-2
-    same-length-10
-    same-length-11
-    same-length-12
-    returns-4
-    enum-known-turn
-    loop-less
-    loop-again)
+run-spec = tie.close (tie.spec Inv-loop μ-loop space-of-requires loop-holds same-length same-length-2 same-length-3 returns decide-requires same-length-4
+    same-length-5 same-length-6 returns-2 narrow-requires mul-row slice-write-row add-count enter-requires enum-told same-length-7 same-length-8 same-length-9
+    returns-3 enum-told-2 same-length-10 same-length-11 same-length-12 returns-4 enum-known-turn loop-less loop-again)
