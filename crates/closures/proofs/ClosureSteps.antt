@@ -18,7 +18,7 @@ use Rattle.base.proofs.Bits.{test-set, test-none, test-below, set-ge}
 use Rattle.grammar.specs.declared.Symbol.{Symbol}
 use Rattle.grammar.specs.declared.Symbol.the-variants.{Token, Nonterminal, End}
 use Rattle.grammar.specs.Grammar.{Grammar, suffix, facing}
-use Rattle.grammar.specs.Tables.{placeWords, tableWords, grammarIn, nonterminalsIn, ruleAt, Fits}
+use Rattle.grammar.specs.Tables.{placeWords, cornersAt, grammarIn, nonterminalsIn, ruleAt, Fits}
 use Rattle.grammar.proofs.WordLaws.{facing-past, alternatives-in}
 use Rattle.closures.specs.Closures.{passes, passesBy, derivingRound, deriving?}
 use Rattle.closures.specs.Steps.{stepOf, passOf, Derivers, DerivingIs}
@@ -80,7 +80,7 @@ pub round-in : (t : List ℕ) (tokens : Bool) (x a : ℕ) {f e : ℕ} → a < no
 unfolding derivingRound
 round-in t tokens x a h p q = rw (p, q, add-one, alternatives-in t a h)
 
-pub rule-within : (t : List ℕ) → Fits t → (a : ℕ) {e : ℕ} → a < nonterminalsIn t → e ≡ ruleAt t (a + 1) → e ≤ tableWords
+pub rule-within : (t : List ℕ) → Fits t → (a : ℕ) {e : ℕ} → a < nonterminalsIn t → e ≡ ruleAt t (a + 1) → e ≤ cornersAt
 rule-within t h a l q = rw (q, add-one) (h .within a l)
 
 -- ---- a step

@@ -10,7 +10,7 @@ use Rattle.base.specs.Bits.{testBit, setBit, isSubset}
 use Rattle.grammar.specs.declared.Symbol.{Symbol}
 use Rattle.grammar.specs.Grammar.{Grammar, suffix}
 use Rattle.grammar.specs.Limits.{maxNonterminals}
-use Rattle.grammar.specs.Tables.{firstsAt, tableWords, grammarIn, nonterminalsIn, ruleAt, Fits}
+use Rattle.grammar.specs.Tables.{firstsAt, cornersAt, grammarIn, nonterminalsIn, ruleAt, Fits}
 use Rattle.closures.specs.Closures.{passes, derivingRound, deriving?}
 
 -- nonterminal a judged by the set so far
@@ -36,7 +36,7 @@ NeedIs tokens l need = (x a : ℕ) → a < maxNonterminals → testBit x a ≡ f
 
 -- rows with a word for each production: as long as the tables from firstsAt on
 abbrev pub rowWords : ℕ
-rowWords = tableWords - firstsAt
+rowWords = cornersAt - firstsAt
 
 -- word k of a row is for a production of a
 abbrev pub Owns : List ℕ → ℕ → ℕ → Type 0

@@ -11,7 +11,7 @@ ghost use Rattle.closures.specs.Steps.{Derivers, DerivingIs, NeedIs, Not
 
 // Rows have a word for each production, at its place in the tables counted from grammar::FIRSTS; so long are the tables from there on. specs/Steps has
 // the same.
-const ROW_WORDS: usize = grammar::TABLE_WORDS - grammar::FIRSTS;
+const ROW_WORDS: usize = grammar::CORNERS - grammar::FIRSTS;
 
 // The set of all nonterminals that there can be.
 const ALL: u32 = u32::MAX;

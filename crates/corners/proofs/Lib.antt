@@ -2,3 +2,4 @@
 pub mod LeftRecursion
 pub mod LeftSteps
 pub mod Warshall
+pub mod StoreLaws

@@ -11,6 +11,7 @@ use Rattle.base.specs.Rounds.{rounds, anyOf, upFrom}
 use Rattle.grammar.specs.declared.Symbol.{Symbol}
 use Rattle.grammar.specs.declared.Symbol.the-variants.{Token, Nonterminal, End}
 use Rattle.grammar.specs.Grammar.{Grammar, alternatives, suffix}
+use Rattle.grammar.specs.Tables.{grammarIn, nonterminalsIn, cornerRow}
 use Rattle.closures.specs.Closures.{deriving?, nullable?}
 
 -- c stands in a list behind only nonterminals that X holds
@@ -35,6 +36,11 @@ move? g a c = anyOf (λ f. leads (nullable? g) c (suffix g f)) (alternatives g a
 unfoldable pub Corners : Grammar → ℕ → List ℕ → Type 0
 unfolding move?
 Corners g n rows = (a c : ℕ) → a < n → testBit (getD rows a 0) c ≡ move? g a c
+
+-- tables hold those rows, of the grammar that they say
+unfoldable pub Cornered : List ℕ → Type 0
+unfolding move?
+Cornered t = (a c : ℕ) → a < nonterminalsIn t → testBit (cornerRow t a) c ≡ move? (grammarIn t) a c
 
 -- one round: a move leads from a to c, or to a nonterminal that X holds
 unfoldable pub reachRound : Grammar → ℕ → (ℕ → Bool) → ℕ → Bool

@@ -11,6 +11,7 @@ use Rattle.base.specs.Rounds.{anyOf}
 use Rattle.grammar.specs.declared.Symbol.{Symbol}
 use Rattle.grammar.specs.Grammar.{Grammar, alternatives, suffix}
 use Rattle.grammar.specs.Limits.{maxNonterminals}
+use Rattle.grammar.specs.Tables.{Fits, Kept, cornerRow}
 use Rattle.corners.specs.Corners.{leads}
 
 -- r is x with what stands in the list behind only members of `nullable`
@@ -25,6 +26,16 @@ Moves nullable g a r = (c : ℕ) → testBit r c ≡ anyOf (λ f. leads (testBit
 unfoldable pub Rows : ℕ → Grammar → ℕ → List ℕ → Type 0
 unfolding Moves
 Rows nullable g n rows = (a : ℕ) → a < n → Moves nullable g a (getD rows a 0)
+
+-- what storing rows starts from: tables that fit, and a row for each nonterminal that there can be
+pub record Storing (t rows : List ℕ) : Type 0 where
+  pub fits : Fits t
+  pub long : length rows ≡ maxNonterminals
+
+-- tables t hold the first n rows, and say what tables t₀ say
+pub record Stored (t₀ rows : List ℕ) (n : ℕ) (t : List ℕ) : Type 0 where
+  pub kept : Kept t₀ t
+  pub same : (a : ℕ) → a < n → cornerRow t a ≡ getD rows a 0
 
 -- row a is joined by `row`, which is that of b, if it holds b
 unfoldable pub joinOf : ℕ → ℕ → ℕ → List ℕ → List ℕ

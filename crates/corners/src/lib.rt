@@ -10,7 +10,7 @@ ghost use Rattle.grammar.specs.Grammar.{suffix};
 ghost use Rattle.grammar.specs.Limits.{maxNonterminals};
 ghost use Rattle.grammar.specs.Tables.{grammarIn, nonterminalsIn, Fits};
 ghost use Rattle.corners.specs.Corners.{Corners};
-ghost use Rattle.corners.specs.Steps.{Leads, Moves, Rows, Joining, throughOf, reachOf};
+ghost use Rattle.corners.specs.Steps.{Leads, Moves, Rows, Storing, Stored, Joining, throughOf, reachOf};
 
 // The set `from` with every nonterminal that stands from place `first` on behind only nullable ones.
 fn left_from(tables: &[u16], nullable: u32, first: usize, from: u32) -> u32
@@ -82,6 +82,19 @@ pub fn corners(tables: &[u16], rows: &mut [u32])
 {
     let nullable = closures::derivers(tables, false);
     begin(tables, nullable, rows);
+}
+
+// Stores the rows of the nonterminals in the tables.
+pub fn store(tables: &mut [u16], rows: &[u32])
+    requires { ⌜ Storing (now tables) (now rows) ⌝ }
+    ensures { λ _. ⌜ Stored (now (tables .entry)) (now (rows .entry)) (nonterminalsIn (now (tables .entry))) (now (tables .exit)) ⌝ }
+{
+    let n = grammar::nonterminals(tables);
+    let mut a = 0;
+    while a < n {
+        grammar::put_corners(tables, a, rows[a]);
+        a += 1;
+    }
 }
 
 // Every row that holds b is joined by the row of b, `row`.

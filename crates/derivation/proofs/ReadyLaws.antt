@@ -36,6 +36,7 @@ ready s v t r m c e q =
       says = c .says r m e;
       fits = c .fits r m e;
       straight = checked-sound s r m e (sym (c .verdict) ∙ q);
+      corners = c .cornered q;
     }
 
 -- rules that bytes s say, that are judged sound, and that tables t say

@@ -6,11 +6,13 @@ use Rattle.grammar.specs.Decode.{Rules}
 use Rattle.grammar.specs.Grammar.{compile, Limited}
 use Rattle.grammar.specs.Tables.{grammarIn, Fits}
 use Rattle.closures.specs.Textbook.{LeftRecursive}
+use Rattle.corners.specs.Corners.{Cornered}
 
--- tables that say rules within the limits, none of whose nonterminals is left recursive
+-- tables that say rules within the limits, none of whose nonterminals is left recursive, and that hold the left corners of all
 pub record Ready (t : List ℕ) : Type 0 where
   pub rules : Rules
   pub limited : Limited rules
   pub says : grammarIn t ≡ compile rules
   pub fits : Fits t
   pub straight : (a : ℕ) → ¬ LeftRecursive (compile rules) a
+  pub corners : Cornered t

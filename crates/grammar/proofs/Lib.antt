@@ -5,3 +5,4 @@ pub mod CompileLaws
 pub mod OrderedLaws
 pub mod PlaceLaws
 pub mod OwnerLaws
+pub mod CornerLaws

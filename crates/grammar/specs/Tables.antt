@@ -3,11 +3,12 @@
 --   from firstsAt    the first place of each production, in the order of the bytes
 --   from rulesAt     for each nonterminal the number of its first production, counted over all; behind the last, the number of productions
 --   from kindsAt     the highest kind, the number of nonterminals, the number of places
+--   from cornersAt   for each nonterminal the set of its left corners, 32 bits in two words: no part of the grammar, but worked out of it by the check
 use mathlib.Core.Path.{_≡_}
 use Prim.Native.Nat.{ℕ, suc, _+_, _-_, _*_, _/_, _%_, _≤_, _<_}
 use mathlib.Core.List.{List, [], _∷_, map}
 use mathlib.Core.Bool.{cond}
-use lib.ListN.{length, getD, take}
+use lib.ListN.{length, getD, set, take}
 use lib.Seq.{slice}
 use lib.Dec.{eqb}
 use Rattle.base.specs.Rounds.{upFrom}
@@ -38,8 +39,15 @@ nonterminalsAt = suc kindsAt
 abbrev pub sizeAt : ℕ
 sizeAt = suc nonterminalsAt
 
+abbrev pub cornersAt : ℕ
+cornersAt = suc sizeAt
+
 abbrev pub tableWords : ℕ
-tableWords = suc sizeAt
+tableWords = cornersAt + 2 * maxNonterminals
+
+-- what a word of 16 bits is below: a row of corners is a low half and so many times a high one
+abbrev pub half : ℕ
+half = 65536
 
 -- a place's word has so many symbol codes and so many owners
 abbrev pub codes : ℕ
@@ -90,9 +98,27 @@ grammarIn t = record {
 abbrev pub nonterminalsIn : List ℕ → ℕ
 nonterminalsIn t = getD t nonterminalsAt 0
 
+-- where the row of left corners of nonterminal a stands in the tables
+abbrev pub cornerAt : ℕ → ℕ
+cornerAt a = cornersAt + 2 * a
+
+-- the row of left corners that tables hold for nonterminal a
+unfoldable pub cornerRow : List ℕ → ℕ → ℕ
+cornerRow t a = getD t (cornerAt a) 0 + getD t (suc (cornerAt a)) 0 * half
+
+-- the tables with that row put into them
+unfoldable pub withCorners : List ℕ → ℕ → ℕ → List ℕ
+withCorners t a row = set (set t (cornerAt a) (row % half)) (suc (cornerAt a)) (row / half)
+
 -- what readers of tables may rely on: every index that the words say is in range
 pub record Fits (t : List ℕ) : Type 0 where
   pub long : length t ≡ tableWords
   pub few : nonterminalsIn t ≤ maxNonterminals
-  pub within : (a : ℕ) → a < nonterminalsIn t → ruleAt t (suc a) ≤ tableWords
+  pub within : (a : ℕ) → a < nonterminalsIn t → ruleAt t (suc a) ≤ cornersAt
   pub named : (p a : ℕ) → facing (grammarIn t) p ≡ Nonterminal a → a < nonterminalsIn t
+
+-- tables t say what tables t₀ say: at most the rows of left corners differ
+pub record Kept (t₀ t : List ℕ) : Type 0 where
+  pub says : grammarIn t ≡ grammarIn t₀
+  pub number : nonterminalsIn t ≡ nonterminalsIn t₀
+  pub fits : Fits t

@@ -3,7 +3,7 @@ ghost use mathlib.Core.Path.{_≡_};
 ghost use Prim.Native.Nat.{suc, _+_, _≤_, _<_};
 ghost use lib.ListN.{length, getD};
 ghost use Rattle.grammar.specs.Grammar.{placeAt, admits};
-ghost use Rattle.grammar.specs.Tables.{codes, wordOf, symbolOf, placeOf, grammarIn, nonterminalsIn, ruleAt, tableWords};
+ghost use Rattle.grammar.specs.Tables.{codes, wordOf, symbolOf, placeOf, grammarIn, nonterminalsIn, ruleAt, tableWords, cornerRow, withCorners};
 ghost use Rattle.grammar.specs.Limits.{maxNonterminals};
 ghost use Rattle.grammar.specs.Decode.{written};
 
@@ -26,7 +26,8 @@ pub const END_PLACE: usize = MAX_PLACES;
 const NOBODY: usize = MAX_NONTERMINALS;
 
 // The tables: one word for each place, END_PLACE included; the first place of each production; for each nonterminal the number of its first
-// production, and behind the last nonterminal the number of all; then the number of kinds, of nonterminals and of places. specs/Tables has the same.
+// production, and behind the last nonterminal the number of all; then the number of kinds, of nonterminals and of places; and for each nonterminal the
+// set of its left corners, which the check works out. specs/Tables has the same.
 pub const FIRSTS: usize = END_PLACE + 1;
 
 pub const RULES: usize = FIRSTS + MAX_PLACES;
@@ -37,7 +38,12 @@ pub const NONTERMINALS: usize = KINDS + 1;
 
 pub const SIZE: usize = NONTERMINALS + 1;
 
-pub const TABLE_WORDS: usize = SIZE + 1;
+pub const CORNERS: usize = SIZE + 1;
+
+pub const TABLE_WORDS: usize = CORNERS + 2 * MAX_NONTERMINALS;
+
+// A row of corners has 32 bits: the low half in one word, the high one in the next.
+const HALF: usize = 65536;
 
 // The word of a place: its symbol's code is below CODES, its owner below OWNERS. specs/Tables has the same.
 const CODES: usize = 256;
@@ -149,6 +155,28 @@ pub fn first_place(tables: &[u16], k: usize) -> usize
     ensures { λ r. ⌜ r ≡ getD (now (tables .entry)) k 0 ⌝ }
 {
     base::index(tables[k])
+}
+
+// The row of left corners that the tables hold for nonterminal a.
+pub fn corner_row(tables: &[u16], a: usize) -> u32
+    requires { ⌜ (a < maxNonterminals) × (length (now tables) ≡ tableWords) ⌝ }
+    ensures { λ r. ⌜ r ≡ cornerRow (now (tables .entry)) a ⌝ }
+{
+    let at = CORNERS + 2 * a;
+    let low = base::index(tables[at]);
+    let high = base::index(tables[at + 1]);
+    base::word(low + high * HALF)
+}
+
+// Puts the row of left corners of nonterminal a into the tables.
+pub fn put_corners(tables: &mut [u16], a: usize, row: u32)
+    requires { ⌜ (a < maxNonterminals) × (length (now tables) ≡ tableWords) ⌝ }
+    ensures { λ _. ⌜ now (tables .exit) ≡ withCorners (now (tables .entry)) a row ⌝ }
+{
+    let at = CORNERS + 2 * a;
+    let corners = base::number(row);
+    tables[at] = base::narrow(corners % HALF);
+    tables[at + 1] = base::narrow(corners / HALF);
 }
 
 // Whether a token may stand where a kind is called for.

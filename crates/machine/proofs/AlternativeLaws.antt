@@ -13,7 +13,7 @@ use Rattle.base.specs.Search.{lowestFrom, LowestIs, this, nothing}
 use Rattle.base.proofs.Booleans.{clash}
 use Rattle.base.proofs.Lowest as search
 use Rattle.grammar.specs.Grammar.{alternatives, first}
-use Rattle.grammar.specs.Tables.{tableWords, grammarIn, nonterminalsIn, ruleAt}
+use Rattle.grammar.specs.Tables.{cornersAt, grammarIn, nonterminalsIn, ruleAt}
 use Rattle.grammar.proofs.GrammarLaws.{first-below}
 use Rattle.grammar.proofs.WordLaws.{length-starts-in}
 use Rattle.derivation.specs.Runs.{marked}
@@ -48,7 +48,7 @@ module _ (t : List ℕ) (h : Ready t) (a b : ℕ) (named : Named t a b) where
       go zero e = clash (cc)
       go (suc b) e = let l = get-lt (alternatives (grammarIn t) a) b e in omega (arith, n)
 
-  pub named-in : ruleAt t (suc a) ≤ tableWords
+  pub named-in : ruleAt t (suc a) ≤ cornersAt
   named-in = h .fits .within a named-below
 
   pub first-is : {s r : ℕ} → s ≡ ruleAt t a → r ≡ getD t (s + b - 1) 0 → first (grammarIn t) a b ≡ some r

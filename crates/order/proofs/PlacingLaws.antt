@@ -13,12 +13,12 @@ use Rattle.base.proofs.Bits.{same?, test-none, test-set, subset-iff}
 use Rattle.base.proofs.Booleans.{and-T, or-T, T-or-l, T-or-r, true→T, false→¬T}
 use Rattle.grammar.specs.Limits.{maxNonterminals}
 use Rattle.grammar.specs.Grammar.{Grammar}
-use Rattle.grammar.specs.Tables.{grammarIn, nonterminalsIn}
-use Rattle.corners.specs.Corners.{move?, Corners}
+use Rattle.grammar.specs.Tables.{grammarIn, nonterminalsIn, cornerRow}
+use Rattle.corners.specs.Corners.{move?, Cornered}
 use Rattle.derivation.specs.Ready.{Ready}
 use Rattle.derivation.proofs.Pigeon.{Distinct, nil, also, pigeon}
 use Rattle.order.specs.Order.{Among, Lined, InOrder}
-use Rattle.order.specs.Placing.{ripeOf, Placing, Cornered}
+use Rattle.order.specs.Placing.{ripeOf, Placing}
 
 -- ---- the first k of a row as a list: no two alike, so at most as many as there are nonterminals
 entries : List ℕ → ℕ → List ℕ
@@ -125,16 +125,16 @@ module _ (row set₀ a : ℕ) (e : ripeOf row set₀ a ≡ true) where
   ripe-under = subset-iff row set₀ .0 (ripe-both .1)
 
 -- it takes the next place
-module _ (t rows order : List ℕ) (set₀ count a : ℕ) (known : Cornered t rows) (inv : Placing t order set₀ count) (h : a < nonterminalsIn t)
-    (ripe : ripeOf (getD rows a 0) set₀ a ≡ true) where
+module _ (t order : List ℕ) (set₀ count a : ℕ) (known : Ready t) (inv : Placing t order set₀ count) (h : a < nonterminalsIn t)
+    (ripe : ripeOf (cornerRow t a) set₀ a ≡ true) where
   abbrev after : List ℕ
   after = set order count a
 
   pub placing-space : count < nonterminalsIn t
-  placing-space = placing-room t order set₀ count inv a h (ripe-fresh (getD rows a 0) set₀ a ripe)
+  placing-space = placing-room t order set₀ count inv a h (ripe-fresh (cornerRow t a) set₀ a ripe)
 
   entry-new : getD after count 0 ≡ a
-  entry-new = getD-set-same order count a 0 (omega (arith, placing-space, inv .long, known .ready .fits .few))
+  entry-new = getD-set-same order count a 0 (omega (arith, placing-space, inv .long, known .fits .few))
 
   entry-old : (m : ℕ) → m < count → getD after m 0 ≡ getD order m 0
   entry-old m l = getD-set-other order count m a 0 (λ e. absurd (omega arith))
@@ -157,19 +157,19 @@ module _ (t rows order : List ℕ) (set₀ count a : ℕ) (known : Cornered t ro
       last : m ≡ count → ⊥
       last e =
           let y : Among after count a = rw (e, entry-new) at x in
-          false→¬T (testBit set₀ a) (ripe-fresh (getD rows a 0) set₀ a ripe) (inv .marked a (from-after count a (omega arith) y))
+          false→¬T (testBit set₀ a) (ripe-fresh (cornerRow t a) set₀ a ripe) (inv .marked a (from-after count a (omega arith) y))
 
       earlier : (m ≡ count → ⊥) → ⊥
       earlier n = inv .lined .once m (omega arith) (from-after m (getD order m 0) (omega arith) (rw (entry-old m (omega arith)) at x))
 
   behind : (m c : ℕ) → m < suc count → T (move? (grammarIn t) (getD after m 0) c) → Among after m c
-  unfolding Corners
+  unfolding Cornered
   behind m c l x = ⊎-elim last earlier (same? m count)
     where
       last : m ≡ count → Among after m c
       last e =
           let y : T (move? (grammarIn t) a c) = rw (e, entry-new) at x in
-          let z = ripe-under (getD rows a 0) set₀ a ripe c (rw (known .corners a c h) y) in
+          let z = ripe-under (cornerRow t a) set₀ a ripe c (rw (known .corners a c h) y) in
           rw e (to-after count c (omega arith) (inv .listed c z))
 
       earlier : (m ≡ count → ⊥) → Among after m c
@@ -202,17 +202,17 @@ module _ (t rows order : List ℕ) (set₀ count a : ℕ) (known : Cornered t ro
       }
 
 -- as the code has it
-pub placing-on : (t rows order : List ℕ) (set₀ count a : ℕ) {row set′ count′ : ℕ} {order′ : List ℕ} {r : Bool} → Cornered t rows
-    → Placing t order set₀ count → a < nonterminalsIn t → row ≡ getD rows a 0 → r ≡ ripeOf row set₀ a → r ≡ true → set′
+pub placing-on : (t order : List ℕ) (set₀ count a : ℕ) {row set′ count′ : ℕ} {order′ : List ℕ} {r : Bool} → Ready t
+    → Placing t order set₀ count → a < nonterminalsIn t → row ≡ cornerRow t a → r ≡ ripeOf row set₀ a → r ≡ true → set′
     ≡ setBit set₀ a
     → count′ ≡ suc count → order′ ≡ set order count a → Placing t order′ set′ count′
-placing-on t rows order set₀ count a known inv h q e f x y z = rw (x, y, z) (placing-more t rows order set₀ count a known inv h (rw (← q, ← e) f))
+placing-on t order set₀ count a known inv h q e f x y z = rw (x, y, z) (placing-more t order set₀ count a known inv h (rw (← q, ← e) f))
 
-pub placing-fits : (t rows order : List ℕ) (set₀ count a : ℕ) {row : ℕ} {r : Bool} → Cornered t rows → Placing t order set₀ count
+pub placing-fits : (t order : List ℕ) (set₀ count a : ℕ) {row : ℕ} {r : Bool} → Ready t → Placing t order set₀ count
     → a < nonterminalsIn t
-    → row ≡ getD rows a 0 → r ≡ ripeOf row set₀ a → r ≡ true → count < length order
-placing-fits t rows order set₀ count a known inv h q e f =
-    let l = placing-space t rows order set₀ count a known inv h (rw (← q, ← e) f) in omega (arith, inv .long, known .ready .fits .few)
+    → row ≡ cornerRow t a → r ≡ ripeOf row set₀ a → r ≡ true → count < length order
+placing-fits t order set₀ count a known inv h q e f =
+    let l = placing-space t order set₀ count a known inv h (rw (← q, ← e) f) in omega (arith, inv .long, known .fits .few)
 
 -- ---- every nonterminal has a place
 pub placing-all : (t order : List ℕ) (set₀ count : ℕ) → Ready t → Placing t order set₀ count → nonterminalsIn t ≤ count → InOrder t order

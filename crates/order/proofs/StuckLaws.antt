@@ -7,17 +7,18 @@ use mathlib.Core.List.{List, [], _∷_, List·Memᴰ, List·Memᴰ·not-nil, Lis
 use Prim.Native.Nat.{ℕ, zero, suc, _<_}
 use native.Mathlib.Omega.{arith}
 use lib.Dec.{T}
-use lib.ListN.{length, getD}
+use lib.ListN.{length}
 use Rattle.base.specs.Bits.{testBit, isSubset}
 use Rattle.base.proofs.Bits.{same?, subset-iff}
 use Rattle.base.proofs.Booleans.{true→T, false→¬T}
 use Rattle.grammar.specs.Grammar.{Grammar}
-use Rattle.grammar.specs.Tables.{grammarIn, nonterminalsIn}
+use Rattle.grammar.specs.Tables.{grammarIn, nonterminalsIn, cornerRow}
 use Rattle.closures.specs.Textbook.{Move, Reaches, one, LeftRecursive}
-use Rattle.corners.specs.Corners.{move?, Corners}
+use Rattle.corners.specs.Corners.{move?, Cornered}
 use Rattle.corners.proofs.LeftRecursion.{move-iff, move-to, reaches-trans}
 use Rattle.derivation.proofs.Pigeon.{Distinct, nil, also, pigeon}
-use Rattle.order.specs.Placing.{ripeOf, Cornered}
+use Rattle.derivation.specs.Ready.{Ready}
+use Rattle.order.specs.Placing.{ripeOf}
 
 -- ---- two sets: the first lies in the second as far as k, or something below k is missing
 abbrev Missing : ℕ → ℕ → ℕ → Type 0
@@ -87,32 +88,32 @@ module _ (g : Grammar) (n : ℕ) (Free : ℕ → Type 0) (straight : (a : ℕ) �
   no-chain a l f = let (h, x) = chain a l f (suc n) in let y = pigeon n (x .list) (x .distinct) (x .below) in absurd (omega (arith, x .long))
 
 -- ---- no nonterminal is ripe: then all have a place
-module _ (t rows : List ℕ) (known : Cornered t rows) (set : ℕ) (stuck : (a : ℕ) → a < nonterminalsIn t → ripeOf (getD rows a 0) set a ≡ false) where
+module _ (t : List ℕ) (known : Ready t) (set : ℕ) (stuck : (a : ℕ) → a < nonterminalsIn t → ripeOf (cornerRow t a) set a ≡ false) where
   abbrev Free : ℕ → Type 0
   Free a = testBit set a ≡ false
 
-  corner : (a c : ℕ) → a < nonterminalsIn t → T (testBit (getD rows a 0) c) → Move (grammarIn t) a c
-  unfolding Corners
+  corner : (a c : ℕ) → a < nonterminalsIn t → T (testBit (cornerRow t a) c) → Move (grammarIn t) a c
+  unfolding Cornered
   corner a c h x = move-iff (grammarIn t) a c .0 (rw (known .corners a c h) at x)
 
-  corner-named : (a c : ℕ) → a < nonterminalsIn t → T (testBit (getD rows a 0) c) → c < nonterminalsIn t
-  corner-named a c h x = let (p, e) = move-to (grammarIn t) (corner a c h x) in known .ready .fits .named p c e
+  corner-named : (a c : ℕ) → a < nonterminalsIn t → T (testBit (cornerRow t a) c) → c < nonterminalsIn t
+  corner-named a c h x = let (p, e) = move-to (grammarIn t) (corner a c h x) in known .fits .named p c e
 
-  not-under : (a : ℕ) → a < nonterminalsIn t → Free a → isSubset (getD rows a 0) set ≡ false
+  not-under : (a : ℕ) → a < nonterminalsIn t → Free a → isSubset (cornerRow t a) set ≡ false
   unfolding ripeOf
   not-under a h f = rw f at (stuck a h)
 
   next : (a : ℕ) → a < nonterminalsIn t → Free a → (c : ℕ) × (c < nonterminalsIn t) × Free c × Move (grammarIn t) a c
-  next a h f = go (look (getD rows a 0) set (nonterminalsIn t))
+  next a h f = go (look (cornerRow t a) set (nonterminalsIn t))
     where
-      go : Within (getD rows a 0) set (nonterminalsIn t) ⊎ Missing (getD rows a 0) set (nonterminalsIn t)
+      go : Within (cornerRow t a) set (nonterminalsIn t) ⊎ Missing (cornerRow t a) set (nonterminalsIn t)
           → (c : ℕ) × (c < nonterminalsIn t) × Free c × Move (grammarIn t) a c
       go (inl w) =
-          absurd (false→¬T (isSubset (getD rows a 0) set) (not-under a h f) (subset-iff (getD rows a 0) set .1 (λ c x. w c (corner-named a c h x) x)))
+          absurd (false→¬T (isSubset (cornerRow t a) set) (not-under a h f) (subset-iff (cornerRow t a) set .1 (λ c x. w c (corner-named a c h x) x)))
       go (inr (c, l, x, e)) = (c, l, e, corner a c h x)
 
   straight : (a : ℕ) → ¬ LeftRecursive (grammarIn t) a
-  straight = rw (known .ready .says) (known .ready .straight)
+  straight = rw (known .says) (known .straight)
 
   pub stuck-full : (a : ℕ) → a < nonterminalsIn t → T (testBit set a)
   stuck-full a h = go (testBit set a) refl

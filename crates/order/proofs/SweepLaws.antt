@@ -5,11 +5,11 @@ use mathlib.Core.Bool.{Bool, true, false}
 use mathlib.Core.List.{List}
 use Prim.Native.Nat.{ℕ, suc, _+_, _-_, _≤_, _<_}
 use native.Mathlib.Omega.{arith}
-use lib.ListN.{getD}
 use Rattle.base.specs.Bits.{testBit, isSubset}
 use Rattle.base.proofs.Bits.{same?}
-use Rattle.grammar.specs.Tables.{nonterminalsIn}
-use Rattle.order.specs.Placing.{ripeOf, turnOf, Placing, Cornered}
+use Rattle.grammar.specs.Tables.{nonterminalsIn, cornerRow}
+use Rattle.derivation.specs.Ready.{Ready}
+use Rattle.order.specs.Placing.{ripeOf, turnOf, Placing}
 use Rattle.order.proofs.PlacingLaws.{placing-count}
 use Rattle.order.proofs.StuckLaws.{stuck-full}
 
@@ -46,36 +46,34 @@ turn-of false a n h = (n - suc a, omega arith, omega arith)
 
 -- ---- in the first k turns nobody was ripe
 unfoldable pub NoneRipe : List ℕ → Bool → ℕ → ℕ → ℕ → Type 0
-NoneRipe rows up n k set = (m : ℕ) → m < k → ripeOf (getD rows (turnOf up m n) 0) set (turnOf up m n) ≡ false
+NoneRipe t up n k set = (m : ℕ) → m < k → ripeOf (cornerRow t (turnOf up m n)) set (turnOf up m n) ≡ false
 
-pub none-yet : (rows : List ℕ) (up : Bool) (n set : ℕ) → NoneRipe rows up n 0 set
+pub none-yet : (t : List ℕ) (up : Bool) (n set : ℕ) → NoneRipe t up n 0 set
 unfolding NoneRipe
-none-yet rows up n set m h = absurd (omega arith)
+none-yet t up n set m h = absurd (omega arith)
 
-pub none-more : (rows : List ℕ) (up : Bool) (n k set : ℕ) {a row : ℕ} {r : Bool} → NoneRipe rows up n k set → a ≡ turnOf up k n → row
-    ≡ getD rows a 0
-    → r ≡ ripeOf row set a → r ≡ false → NoneRipe rows up n (k + 1) set
+pub none-more : (t : List ℕ) (up : Bool) (n k set : ℕ) {a row : ℕ} {r : Bool} → NoneRipe t up n k set → a ≡ turnOf up k n → row ≡ cornerRow t a
+    → r ≡ ripeOf row set a → r ≡ false → NoneRipe t up n (k + 1) set
 unfolding NoneRipe
-none-more rows up n k set {a} {row} x e q d f m h = ⊎-elim here before (same? m k)
+none-more t up n k set {a} {row} x e q d f m h = ⊎-elim here before (same? m k)
   where
-    now : ripeOf (getD rows a 0) set a ≡ false
+    now : ripeOf (cornerRow t a) set a ≡ false
     now = rw (← q) (sym d ∙ f)
 
-    here : m ≡ k → ripeOf (getD rows (turnOf up m n) 0) set (turnOf up m n) ≡ false
+    here : m ≡ k → ripeOf (cornerRow t (turnOf up m n)) set (turnOf up m n) ≡ false
     here z = rw (z, ← e) now
 
-    before : (m ≡ k → ⊥) → ripeOf (getD rows (turnOf up m n) 0) set (turnOf up m n) ≡ false
+    before : (m ≡ k → ⊥) → ripeOf (cornerRow t (turnOf up m n)) set (turnOf up m n) ≡ false
     before z = x m (omega arith)
 
 -- so a whole turn places somebody
-pub sweep-grows : (t rows order : List ℕ) (up : Bool) (from set count k : ℕ) {n : ℕ} → Cornered t rows → Placing t order set count → n
-    ≡ nonterminalsIn t
-    → from < nonterminalsIn t → from ≤ count → (count ≡ from → NoneRipe rows up n k set) → n ≤ k → from < count
+pub sweep-grows : (t order : List ℕ) (up : Bool) (from set count k : ℕ) {n : ℕ} → Ready t → Placing t order set count → n ≡ nonterminalsIn t
+    → from < nonterminalsIn t → from ≤ count → (count ≡ from → NoneRipe t up n k set) → n ≤ k → from < count
 unfolding NoneRipe
-sweep-grows t rows order up from set count k {n} known inv z h l none m = ⊎-elim full (λ d. omega arith) (same? count from)
+sweep-grows t order up from set count k {n} known inv z h l none m = ⊎-elim full (λ d. omega arith) (same? count from)
   where
     full : count ≡ from → from < count
     full e =
-        let x = stuck-full t rows known set (λ a b. (let (j, c, d) = turn-of up a n (omega arith) in rw (← d) (none e j (omega arith)))) in
+        let x = stuck-full t known set (λ a b. (let (j, c, d) = turn-of up a n (omega arith) in rw (← d) (none e j (omega arith)))) in
         let y = placing-count t order set count inv x in
         omega arith

@@ -8,8 +8,6 @@ use lib.ListN.{length}
 use Rattle.base.specs.Bits.{testBit, isSubset}
 use Rattle.grammar.specs.Limits.{maxNonterminals}
 use Rattle.grammar.specs.Tables.{grammarIn, nonterminalsIn}
-use Rattle.derivation.specs.Ready.{Ready}
-use Rattle.corners.specs.Corners.{Corners}
 use Rattle.order.specs.Order.{Among, Lined}
 
 -- a has no place, and every nonterminal of its row has one
@@ -27,9 +25,3 @@ pub record Placing (t order : List ℕ) (set count : ℕ) : Type 0 where
   pub lined : Lined (grammarIn t) (nonterminalsIn t) order count
   pub listed : (a : ℕ) → T (testBit set a) → Among order count a
   pub marked : (a : ℕ) → Among order count a → T (testBit set a)
-
--- what a turn goes by: tables of a sound grammar, the left corners of its nonterminals
-pub record Cornered (t rows : List ℕ) : Type 0 where
-  pub ready : Ready t
-  pub long : length rows ≡ maxNonterminals
-  pub corners : Corners (grammarIn t) (nonterminalsIn t) rows

@@ -8,7 +8,7 @@ ghost use Rattle.grammar.specs.Limits.{maxNonterminals};
 ghost use Rattle.grammar.specs.Tables.{nonterminalsIn};
 ghost use Rattle.derivation.specs.Ready.{Ready};
 ghost use Rattle.order.specs.Order.{InOrder};
-ghost use Rattle.order.specs.Placing.{ripeOf, turnOf, Placing, Cornered};
+ghost use Rattle.order.specs.Placing.{ripeOf, turnOf, Placing};
 
 // Nonterminals that have a place: which, and how many.
 struct Placed {
@@ -53,9 +53,8 @@ fn place(order: &mut [usize], placed: Placed, a: usize) -> Placed
 }
 
 // Every nonterminal once, upwards or downwards: those that are ripe then take the next place. At least one does.
-fn sweep(tables: &[u16], rows: &[u32], order: &mut [usize], from: Placed, up: bool) -> Placed
-    requires { ⌜ Cornered (now tables) (now rows) × Placing (now tables) (now order) (from .set) (from .count)
-        × (from .count < nonterminalsIn (now tables)) ⌝ }
+fn sweep(tables: &[u16], order: &mut [usize], from: Placed, up: bool) -> Placed
+    requires { ⌜ Ready (now tables) × Placing (now tables) (now order) (from .set) (from .count) × (from .count < nonterminalsIn (now tables)) ⌝ }
     ensures { λ r. ⌜ Placing (now (tables .entry)) (now (order .exit)) (r .set) (r .count) × (from .count < r .count) ⌝ }
 {
     let n = grammar::nonterminals(tables);
@@ -64,7 +63,8 @@ fn sweep(tables: &[u16], rows: &[u32], order: &mut [usize], from: Placed, up: bo
     while k < n {
         let a = turn(up, k, n);
         k += 1;
-        if ripe(rows[a], placed.set, a) {
+        let row = grammar::corner_row(tables, a);
+        if ripe(row, placed.set, a) {
             placed = place(order, placed, a);
         }
     }
@@ -77,12 +77,10 @@ pub fn line_up(tables: &[u16], order: &mut [usize])
     ensures { λ _. ⌜ InOrder (now (tables .entry)) (now (order .exit)) ⌝ }
 {
     let n = grammar::nonterminals(tables);
-    let mut rows = [0u32; grammar::MAX_NONTERMINALS];
-    corners::corners(tables, &mut rows);
     let mut placed = Placed { set: 0, count: 0 };
     let mut up = false;
     while placed.count < n {
-        placed = sweep(tables, &rows, order, placed, up);
+        placed = sweep(tables, order, placed, up);
         up = !up;
     }
 }

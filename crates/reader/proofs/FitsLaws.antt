@@ -12,7 +12,7 @@ use Rattle.grammar.specs.Grammar.{Grammar, at, facing, sizeAll, compile, Limite
 use Rattle.grammar.specs.Tables.{rulesAt, tableWords, ruleAt, nonterminalsIn, Fits}
 use Rattle.grammar.proofs.PlaceLaws.{Faces, compile-faces}
 use Rattle.reader.proofs.PassLaws.{countsOf, laidOut, length-size}
-use Rattle.reader.proofs.TableLaws.{C, A, B, D, held, length-A, length-B, length-D, laid, get-last, get-count, tables-say}
+use Rattle.reader.proofs.TableLaws.{unwritten, C, A, B, D, held, length-A, length-B, length-D, laid, get-last, get-count, tables-say}
 
 -- every nonterminal that a place faces is one of the grammar's
 pub compile-named : (r : Rules) → Limited r → (p a : ℕ) → facing (compile r) p ≡ Nonterminal a → a < length (r .productions)
@@ -35,7 +35,7 @@ counts-le k (n ∷ l) (suc j) = omega (arith, counts-le (k + length n) l j, leng
 module _ (r : Rules) (limits : Limited r) where
   length-held : length (held r limits) ≡ tableWords
   length-held =
-      let E : List ℕ = r .kinds ∷ length (r .productions) ∷ sizeAll (r .productions) ∷ [] in
+      let E : List ℕ = r .kinds ∷ length (r .productions) ∷ sizeAll (r .productions) ∷ unwritten in
       omega (
         arith,
         length-append (A r limits) (1 ∷ (B r limits ++ (D r limits ++ E))),
@@ -50,7 +50,7 @@ module _ (r : Rules) (limits : Limited r) where
   unfolding ruleAt C
   tables-fit =
       let N : nonterminalsIn (laidOut (replicate tableWords 0) r) ≡ length (r .productions)
-      = rw (laid r limits) (get-last r limits 1 (r .kinds ∷ length (r .productions) ∷ sizeAll (r .productions) ∷ [])) in
+      = rw (laid r limits) (get-last r limits 1 (r .kinds ∷ length (r .productions) ∷ sizeAll (r .productions) ∷ unwritten)) in
       record {
         long = rw (laid r limits) length-held;
         few = omega (arith, N, limits .few);

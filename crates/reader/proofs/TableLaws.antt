@@ -1,7 +1,7 @@
 -- The tables that the pass leaves say the compiled grammar: `grammarIn` of them is `compile` of the decoded rules.
 use mathlib.Core.Path.{_≡_, refl, sym, ap, ap₂, _∙_}
 use mathlib.Core.List.{List, [], _∷_, _++_, append-assoc, map, map-append}
-use Prim.Native.Nat.{ℕ, zero, suc, _+_, _-_, _≤_, _<_}
+use Prim.Native.Nat.{ℕ, zero, suc, _+_, _-_, _*_, _≤_, _<_}
 use native.Mathlib.Nat.{sub-zero, add-zero}
 use native.Mathlib.Omega.{arith}
 use lib.ListN.{length, getD, set, take, drop, replicate, length-append, length-replicate, List·getD-append, length-map}
@@ -140,7 +140,12 @@ length-firsts o [] = omega arith
 length-firsts o (n ∷ l) =
     omega (arith, length-append (startsEach o n) (firstsOf (o + sizeEach n) l), length-starts o n, length-size n, length-firsts (o + sizeEach n) l)
 
--- what the tables hold, region by region: places, the end place, first places, numbers of productions, and how much there is
+-- the words of the rows of left corners, which are written later
+abbrev pub unwritten : List ℕ
+unwritten = replicate (2 * maxNonterminals) 0
+
+-- what the tables hold, region by region: places, the end place, first places, numbers of productions, and how much there is, with all
+-- that comes behind
 abbrev pub regions : List ℕ → ℕ → List ℕ → List ℕ → List ℕ → List ℕ
 regions A w B D E = A ++ (w ∷ (B ++ (D ++ E)))
 
@@ -176,7 +181,7 @@ module _ (r : Rules) (limits : Limited r) where
   D = C ++ replicate (ruleWords - length C) 0
 
   abbrev pub held : List ℕ
-  held = regions A 1 B D (r .kinds ∷ length (r .productions) ∷ sizeAll (r .productions) ∷ [])
+  held = regions A 1 B D (r .kinds ∷ length (r .productions) ∷ sizeAll (r .productions) ∷ unwritten)
 
   pub length-A : length A ≡ maxPlaces
   unfolding A
@@ -191,12 +196,12 @@ module _ (r : Rules) (limits : Limited r) where
   length-D = length-filled C ruleWords few-C
 
   -- the three runs of stores
-  stored : sets (sets (sets (replicate tableWords 0) rulesAt C) firstsAt S) 0 W ≡ regions A 0 B D (0 ∷ 0 ∷ 0 ∷ [])
+  stored : sets (sets (sets (replicate tableWords 0) rulesAt C) firstsAt S) 0 W ≡ regions A 0 B D (0 ∷ 0 ∷ 0 ∷ unwritten)
   unfolding A B D
   stored =
-      ap (λ (t : List ℕ). sets (sets t firstsAt S) 0 W) (fill (replicate rulesAt 0) (0 ∷ 0 ∷ 0 ∷ []) ruleWords C rulesAt refl few-C)
-      ∙ ap (λ (t : List ℕ). sets t 0 W) (fill (replicate firstsAt 0) (D ++ (0 ∷ 0 ∷ 0 ∷ [])) maxPlaces S firstsAt refl few-S)
-      ∙ fill [] (0 ∷ (B ++ (D ++ (0 ∷ 0 ∷ 0 ∷ [])))) maxPlaces W 0 refl few-W
+      ap (λ (t : List ℕ). sets (sets t firstsAt S) 0 W) (fill (replicate rulesAt 0) (0 ∷ 0 ∷ 0 ∷ unwritten) ruleWords C rulesAt refl few-C)
+      ∙ ap (λ (t : List ℕ). sets t 0 W) (fill (replicate firstsAt 0) (D ++ (0 ∷ 0 ∷ 0 ∷ unwritten)) maxPlaces S firstsAt refl few-S)
+      ∙ fill [] (0 ∷ (B ++ (D ++ (0 ∷ 0 ∷ 0 ∷ unwritten)))) maxPlaces W 0 refl few-W
 
   -- the last four stores
   set-end : (w x : ℕ) (E : List ℕ) → set (regions A w B D E) endPlace x ≡ regions A x B D E
@@ -214,11 +219,11 @@ module _ (r : Rules) (limits : Limited r) where
       ap (λ (t : List ℕ). set (set (set (set t endPlace 1) kindsAt (r .kinds)) nonterminalsAt (length (r .productions))) sizeAt (sizeAll (r .productions)))
       stored
       ∙ ap (λ (t : List ℕ). set (set (set t kindsAt (r .kinds)) nonterminalsAt (length (r .productions))) sizeAt (sizeAll (r .productions)))
-      (set-end 0 1 (0 ∷ 0 ∷ 0 ∷ []))
+      (set-end 0 1 (0 ∷ 0 ∷ 0 ∷ unwritten))
       ∙ ap (λ (t : List ℕ). set (set t nonterminalsAt (length (r .productions))) sizeAt (sizeAll (r .productions)))
-      (set-last 1 (0 ∷ 0 ∷ 0 ∷ []) 0 (r .kinds))
-      ∙ ap (λ (t : List ℕ). set t sizeAt (sizeAll (r .productions))) (set-last 1 (r .kinds ∷ 0 ∷ 0 ∷ []) 1 (length (r .productions)))
-      ∙ set-last 1 (r .kinds ∷ length (r .productions) ∷ 0 ∷ []) 2 (sizeAll (r .productions))
+      (set-last 1 (0 ∷ 0 ∷ 0 ∷ unwritten) 0 (r .kinds))
+      ∙ ap (λ (t : List ℕ). set t sizeAt (sizeAll (r .productions))) (set-last 1 (r .kinds ∷ 0 ∷ 0 ∷ unwritten) 1 (length (r .productions)))
+      ∙ set-last 1 (r .kinds ∷ length (r .productions) ∷ 0 ∷ unwritten) 2 (sizeAll (r .productions))
 
   -- looks at them
   pub get-last : (i : ℕ) (E : List ℕ) → getD (regions A 1 B D E) (maxPlaces + suc (maxPlaces + (ruleWords + i))) 0 ≡ getD E i 0
@@ -230,7 +235,7 @@ module _ (r : Rules) (limits : Limited r) where
   unfolding D C
   get-count j h =
       let e : rulesAt + (0 + j) ≡ maxPlaces + suc (maxPlaces + j) = omega arith in
-      let E : List ℕ = r .kinds ∷ length (r .productions) ∷ sizeAll (r .productions) ∷ [] in
+      let E : List ℕ = r .kinds ∷ length (r .productions) ∷ sizeAll (r .productions) ∷ unwritten in
       let l : j < length C = omega (arith, length-counts 0 (r .productions)) in
       rw e
       (getD-behind A (1 ∷ (B ++ (D ++ E))) maxPlaces (suc (maxPlaces + j)) length-A
@@ -241,7 +246,7 @@ module _ (r : Rules) (limits : Limited r) where
   pub the-places : map placeOf (take placeWords held) ≡ padded (layAll 0 (r .productions))
   unfolding padded A W placeOf
   the-places =
-      let E : List ℕ = r .kinds ∷ length (r .productions) ∷ sizeAll (r .productions) ∷ [] in
+      let E : List ℕ = r .kinds ∷ length (r .productions) ∷ sizeAll (r .productions) ∷ unwritten in
       let n : length (layAll 0 (r .productions)) ≡ length W = sym (length-map (layAll 0 (r .productions)) wordOf) in
       let cut : take placeWords held ≡ A ++ (1 ∷ [])
       = ap (take placeWords) (sym (append-assoc A (1 ∷ []) (B ++ (D ++ E))))
@@ -255,10 +260,10 @@ module _ (r : Rules) (limits : Limited r) where
       ∙ append-assoc (layAll 0 (r .productions)) (replicate (maxPlaces - length (layAll 0 (r .productions))) nowhere) (at nobody (Token endMark) ∷ [])
 
   the-firsts : drop (firstsAt + 0) held
-      ≡ S ++ (replicate (maxPlaces - length S) 0 ++ (D ++ (r .kinds ∷ length (r .productions) ∷ sizeAll (r .productions) ∷ [])))
+      ≡ S ++ (replicate (maxPlaces - length S) 0 ++ (D ++ (r .kinds ∷ length (r .productions) ∷ sizeAll (r .productions) ∷ unwritten)))
   unfolding B
   the-firsts =
-      let E : List ℕ = r .kinds ∷ length (r .productions) ∷ sizeAll (r .productions) ∷ [] in
+      let E : List ℕ = r .kinds ∷ length (r .productions) ∷ sizeAll (r .productions) ∷ unwritten in
       ap (drop firstsAt) (sym (append-assoc A (1 ∷ []) (B ++ (D ++ E))))
       ∙ drop-at (A ++ (1 ∷ [])) (B ++ (D ++ E)) firstsAt (length-append A (1 ∷ []) ∙ omega (arith, length-A))
       ∙ append-assoc S (replicate (maxPlaces - length S) 0) (D ++ E)
@@ -267,9 +272,9 @@ module _ (r : Rules) (limits : Limited r) where
   unfolding grammarIn compile S C
   tables-say =
       rw laid
-      (let N : getD held nonterminalsAt 0 ≡ length (r .productions) = get-last 1 (r .kinds ∷ length (r .productions) ∷ sizeAll (r .productions) ∷ []) in
-      let T : getD held kindsAt 0 ≡ r .kinds = get-last 0 (r .kinds ∷ length (r .productions) ∷ sizeAll (r .productions) ∷ []) in
-      let P : getD held sizeAt 0 ≡ sizeAll (r .productions) = get-last 2 (r .kinds ∷ length (r .productions) ∷ sizeAll (r .productions) ∷ []) in
+      (let N : getD held nonterminalsAt 0 ≡ length (r .productions) = get-last 1 (r .kinds ∷ length (r .productions) ∷ sizeAll (r .productions) ∷ unwritten) in
+      let T : getD held kindsAt 0 ≡ r .kinds = get-last 0 (r .kinds ∷ length (r .productions) ∷ sizeAll (r .productions) ∷ unwritten) in
+      let P : getD held sizeAt 0 ≡ sizeAll (r .productions) = get-last 2 (r .kinds ∷ length (r .productions) ∷ sizeAll (r .productions) ∷ unwritten) in
       let Q : startsIn held (upFrom 0 (getD held nonterminalsAt 0)) ≡ startsAll 0 (r .productions)
       = ap (λ (n : ℕ). startsIn held (upFrom 0 n)) N ∙ starts-back held _ (r .productions) 0 0 0 get-count the-firsts in
       λ i. record { kinds = T i; size = P i; starts = Q i; places = the-places i })

@@ -17,20 +17,21 @@ use Rattle.number.specs.declared.Read.{Read}
 use Rattle.number.specs.declared.Read.the-variants.{Value, Refused as Unread}
 use Rattle.grammar.specs.Limits.{maxNonterminals}
 use Rattle.grammar.specs.Grammar.{Grammar}
-use Rattle.grammar.specs.Tables.{tableWords, grammarIn, nonterminalsIn, Fits}
+use Rattle.grammar.specs.Tables.{tableWords, grammarIn, nonterminalsIn, Fits, Kept}
 use Rattle.reader.specs.Pass.{out, passOf}
 use Rattle.reader.proofs.ReadLaws.{Outcome, none, whole, outcome}
 use Rattle.grammar.proofs.WordLaws.{length-starts-in}
+use Rattle.grammar.proofs.CornerLaws.{kept-on}
 use Rattle.soundness.specs.declared.judgement.Verdict.{Verdict}
 use Rattle.soundness.specs.declared.judgement.Verdict.the-variants.{Sound, Refused}
 use Rattle.closures.specs.Textbook.{Move}
 use Rattle.closures.specs.Closures.{deriving?}
-use Rattle.corners.specs.Corners.{Corners, leftRecursive?}
+use Rattle.corners.specs.Corners.{Corners, Cornered, leftRecursive?}
 use Rattle.soundness.specs.Check.{lowestUnproductive, lowestLeftRecursive, refuseAt, unproductiveOf, leftRecursiveOf, verdictOn, judgeOf, judged}
 use Rattle.soundness.specs.Check.{checkOf}
 use Rattle.closures.specs.Steps.{DerivingIs}
 use Rattle.corners.specs.Steps.{reachOf}
-use Rattle.soundness.specs.Compiled.{Compiled}
+use Rattle.soundness.specs.Compiled.{Judged, Compiled}
 use Rattle.corners.proofs.LeftRecursion.{move-to}
 use Rattle.corners.proofs.Warshall.{reached}
 
@@ -69,14 +70,18 @@ module _ (g : Grammar) (number : ℕ) {v : Verdict} where
   verdict-seven n h = rw (ne-eqb number 6 n) h
 
 -- ---- 6 before 7
-module _ (g : Grammar) {v : Verdict} (e : v ≡ verdictOn 6 g) where
-  pub judge-first : {r : Refusal} → v ≡ Refused r → Refused r ≡ judgeOf g
+module _ (t₀ : List ℕ) {v : Verdict} (e : v ≡ verdictOn 6 (grammarIn t₀)) {t : List ℕ} (k : Kept t₀ t) where
+  pub judge-first : {r : Refusal} → v ≡ Refused r → Judged (Refused r) (judgeOf (grammarIn t₀)) t₀ t
   unfolding judgeOf verdictOn
-  judge-first h = rw (← e, h)
+  judge-first h = record { verdict = rw (← e, h); kept = k; cornered = λ q. clash (cc) }
 
-  pub judge-second : {w : Verdict} → v ≡ Sound → w ≡ verdictOn 7 g → w ≡ judgeOf g
-  unfolding judgeOf verdictOn
-  judge-second h q = rw (← e, h, q)
+  module _ {w : Verdict} (h : v ≡ Sound) (f : w ≡ verdictOn 7 (grammarIn t)) {t′ : List ℕ} (m : Kept t t′) (c : Cornered t′) where
+    second : w ≡ judgeOf (grammarIn t₀)
+    unfolding judgeOf verdictOn
+    second = let q : w ≡ verdictOn 7 (grammarIn t₀) = rw (k .says) at f in rw (← e, h, q)
+
+    pub judge-second : Judged w (judgeOf (grammarIn t₀)) t₀ t′
+    judge-second = record { verdict = second; kept = kept-on k m; cornered = λ _. c }
 
 -- ---- the bytes
 module _ (s t₀ : List ℕ) {x : Read} {t : List ℕ} (z : t₀ ≡ replicate tableWords 0) (e : out x t ≡ passOf s t₀) where
@@ -86,7 +91,7 @@ module _ (s t₀ : List ℕ) {x : Read} {t : List ℕ} (z : t₀ ≡ replicate t
     where
       go : Outcome s x t → Compiled s (Refused r) t
       go (none r′ q h′) = let y : r′ ≡ r = cc in
-          record { verdict = rw (q, y); says = λ g m q′. clash (cc); fits = λ g m q′. clash (cc) }
+          record { verdict = rw (q, y); says = λ g m q′. clash (cc); fits = λ g m q′. clash (cc); cornered = λ q′. clash (cc) }
       go (whole g m v c q h′ l u f) = clash (cc)
 
   module _ {v : ℕ} {c : Cursor} (h : x ≡ Value v c) where
@@ -97,15 +102,16 @@ module _ (s t₀ : List ℕ) {x : Read} {t : List ℕ} (z : t₀ ≡ replicate t
         go (none r q h′) = clash (cc)
         go (whole g m v c q h′ l u f) = f
 
-    pub compile-judged : {w : Verdict} → w ≡ judgeOf (grammarIn t) → Compiled s w t
+    pub compile-judged : {w : Verdict} {t′ : List ℕ} → Judged w (judgeOf (grammarIn t)) t t′ → Compiled s w t′
     unfolding checkOf
-    compile-judged {w} j = go (outcome s t₀ z e)
+    compile-judged {w} {t′} j = go (outcome s t₀ z e)
       where
-        go : Outcome s x t → Compiled s w t
+        go : Outcome s x t → Compiled s w t′
         go (none r q h′) = clash (cc)
         go (whole g m v c q h′ l u f) =
             record {
-              verdict = j ∙ ap judgeOf u ∙ ap judged (sym q);
-              says = λ g′ m′ q′. let y : g ≡ g′ = cc in rw (← y) u;
-              fits = λ g′ m′ q′. f;
+              verdict = j .verdict ∙ ap judgeOf u ∙ ap judged (sym q);
+              says = λ g′ m′ q′. let y : g ≡ g′ = cc in rw (← y) (j .kept .says ∙ u);
+              fits = λ g′ m′ q′. j .kept .fits;
+              cornered = j .cornered;
             }

@@ -4,12 +4,21 @@ use mathlib.Core.List.{List}
 use Prim.Native.Nat.{ℕ}
 use Rattle.grammar.specs.Decode.{Rules, Mark, got, decode}
 use Rattle.grammar.specs.Grammar.{compile}
-use Rattle.grammar.specs.Tables.{grammarIn, Fits}
+use Rattle.grammar.specs.Tables.{grammarIn, Fits, Kept}
+use Rattle.corners.specs.Corners.{Cornered}
 use Rattle.soundness.specs.Check.{checkOf}
 use Rattle.soundness.specs.declared.judgement.Verdict.{Verdict}
+use Rattle.soundness.specs.declared.judgement.Verdict.the-variants.{Sound}
 
--- the verdict on bytes s, and the tables t: where the bytes say rules, the tables say the same
+-- the verdict v on tables t₀ is w, and tables t are left: they say the same, and hold the left corners of a sound grammar
+pub record Judged (v w : Verdict) (t₀ t : List ℕ) : Type 0 where
+  pub verdict : v ≡ w
+  pub kept : Kept t₀ t
+  pub cornered : v ≡ Sound → Cornered t
+
+-- the verdict on bytes s, and the tables t: where the bytes say rules, the tables say the same, and of a sound grammar they hold the left corners
 pub record Compiled (s : List ℕ) (v : Verdict) (t : List ℕ) : Type 0 where
   pub verdict : v ≡ checkOf s
   pub says : (r : Rules) (m : Mark) → decode s ≡ got r m → grammarIn t ≡ compile r
   pub fits : (r : Rules) (m : Mark) → decode s ≡ got r m → Fits t
+  pub cornered : v ≡ Sound → Cornered t

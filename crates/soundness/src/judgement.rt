@@ -8,9 +8,10 @@ ghost use lib.ListN.{length, getD, replicate};
 ghost use Rattle.base.specs.Bits.{testBit};
 ghost use Rattle.base.specs.Search.{lowestFrom};
 ghost use Rattle.grammar.specs.Limits.{maxNonterminals};
-ghost use Rattle.grammar.specs.Tables.{grammarIn, Fits, tableWords};
+ghost use Rattle.grammar.specs.Tables.{grammarIn, Fits, Kept, tableWords};
+ghost use Rattle.corners.specs.Corners.{Cornered};
 ghost use Rattle.soundness.specs.Check.{refuseAt, unproductiveOf, leftRecursiveOf, verdictOn, judgeOf, checkOf, verdictNumber, verdictPlace};
-ghost use Rattle.soundness.specs.Compiled.{Compiled};
+ghost use Rattle.soundness.specs.Compiled.{Judged, Compiled};
 
 // What the check answers.
 pub enum Verdict {
@@ -82,22 +83,24 @@ fn unproductive(tables: &[u16]) -> Verdict
     lowest_missing(productive, n)
 }
 
-// Refusal 7.
-fn left_recursive(tables: &[u16]) -> Verdict
+// Refusal 7; the left corners, by which it is found, stay in the tables.
+fn left_recursive(tables: &mut [u16]) -> Verdict
     requires { ⌜ Fits (now tables) ⌝ }
-    ensures { λ r. ⌜ r ≡ leftRecursiveOf (grammarIn (now (tables .entry))) ⌝ }
+    ensures { λ r. ⌜ (r ≡ leftRecursiveOf (grammarIn (now (tables .entry)))) × Kept (now (tables .entry)) (now (tables .exit)) × Cornered (now (tables .exit)) ⌝ }
 {
     let n = grammar::nonterminals(tables);
     let mut rows = [0u32; grammar::MAX_NONTERMINALS];
     corners::corners(tables, &mut rows);
+    corners::store(tables, &rows);
     corners::reach(&mut rows, n);
     lowest_own(&rows, n)
 }
 
 // The verdict on refusal 6, or else on 7.
-fn verdict_on(tables: &[u16], number: u32) -> Verdict
+fn verdict_on(tables: &mut [u16], number: u32) -> Verdict
     requires { ⌜ Fits (now tables) ⌝ }
-    ensures { λ r. ⌜ r ≡ verdictOn number (grammarIn (now (tables .entry))) ⌝ }
+    ensures { λ r. ⌜ (r ≡ verdictOn number (grammarIn (now (tables .entry))))
+        × Kept (now (tables .entry)) (now (tables .exit)) × ((number ≡ 6 → ⊥) → Cornered (now (tables .exit))) ⌝ }
 {
     if number == 6 {
         return unproductive(tables);
@@ -106,9 +109,9 @@ fn verdict_on(tables: &[u16], number: u32) -> Verdict
 }
 
 // 6, and then 7.
-fn judge(tables: &[u16]) -> Verdict
+fn judge(tables: &mut [u16]) -> Verdict
     requires { ⌜ Fits (now tables) ⌝ }
-    ensures { λ r. ⌜ r ≡ judgeOf (grammarIn (now (tables .entry))) ⌝ }
+    ensures { λ r. ⌜ Judged r (judgeOf (grammarIn (now (tables .entry)))) (now (tables .entry)) (now (tables .exit)) ⌝ }
 {
     let first = verdict_on(tables, 6);
     match first {

@@ -11,38 +11,25 @@ use Rattle.order.proofs.line_up.Statement.{statement}
 use Rattle.order.proofs.line_up.Tie as tie
 
 abbrev Inv-loop : tie.InvT-loop
-Inv-loop tables order₀ n rows placed₀ up₀ order placed up = (length order ≡ length order₀) × Placing tables order (placed .set) (placed .count)
+Inv-loop tables order₀ n placed₀ up₀ order placed up = (length order ≡ length order₀) × Placing tables order (placed .set) (placed .count)
 
 abbrev μ-loop : tie.MeasureT-loop
-μ-loop tables order₀ n rows placed₀ up₀ order placed up = n - placed .count
+μ-loop tables order₀ n placed₀ up₀ order placed up = n - placed .count
 
 nonterminals-requires : tie.Need-nonterminals-requires Inv-loop μ-loop
 nonterminals-requires c κs = search needs
 
-slice-aggregate-corners : tie.Need-slice-aggregate-corners Inv-loop μ-loop
-slice-aggregate-corners c = search needs
-
-corners-requires : tie.Need-corners-requires Inv-loop μ-loop
-corners-requires c κs = search needs
-
 loop-holds : tie.Need-loop-holds Inv-loop μ-loop
 loop-holds c =
-    let at-entry = c .before .before .before .before .before .before in
+    let at-entry = c .before .before .before in
     (refl, placing-none _ _ (at-entry .pre .1))
-
-slice-aggregate-sweep : tie.Need-slice-aggregate-sweep Inv-loop μ-loop
-slice-aggregate-sweep c = search needs
 
 sweep-requires : tie.Need-sweep-requires Inv-loop μ-loop
 sweep-requires c κs =
-    let at-entry = c .before .before .before .before .before .before .before .before .before .before .before in
-    let at-nonterminals = c .before .before .before .before .before .before .before .before in
-    let at-corners = c .before .before .before .before .before .before in
-    let at-loop = c .before .before .before .before in (
-      record { ready = at-entry .pre .0; long = at-corners .corners .kept .1 .0; corners = at-corners .corners .ensures },
-      at-loop .loop .inv .1,
-      omega (arith, at-nonterminals .nonterminals .ensures),
-    )
+    let at-loop = c .before .before .before in
+    let at-nonterminals = at-loop .before in
+    let at-entry = at-nonterminals .before .before .before in
+    (at-entry .pre .0, at-loop .loop .inv .1, omega (arith, at-nonterminals .nonterminals .ensures))
 
 loop-less : tie.Need-loop-less Inv-loop μ-loop
 loop-less c =
@@ -59,9 +46,9 @@ same-length c = search needs
 
 returns : tie.Need-returns Inv-loop μ-loop
 returns c =
-    let at-entry = c .before .before .before .before .before .before .before .before .before in
-    let at-nonterminals = c .before .before .before .before .before .before in
     let at-loop = c .before .before in
+    let at-nonterminals = at-loop .before in
+    let at-entry = at-nonterminals .before .before .before in
     placing-all _ _ _ _ (at-entry .pre .0) (at-loop .loop .inv .1) (omega (arith, at-nonterminals .nonterminals .ensures))
 
 pub line-up-spec : {M : Type 1} → statement M
@@ -71,10 +58,7 @@ line-up-spec =
     Inv-loop
     μ-loop
     nonterminals-requires
-    slice-aggregate-corners
-    corners-requires
     loop-holds
-    slice-aggregate-sweep
     sweep-requires
     loop-less
     loop-again

@@ -34,10 +34,11 @@ same-length-2 c = search needs
 
 returns-2 : tie.Need-returns-2
 returns-2 c =
-    let at-enum-told = c .before .before in
+    let at-judge = c .before .before in
+    let at-enum-told = at-judge .before .before in
     let at-read-grammar = at-enum-told .before .before .before .before in
     let at-entry = at-read-grammar .before .before .before .before in
-    compile-judged _ _ (at-entry .pre) (at-read-grammar .read-grammar .ensures) (at-enum-told .enum-told .given .1) (c .judge .ensures)
+    compile-judged _ _ (at-entry .pre) (at-read-grammar .read-grammar .ensures) (at-enum-told .enum-told .given .1) (at-judge .judge .ensures)
 
 pub compile-spec : {M : Type 1} → statement M
 compile-spec =

@@ -1,6 +1,8 @@
--- `soundness::judgement::judge` meets its contract: each way out, 6 refused or 7 asked, is one case of `judgeOf`.
-use borrow.Author.Needs.{needs}
+-- `soundness::judgement::judge` meets its contract: each way out, 6 refused or 7 asked, is one case of `judgeOf`; a grammar that is sound was asked for 7, so
+-- that its corners are stored.
+use native.Mathlib.Omega.{arith}
 use Rattle.soundness.proofs.Judging.{judge-first, judge-second}
+use borrow.Author.Needs.{needs}
 use Rattle.soundness.proofs.judgement.judge.Statement.{statement}
 use Rattle.soundness.proofs.judgement.judge.Tie as tie
 
@@ -16,15 +18,26 @@ enum-told c = search needs
 verdict-on-requires-2 : tie.Need-verdict-on-requires-2
 verdict-on-requires-2 c κs = search needs
 
+same-length : tie.Need-same-length
+same-length c = search needs
+
 returns : tie.Need-returns
 returns c =
-    let at-verdict-on = c .before .before .before in
-    judge-first _ (at-verdict-on .verdict-on .ensures) (c .before .first .given .1)
+    let at-verdict-on = c .before .before .before .before .before in
+    let six = at-verdict-on .verdict-on .ensures in
+    judge-first _ (six .0) (six .1) (c .before .first .given .1)
+
+same-length-2 : tie.Need-same-length-2
+same-length-2 c = search needs
 
 returns-2 : tie.Need-returns-2
 returns-2 c =
-    let at-verdict-on = c .before .before .before in
-    judge-second _ (at-verdict-on .verdict-on .ensures) (c .before .enum-told .given .1) (c .verdict-on2 .ensures)
+    let at-verdict-on-2 = c .before .before in
+    let at-enum-told = at-verdict-on-2 .before .before in
+    let at-verdict-on = at-enum-told .before .before .before .before in
+    let six = at-verdict-on .verdict-on .ensures in
+    let seven = at-verdict-on-2 .verdict-on2 .ensures in
+    judge-second _ (six .0) (six .1) (at-enum-told .enum-told .given .1) (seven .0) (seven .1) (seven .2 (λ e. absurd (omega arith)))
 
 pub judge-spec : {M : Type 1} → statement M
 judge-spec =
@@ -34,5 +47,7 @@ judge-spec =
     enum-known-first
     enum-told
     verdict-on-requires-2
+    same-length
     returns
+    same-length-2
     returns-2)
