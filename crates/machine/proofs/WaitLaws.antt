@@ -8,9 +8,8 @@ use native.Mathlib.Omega.{arith}
 use lib.Dec.{T}
 use lib.ListN.{length}
 use Rattle.base.proofs.Booleans.{clash}
-use Rattle.grammar.specs.declared.Symbol.the-variants.{Nonterminal}
 use Rattle.grammar.specs.Limits.{endPlace}
-use Rattle.grammar.specs.Grammar.{Grammar, facing, first, compile}
+use Rattle.grammar.specs.Grammar.{Grammar, first, compile}
 use Rattle.grammar.specs.Tables.{grammarIn, nonterminalsIn}
 use Rattle.grammar.proofs.WordLaws.{length-starts-in}
 use Rattle.grammar.proofs.PlaceLaws.{length-startsAll}
@@ -27,7 +26,7 @@ use Rattle.machine.specs.Frames.{frameHas, Good}
 use Rattle.machine.specs.Space.{Roomy, ground, opened}
 use Rattle.machine.specs.Moves.{ToCall}
 use Rattle.machine.specs.Waits.{Waits, begins, called}
-use Rattle.machine.proofs.GoodLaws.{good-fewer, good-push}
+use Rattle.machine.proofs.GoodLaws.{good-push}
 use Rattle.machine.proofs.MoveLaws.{moves-good, moves-held, open-calls, reads, quiet, frames-in, frame-room}
 
 -- there is a nonterminal 0
@@ -40,13 +39,6 @@ some-named t h =
 -- a reading begins so
 pub waits-begins : (t w ws : List ℕ) (K : ℕ → Type 0) → Waits t w ws K 0 endPlace 0 0
 waits-begins t w ws K = begins refl refl refl refl
-
--- fewer sets stand
-pub waits-fewer : {t w ws : List ℕ} (K L : ℕ → Type 0) {d q a i : ℕ} → ((k : ℕ) → k < d → L k → K k) → Waits t w ws K d q a i
-    → Waits t w ws L d q a i
-waits-fewer K L f (begins z y x v) = begins z y x v
-waits-fewer {t} {w} {ws} K L {d} {i = i} f (called p y e held good) =
-    called p y e held (good-fewer (grammarIn t) (marked w) (ground t w) ws K L d p i f good)
 
 module _ (t : List ℕ) (h : Ready t) (w : List ℕ) {ws : List ℕ} {K : ℕ → Type 0} {d q a i : ℕ} where
   pub waits-position : Waits t w ws K d q a i → i ≤ length w
@@ -61,11 +53,6 @@ module _ (t : List ℕ) (h : Ready t) (w : List ℕ) {ws : List ℕ} {K : ℕ �
   pub waits-small : Waits t w ws K d q a i → q < 256
   waits-small (begins z y x v) = omega (arith, y)
   waits-small (called p y e held good) = omega (arith, ready-call t h p a e, ready-size t h)
-
-  -- a nonterminal that is faced has frames below it, and a place behind it
-  pub waits-called : Waits t w ws K d q a i → (d ≡ 0 → ⊥) → (p : ℕ) × (q ≡ suc p) × (facing (grammarIn t) p ≡ Nonterminal a)
-  waits-called (begins z y x v) n = absurd (n z)
-  waits-called (called p y e held good) n = (p, y, e)
 
   -- with no frame below, the reading begins
   pub waits-first : Waits t w ws K d q a i → d ≡ 0 → (q ≡ endPlace) × (a ≡ 0) × (i ≡ 0)

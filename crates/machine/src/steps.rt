@@ -8,11 +8,10 @@ ghost use lib.ListN.{length};
 ghost use Rattle.grammar.specs.Grammar.{first};
 ghost use Rattle.grammar.specs.Tables.{grammarIn};
 ghost use Rattle.derivation.specs.Runs.{marked};
-ghost use Rattle.derivation.specs.Space.{maxTokens, frameWords, returnsOf};
+ghost use Rattle.derivation.specs.Space.{maxTokens, frameWords};
 ghost use Rattle.derivation.specs.Ready.{Ready};
-ghost use Rattle.machine.specs.Frames.{Serving};
 ghost use Rattle.machine.specs.Choice.{lowestIn};
-ghost use Rattle.machine.specs.Space.{Named, pushIf, ground, Spaced};
+ghost use Rattle.machine.specs.Space.{Named, pushIf, Spaced};
 ghost use Rattle.machine.specs.Moves.{Advanced, Entered};
 ghost use Rattle.machine.specs.Waits.{Calling, Choosing, Called};
 
@@ -125,21 +124,6 @@ pub fn enter(
     advance(tables, note, ws, base, start)
 }
 
-// Nonterminal a waits: of the positions where it can end, those from which what stays open derives the rest of the note.
-fn ahead(tables: &[u16], note: &[u16], ws: &[u32], space: Space, at: At, a: usize) -> Positions
-    requires { ⌜ Calling (now tables) (now note) (now ws) space at a ⌝ }
-    ensures { λ r. ⌜ Serving (grammarIn (now (tables .entry))) (marked (now (note .entry)))
-        (returnsOf (now (ws .entry)) (ground (now (tables .entry)) (now (note .entry))) (at .depth)) (at .place) a (at .position) (r .words) ⌝ }
-{
-    let n = note.len();
-    if at.depth == 0 {
-        return Positions::empty().with(n);
-    }
-    let ends = cells::ends_of(tables, ws, a, at.position);
-    let rest = crate::frames::rest(ws, space.base, at.depth - 1);
-    crate::choice::serving(ws, space.places, n, ends, at.place, rest)
-}
-
 // The lowest alternative of a by which a position in s is come to, 0 if there is none. If there is one, at.place with s becomes frame at.depth.
 fn choose(tables: &[u16], ws: &mut [u32], base: usize, at: At, a: usize, s: Positions) -> usize
     requires { ⌜ Choosing (now tables) (now ws) base at a ⌝ }
@@ -154,11 +138,19 @@ fn choose(tables: &[u16], ws: &mut [u32], base: usize, at: At, a: usize, s: Posi
     b
 }
 
-// Nonterminal a waits: the lowest alternative that serves, 0 if none does. If there is one, at.place becomes frame at.depth.
+// Nonterminal a waits: the lowest alternative that serves, 0 if none does. If there is one, at.place becomes frame at.depth. The set of positions from
+// which what stays open derives the rest is the note's end alone where a reading begins.
 pub fn call(tables: &[u16], note: &[u16], ws: &mut [u32], space: Space, at: At, a: usize) -> usize
     requires { ⌜ Calling (now tables) (now note) (now ws) space at a ⌝ }
     ensures { λ r. ⌜ Called (now (tables .entry)) (now (note .entry)) (now (ws .entry)) (now (ws .exit)) (at .depth) (at .place) a (at .position) r ⌝ }
 {
-    let s = ahead(tables, note, ws, space, at, a);
+    let n = note.len();
+    if at.depth == 0 {
+        let s = Positions::empty().with(n);
+        return choose(tables, ws, space.base, at, a, s);
+    }
+    let ends = cells::ends_of(tables, ws, a, at.position);
+    let rest = crate::frames::rest(ws, space.base, at.depth - 1);
+    let s = crate::choice::serving(ws, space.places, n, ends, at.place, rest);
     choose(tables, ws, space.base, at, a, s)
 }
