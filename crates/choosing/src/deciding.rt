@@ -110,9 +110,9 @@ pub fn decide(
             }
         }
         Forecast::Full => {
-            let b = full(tables, note, ws, space, known, at, a);
+            let lowest = full(tables, note, ws, space, known, at, a);
             Pick {
-                alternative: b,
+                alternative: lowest,
                 known: at.depth + 1,
             }
         }
