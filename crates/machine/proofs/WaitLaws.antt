@@ -26,7 +26,7 @@ use Rattle.machine.specs.Frames.{frameHas, Good}
 use Rattle.machine.specs.Space.{Roomy, ground, opened}
 use Rattle.machine.specs.Moves.{ToCall}
 use Rattle.machine.specs.Waits.{Waits, begins, called}
-use Rattle.machine.proofs.GoodLaws.{good-push}
+use Rattle.machine.proofs.GoodLaws.{good-fewer, good-push}
 use Rattle.machine.proofs.MoveLaws.{moves-good, moves-held, open-calls, reads, quiet, frames-in, frame-room}
 
 -- there is a nonterminal 0
@@ -39,6 +39,13 @@ some-named t h =
 -- a reading begins so
 pub waits-begins : (t w ws : List ℕ) (K : ℕ → Type 0) → Waits t w ws K 0 endPlace 0 0
 waits-begins t w ws K = begins refl refl refl refl
+
+-- fewer sets stand
+pub waits-fewer : {t w ws : List ℕ} (K L : ℕ → Type 0) {d q a i : ℕ} → ((k : ℕ) → k < d → L k → K k) → Waits t w ws K d q a i
+    → Waits t w ws L d q a i
+waits-fewer K L f (begins z y x v) = begins z y x v
+waits-fewer {t} {w} {ws} K L {d} {i = i} f (called p y e held good) =
+    called p y e held (good-fewer (grammarIn t) (marked w) (ground t w) ws K L d p i f good)
 
 module _ (t : List ℕ) (h : Ready t) (w : List ℕ) {ws : List ℕ} {K : ℕ → Type 0} {d q a i : ℕ} where
   pub waits-position : Waits t w ws K d q a i → i ≤ length w
