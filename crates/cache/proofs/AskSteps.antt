@@ -83,9 +83,6 @@ part-within c s h e f =
     let inside = slot-within (length c) s h in
     (few, omega arith)
 
-pub part-short : (c : List ℕ) (s at : ℕ) {n : ℕ} → n ≡ keptCount c s → length (take (at + configWords * n - at) (drop at c)) ≤ keptWords
-part-short c s at {n} e = omega (arith, kept-few c s e, length-take (at + configWords * n - at) (drop at c))
-
 pub part-kept : (g : Grammar) (c : List ℕ) (s t : ℕ) (o : told.Outcome) (ws : List ℕ) {at n : ℕ} → at ≡ configsAt s → n ≡ keptCount c s
     → Tells o ws (stepOutcome g t (unpackAll (take (at + configWords * n - at) (drop at c)))) → Tells o ws (stepOutcome g t (keptIn c s))
 unfolding keptIn words.keptWords

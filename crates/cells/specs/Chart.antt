@@ -6,11 +6,12 @@ use Prim.Native.Nat.{ℕ, suc, _+_, _*_, _≤_, _<_}
 use lib.ListN.{length, getD}
 use Rattle.base.specs.Rounds.{anyOf}
 use Rattle.grammar.specs.Grammar.{alternatives}
-use Rattle.grammar.specs.Tables.{grammarIn}
+use Rattle.grammar.specs.Tables.{grammarIn, nonterminalsIn}
 use Rattle.positions.specs.Positions.{positionCount, setWords, member}
 use Rattle.positions.specs.Words.{memberAt}
 use Rattle.derivation.specs.Cells.{derives?}
 use Rattle.derivation.specs.Space.{maxTokens, spaceWords}
+use Rattle.derivation.specs.Ready.{Ready}
 
 -- where the cell of place p at position i stands, of P places
 abbrev pub spot : ℕ → ℕ → ℕ → ℕ
@@ -34,6 +35,12 @@ pub record LentAt (P i : ℕ) (ws : List ℕ) : Type 0 where
   pub tokens : ℕ
   pub lent : Lent P tokens ws
   pub here : i ≤ tokens
+
+-- what the code goes by where nonterminal a of the grammar is to be read at position i
+pub record Awaits (t ws : List ℕ) (a i : ℕ) : Type 0 where
+  pub ready : Ready t
+  pub lent : LentAt (grammarIn t .size) i ws
+  pub named : a < nonterminalsIn t
 
 -- the cells from position i on are right: each holds exactly the positions up to which its place derives the note w
 unfoldable pub ChartedFrom : List ℕ → List ℕ → List ℕ → ℕ → Type 0

@@ -6,7 +6,7 @@ use Prim.Native.Nat.{ℕ, suc, _-_, _≤_, _<_}
 use lib.Dec.{T}
 use Rattle.base.specs.Rounds.{anyOf, upFrom}
 use Rattle.positions.specs.Positions.{positionCount, member}
-use Rattle.cells.specs.Chart.{cellHas}
+use Rattle.cells.specs.Chart.{cellHas, Lent}
 
 -- from some position that S holds, from `from` up to n, on by place q up to j; C says where places lead to
 unfoldable pub throughOf : (ℕ → Bool) → (ℕ → ℕ → ℕ → Bool) → ℕ → ℕ → ℕ → ℕ → Bool
@@ -27,3 +27,9 @@ Onward P ws n s begun from q r = (j : ℕ) → j < positionCount → member r j 
 unfoldable pub Ahead : ℕ → List ℕ → ℕ → ℕ → ℕ → Type 0
 unfolding cellHas
 Ahead P ws n from q = (m j : ℕ) → from < m → m ≤ n → j < positionCount → T (cellHas P ws q m j) → (m ≤ j) × (j ≤ n)
+
+-- what the code goes by from positions on by place q: the place is one of P, and the first position may stand for all
+pub record Follows (P : ℕ) (ws : List ℕ) (n from q : ℕ) : Type 0 where
+  pub lent : Lent P n ws
+  pub within : q < P
+  pub ahead : Ahead P ws n from q

@@ -5,13 +5,12 @@ use positions::Positions;
 ghost use mathlib.Core.Path.{_≡_};
 ghost use Prim.Native.Nat.{_+_, _≤_, _<_};
 ghost use lib.ListN.{length};
-ghost use Rattle.grammar.specs.Tables.{grammarIn, nonterminalsIn};
+ghost use Rattle.grammar.specs.Tables.{grammarIn};
 ghost use Rattle.positions.specs.Positions.{setWords};
 ghost use Rattle.positions.specs.Words.{setAt, putAt};
-ghost use Rattle.derivation.specs.Ready.{Ready};
-ghost use Rattle.cells.specs.Chart.{spot, Lent, LentAt, EndsOf};
+ghost use Rattle.cells.specs.Chart.{spot, Lent, Awaits, EndsOf};
 ghost use Rattle.cells.specs.Matches.{matchesAt};
-ghost use Rattle.cells.specs.Through.{Through, Onward, Ahead};
+ghost use Rattle.cells.specs.Through.{Through, Onward, Follows};
 
 // The cell of place p at position i, of `places` places.
 pub fn cell(ws: &[u32], places: usize, p: usize, i: usize) -> Positions
@@ -62,7 +61,7 @@ pub fn through(
     from: usize,
     q: usize,
 ) -> Positions
-    requires { ⌜ Lent places n (now ws) × (q < places) × Ahead places (now ws) n from q ⌝ }
+    requires { ⌜ Follows places (now ws) n from q ⌝ }
     ensures { λ r. ⌜ Through places (now (ws .entry)) n (s .words) from q (r .words) ⌝ }
 {
     let first = positions::next(s, from);
@@ -92,7 +91,7 @@ pub fn matches(tables: &[u16], note: &[u16], kind: usize, i: usize) -> bool
 
 // Where the productions of nonterminal a that begin at i end.
 pub fn ends_of(tables: &[u16], ws: &[u32], a: usize, i: usize) -> Positions
-    requires { ⌜ Ready (now tables) × LentAt (grammarIn (now tables) .size) i (now ws) × (a < nonterminalsIn (now tables)) ⌝ }
+    requires { ⌜ Awaits (now tables) (now ws) a i ⌝ }
     ensures { λ r. ⌜ EndsOf (now (tables .entry)) (now (ws .entry)) a i (r .words) ⌝ }
 {
     let places = grammar::size(tables);

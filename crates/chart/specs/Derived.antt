@@ -11,7 +11,7 @@ use Rattle.positions.specs.Positions.{positionCount, member}
 use Rattle.derivation.specs.Cells.{derives?}
 use Rattle.cells.specs.Chart.{ChartedFrom, KeptBehind}
 use Rattle.ends.specs.Ends.{endHas, leadBy}
-use Rattle.ends.specs.Row.{cellsIn}
+use Rattle.ends.specs.Row.{cellsIn, Ended}
 
 -- r, if it is true, says that place q is a production's end
 abbrev pub EndIs : List ℕ → ℕ → Bool → Type 0
@@ -33,3 +33,9 @@ module _ (t w ws : List ℕ) (i : ℕ) where
   -- the cell of the place behind p is right
   unfoldable pub Behind : ℕ → Type 0
   Behind p = suc p < grammarIn t .size → (j : ℕ) → j < positionCount → cellsIn t ws (suc p) i j ≡ derives? (grammarIn t) w (suc p) i j
+
+  -- what the code goes by at place p: the ends of nonterminals, and the cell behind p
+  pub record Deriving (ends : List ℕ) (p : ℕ) : Type 0 where
+    pub ended : Ended t w i ws ends
+    pub within : p < grammarIn t .size
+    pub behind : Behind p

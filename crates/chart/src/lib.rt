@@ -3,14 +3,13 @@
 use grammar::Symbol;
 use positions::Positions;
 ghost use mathlib.Core.Path.{_≡_};
-ghost use Prim.Native.Nat.{_<_};
 ghost use lib.ListN.{length};
 ghost use Rattle.grammar.specs.Tables.{grammarIn, tableWords};
 ghost use Rattle.derivation.specs.Ready.{Ready};
 ghost use Rattle.order.specs.Order.{InOrder};
 ghost use Rattle.cells.specs.Chart.{Lent, Filled};
 ghost use Rattle.ends.specs.Row.{Row, Ended};
-ghost use Rattle.chart.specs.Derived.{EndIs, Settled, Derived, Behind};
+ghost use Rattle.chart.specs.Derived.{EndIs, Settled, Derived, Deriving};
 
 // Whether place q is a production's end.
 fn is_end(tables: &[u16], q: usize) -> bool
@@ -28,8 +27,7 @@ fn is_end(tables: &[u16], q: usize) -> bool
 
 // What the cell of p at i is, by `ends`, the cells of the later positions and, at i, the cell of the place behind p.
 fn derived(tables: &[u16], note: &[u16], ws: &[u32], ends: &[u32], i: usize, p: usize) -> Positions
-    requires { ⌜ Ended (now tables) (now note) i (now ws) (now ends) × (p < grammarIn (now tables) .size)
-        × Behind (now tables) (now note) (now ws) i p ⌝ }
+    requires { ⌜ Deriving (now tables) (now note) (now ws) i (now ends) p ⌝ }
     ensures { λ r. ⌜ Derived (now (tables .entry)) (now (note .entry)) (now (ws .entry)) i (now (ends .entry)) p (r .words) ⌝ }
 {
     let places = grammar::size(tables);

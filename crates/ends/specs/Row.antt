@@ -3,12 +3,13 @@ use mathlib.Core.Path.{_≡_}
 use mathlib.Core.Bool.{Bool}
 use mathlib.Core.List.{List}
 use Prim.Native.Nat.{ℕ, suc, _≤_, _<_}
-use lib.ListN.{length}
+use lib.ListN.{length, replicate}
 use Rattle.base.specs.Rounds.{anyOf}
 use Rattle.grammar.specs.Grammar.{alternatives}
-use Rattle.grammar.specs.Tables.{grammarIn}
+use Rattle.grammar.specs.Tables.{grammarIn, nonterminalsIn}
 use Rattle.positions.specs.Positions.{positionCount, member}
 use Rattle.derivation.specs.Ready.{Ready}
+use Rattle.order.specs.Order.{InOrder}
 use Rattle.cells.specs.Chart.{cellHas, Lent, ChartedFrom}
 use Rattle.ends.specs.Ends.{endWords, endHas, lead, RightEnds}
 
@@ -24,6 +25,24 @@ pub record Ended (t w : List ℕ) (i : ℕ) (ws ends : List ℕ) : Type 0 where
   pub row : Row t w i ws
   pub long : length ends ≡ endWords
   pub right : RightEnds t w i ends
+
+-- a production is looked along from its place f on
+pub record Begins (t w : List ℕ) (i : ℕ) (ws ends : List ℕ) (f : ℕ) : Type 0 where
+  pub row : Row t w i ws
+  pub long : length ends ≡ endWords
+  pub within : f < grammarIn t .size
+
+-- the productions of nonterminal a are looked along
+pub record Looks (t w : List ℕ) (i : ℕ) (ws ends : List ℕ) (a : ℕ) : Type 0 where
+  pub row : Row t w i ws
+  pub long : length ends ≡ endWords
+  pub named : a < nonterminalsIn t
+
+-- the nonterminals are judged in order, from empty sets on
+pub record Settles (t w : List ℕ) (i : ℕ) (ws order ends : List ℕ) : Type 0 where
+  pub row : Row t w i ws
+  pub lined : InOrder t order
+  pub empty : ends ≡ replicate endWords 0
 
 -- the cells as the words ws hold them
 abbrev pub cellsIn : List ℕ → List ℕ → ℕ → ℕ → ℕ → Bool

@@ -2,13 +2,8 @@
 // symbols up to the first that does not vanish here, so each nonterminal is judged once, behind its left corners.
 use grammar::Symbol;
 use positions::Positions;
-ghost use mathlib.Core.Path.{_≡_};
-ghost use Prim.Native.Nat.{_<_};
-ghost use lib.ListN.{length, replicate};
-ghost use Rattle.grammar.specs.Tables.{grammarIn, nonterminalsIn};
-ghost use Rattle.order.specs.Order.{InOrder};
-ghost use Rattle.ends.specs.Ends.{endWords, RightEnds};
-ghost use Rattle.ends.specs.Row.{Row, Begun};
+ghost use Rattle.ends.specs.Ends.{RightEnds};
+ghost use Rattle.ends.specs.Row.{Begins, Looks, Settles, Begun};
 ghost use Rattle.ends.specs.Judged.{Looked};
 
 // Words of the sets of all nonterminals. specs/Ends has the same.
@@ -16,7 +11,7 @@ pub const END_WORDS: usize = positions::WORDS * grammar::MAX_NONTERMINALS;
 
 // Where the production from place f on ends when it begins at i, as far as `ends` and the cells of the later positions tell.
 fn begun(tables: &[u16], note: &[u16], ws: &[u32], ends: &[u32], i: usize, f: usize) -> Positions
-    requires { ⌜ Row (now tables) (now note) i (now ws) × (length (now ends) ≡ endWords) × (f < grammarIn (now tables) .size) ⌝ }
+    requires { ⌜ Begins (now tables) (now note) i (now ws) (now ends) f ⌝ }
     ensures { λ r. ⌜ Begun (now (tables .entry)) (now (note .entry)) (now (ws .entry)) i (now (ends .entry)) f (r .words) ⌝ }
 {
     let places = grammar::size(tables);
@@ -50,7 +45,7 @@ fn begun(tables: &[u16], note: &[u16], ws: &[u32], ends: &[u32], i: usize, f: us
 
 // The ends of nonterminal a, by every production of it.
 fn look(tables: &[u16], note: &[u16], ws: &[u32], ends: &mut [u32], i: usize, a: usize)
-    requires { ⌜ Row (now tables) (now note) i (now ws) × (length (now ends) ≡ endWords) × (a < nonterminalsIn (now tables)) ⌝ }
+    requires { ⌜ Looks (now tables) (now note) i (now ws) (now ends) a ⌝ }
     ensures { λ _. ⌜ Looked (now (tables .entry)) (now (note .entry)) (now (ws .entry)) i a (now (ends .entry)) (now (ends .exit)) ⌝ }
 {
     let start = grammar::rule_at(tables, a);
@@ -68,7 +63,7 @@ fn look(tables: &[u16], note: &[u16], ws: &[u32], ends: &mut [u32], i: usize, a:
 
 // The ends of every nonterminal, one after the other in this order, each behind its left corners.
 pub fn settle(tables: &[u16], note: &[u16], ws: &[u32], ends: &mut [u32], order: &[usize], i: usize)
-    requires { ⌜ Row (now tables) (now note) i (now ws) × InOrder (now tables) (now order) × (now ends ≡ replicate endWords 0) ⌝ }
+    requires { ⌜ Settles (now tables) (now note) i (now ws) (now order) (now ends) ⌝ }
     ensures { λ _. ⌜ RightEnds (now (tables .entry)) (now (note .entry)) i (now (ends .exit)) ⌝ }
 {
     let n = grammar::nonterminals(tables);

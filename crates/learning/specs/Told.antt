@@ -47,6 +47,12 @@ pub record Begins (t ms : List ℕ) (a : ℕ) : Type 0 where
   pub long : length ms ≡ memberWords
   pub named : a < nonterminalsIn t
 
+-- the outcome of a start: the tables of a sound grammar, a nonterminal, and words for a state
+pub record Starts (t : List ℕ) (a : ℕ) (kept : List ℕ) : Type 0 where
+  pub ready : Ready t
+  pub named : a < nonterminalsIn t
+  pub long : length kept ≡ keptWords
+
 -- finishing: n members, and words for a state
 pub record Finishes (t ms : List ℕ) (n : ℕ) (kept : List ℕ) : Type 0 where
   pub ready : Ready t

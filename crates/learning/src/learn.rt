@@ -6,17 +6,17 @@ use configurations::Packed;
 use grammar::Symbol;
 ghost use mathlib.Core.Path.{_≡_};
 ghost use mathlib.Core.List.{[]};
-ghost use Prim.Native.Nat.{_≤_, _<_};
+ghost use Prim.Native.Nat.{_≤_};
 ghost use lib.ListN.{length};
 ghost use Rattle.grammar.specs.Limits.{endPlace};
 ghost use Rattle.grammar.specs.Grammar.{facing};
-ghost use Rattle.grammar.specs.Tables.{grammarIn, nonterminalsIn, tableWords};
+ghost use Rattle.grammar.specs.Tables.{grammarIn, tableWords};
 ghost use Rattle.derivation.specs.Ready.{Ready};
 ghost use Rattle.lookahead.specs.Closing.{maxMembers, add, addAll, closeFrom};
 ghost use Rattle.lookahead.specs.Outcomes.{onward, passes, startConfigs, stepConfigs, startOutcome, stepOutcome};
 ghost use Rattle.configurations.specs.Packing.{configOf, keptWords, memberWords, unpackAll};
 ghost use Rattle.configurations.specs.Held.{held, Room, Grows};
-ghost use Rattle.learning.specs.Told.{Tells, outcomeOf, Begins, Finishes};
+ghost use Rattle.learning.specs.Told.{Tells, outcomeOf, Begins, Starts, Finishes};
 
 // The outcome of the first members.
 fn finish(tables: &[u16], members: &mut [u32], from: usize, kept: &mut [u32]) -> Outcome
@@ -111,7 +111,7 @@ fn advance(tables: &[u16], t: usize, configs: &[u32], members: &mut [u32]) -> Ad
 
 // The outcome of the start of decision a; of a state that it is, the words are left in `kept`.
 pub fn start(tables: &[u16], a: usize, kept: &mut [u32]) -> Outcome
-    requires { ⌜ Ready (now tables) × (a < nonterminalsIn (now tables)) × (length (now kept) ≡ keptWords) ⌝ }
+    requires { ⌜ Starts (now tables) a (now kept) ⌝ }
     ensures { λ r. ⌜ Tells r (now (kept .exit)) (startOutcome (grammarIn (now (tables .entry))) a) ⌝ }
 {
     let mut members = [0u32; configurations::MEMBER_WORDS];
@@ -123,7 +123,7 @@ pub fn start(tables: &[u16], a: usize, kept: &mut [u32]) -> Outcome
 
 // The outcome of a step over token t from the state whose words are `configs`. Any words say configurations.
 pub fn step(tables: &[u16], t: usize, configs: &[u32], kept: &mut [u32]) -> Outcome
-    requires { ⌜ Ready (now tables) × (length (now configs) ≤ keptWords) × (length (now kept) ≡ keptWords) ⌝ }
+    requires { ⌜ Ready (now tables) × (length (now kept) ≡ keptWords) ⌝ }
     ensures { λ r. ⌜ Tells r (now (kept .exit)) (stepOutcome (grammarIn (now (tables .entry))) t (unpackAll (now (configs .entry)))) ⌝ }
 {
     let mut members = [0u32; configurations::MEMBER_WORDS];

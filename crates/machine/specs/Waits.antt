@@ -2,7 +2,7 @@
 use mathlib.Core.Path.{_≡_}
 use mathlib.Core.Option.{some}
 use mathlib.Core.List.{List, [], _∷_}
-use Prim.Native.Nat.{ℕ, suc, _<_}
+use Prim.Native.Nat.{ℕ, suc, _+_, _*_, _≤_, _<_}
 use lib.Dec.{T}
 use lib.ListN.{length}
 use Rattle.grammar.specs.declared.Symbol.the-variants.{Nonterminal}
@@ -12,13 +12,13 @@ use Rattle.grammar.specs.Tables.{grammarIn, nonterminalsIn}
 use Rattle.derivation.specs.Runs.{marked}
 use Rattle.derivation.specs.Cells.{derives?, runs?}
 use Rattle.derivation.specs.Machine.{lowest}
-use Rattle.derivation.specs.Space.{Pushed}
+use Rattle.derivation.specs.Space.{frameWords, Pushed}
 use Rattle.derivation.specs.Ready.{Ready}
 use Rattle.derivation.proofs.FrameWords.{Held}
 use Rattle.cells.specs.Chart.{Lent, LentAt, Charted}
 use Rattle.machine.specs.Frames.{frameHas, EveryFrame, Good}
 use Rattle.machine.specs.Choice.{orZero}
-use Rattle.machine.specs.Space.{Roomy, ground, Spaced, opened}
+use Rattle.machine.specs.Space.{Named, Roomy, ground, Spaced, opened}
 use Rattle.machine.specs.declared.steps.At.{At}
 use Rattle.machine.specs.declared.steps.Space.{Space}
 
@@ -44,6 +44,12 @@ pub record Choosing (t ws : List ℕ) (base : ℕ) (at : At) (a : ℕ) : Type 0 
   pub named : a < nonterminalsIn t
   pub roomy : Roomy t ws base (at .depth) a
   pub small : at .place < 4294967296
+
+-- what entering alternative b of nonterminal a rests on: the frame of its return place is there
+pub record Enters (t ws : List ℕ) (base : ℕ) (at : At) (a b : ℕ) : Type 0 where
+  pub ready : Ready t
+  pub named : Named t a b
+  pub room : base + frameWords * suc (at .depth) ≤ length ws
 
 -- r is the plain chooser's alternative for a over the stack that stays open, 0 for none; if there is one, the stack's top is frame d, with the right set
 pub record Called (t w ws after : List ℕ) (d q a i r : ℕ) : Type 0 where

@@ -2,9 +2,7 @@
 use positions::Positions;
 ghost use mathlib.Core.Path.{_≡_};
 ghost use Prim.Native.Nat.{_<_};
-ghost use Rattle.grammar.specs.Tables.{grammarIn, nonterminalsIn};
-ghost use Rattle.derivation.specs.Ready.{Ready};
-ghost use Rattle.cells.specs.Chart.{Lent, LentAt};
+ghost use Rattle.cells.specs.Chart.{Lent, Awaits};
 ghost use Rattle.machine.specs.Choice.{Leading, lowestIn};
 
 // The members of `ends`, up to the note's end at n, from which place q derives up to a member of `rest`.
@@ -35,7 +33,7 @@ pub fn serving(
 // The lowest alternative of a by which a position in s is come to from i, counted from 1; 0 if there is none. `left` counts those not yet looked at, on
 // top of `start`.
 pub fn lowest(tables: &[u16], ws: &[u32], a: usize, i: usize, s: Positions) -> usize
-    requires { ⌜ Ready (now tables) × LentAt (grammarIn (now tables) .size) i (now ws) × (a < nonterminalsIn (now tables)) ⌝ }
+    requires { ⌜ Awaits (now tables) (now ws) a i ⌝ }
     ensures { λ r. ⌜ r ≡ lowestIn (now (tables .entry)) (now (ws .entry)) a i (s .words) ⌝ }
 {
     let places = grammar::size(tables);

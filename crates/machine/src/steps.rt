@@ -3,7 +3,7 @@ use grammar::Symbol;
 use positions::Positions;
 ghost use mathlib.Core.Path.{_≡_};
 ghost use mathlib.Core.Option.{some};
-ghost use Prim.Native.Nat.{suc, _+_, _*_, _≤_, _<_};
+ghost use Prim.Native.Nat.{suc, _+_, _*_, _≤_};
 ghost use lib.ListN.{length};
 ghost use Rattle.grammar.specs.Grammar.{first};
 ghost use Rattle.grammar.specs.Tables.{grammarIn};
@@ -13,7 +13,7 @@ ghost use Rattle.derivation.specs.Ready.{Ready};
 ghost use Rattle.machine.specs.Choice.{lowestIn};
 ghost use Rattle.machine.specs.Space.{Named, pushIf, Spaced};
 ghost use Rattle.machine.specs.Moves.{Advanced, Entered};
-ghost use Rattle.machine.specs.Waits.{Calling, Choosing, Called};
+ghost use Rattle.machine.specs.Waits.{Calling, Choosing, Enters, Called};
 
 // Where the machine stands: a place, a position of the note, and how many frames are open. Where a nonterminal waits, the place is the one behind it.
 pub struct At {
@@ -113,7 +113,7 @@ pub fn enter(
     a: usize,
     b: usize,
 ) -> Turn
-    requires { ⌜ Ready (now tables) × Named (now tables) a b × (base + frameWords * suc (at .depth) ≤ length (now ws)) ⌝ }
+    requires { ⌜ Enters (now tables) (now ws) base at a b ⌝ }
     ensures { λ r. ⌜ Entered (now (tables .entry)) (now (note .entry)) (now (ws .entry)) base a b (suc (at .depth)) (at .position) r ⌝ }
 {
     let start = At {

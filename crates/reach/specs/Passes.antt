@@ -9,7 +9,8 @@ use lib.ListN.{length, getElem?, getD}
 use Rattle.grammar.specs.declared.Symbol.the-variants.{Token, Nonterminal}
 use Rattle.grammar.specs.Limits.{maxPlaces}
 use Rattle.grammar.specs.Grammar.{Grammar, facing, admits, first}
-use Rattle.grammar.specs.Tables.{grammarIn}
+use Rattle.grammar.specs.Tables.{grammarIn, nonterminalsIn}
+use Rattle.positions.specs.Positions.{positionCount}
 use Rattle.positions.specs.Words.{total}
 use Rattle.derivation.specs.Ready.{Ready}
 use Rattle.derivation.specs.Runs.{Der}
@@ -27,6 +28,13 @@ pub record Given (t w cs : List ℕ) : Type 0 where
 pub record Standing (t w cs : List ℕ) (i : ℕ) (sets : List ℕ) : Type 0 where
   pub given : Given t w cs
   pub here : i ≤ length w
+  pub long : length sets ≡ setsWords
+
+-- nonterminal a of the grammar may be entered at position i
+pub record Enters (t sets : List ℕ) (a i : ℕ) : Type 0 where
+  pub ready : Ready t
+  pub named : a < nonterminalsIn t
+  pub position : i < positionCount
   pub long : length sets ≡ setsWords
 
 -- the first places of the productions of nonterminal a, at position i

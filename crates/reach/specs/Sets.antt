@@ -6,6 +6,7 @@ use mathlib.Core.Bool.{Bool, true, false}
 use mathlib.Core.List.{List}
 use Prim.Native.Nat.{ℕ, _*_, _<_}
 use lib.Dec.{T}
+use lib.ListN.{length}
 use Rattle.grammar.specs.Limits.{maxPlaces}
 use Rattle.positions.specs.Positions.{positionCount, setWords, member}
 use Rattle.positions.specs.Words.{memberAt, total}
@@ -29,6 +30,12 @@ pub record Added (P : ℕ → ℕ → Type 0) (r : Bool) (before after : List �
   pub only : (p j : ℕ) → Inside p j → T (stands after p j) → T (stands before p j) ⊎ P p j
   pub same : r ≡ false → after ≡ before
   pub grown : r ≡ true → total before < total after
+
+-- a point may be added to the sets
+pub record Marks (q j : ℕ) (sets : List ℕ) : Type 0 where
+  pub place : q < maxPlaces
+  pub position : j < positionCount
+  pub long : length sets ≡ setsWords
 
 -- the one point of place q at position i
 abbrev pub PointOf : ℕ → ℕ → ℕ → ℕ → Type 0

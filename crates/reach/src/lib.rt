@@ -6,19 +6,18 @@ ghost use mathlib.Core.Path.{_≡_};
 ghost use Prim.Native.Nat.{_≤_, _<_};
 ghost use lib.ListN.{length};
 ghost use Rattle.grammar.specs.Limits.{maxPlaces};
-ghost use Rattle.grammar.specs.Tables.{grammarIn, nonterminalsIn};
+ghost use Rattle.grammar.specs.Tables.{grammarIn};
 ghost use Rattle.positions.specs.Positions.{positionCount, member};
-ghost use Rattle.derivation.specs.Ready.{Ready};
 ghost use Rattle.derivation.specs.ReachRounds.{highestTo, wrongPlace};
-ghost use Rattle.reach.specs.Sets.{setsWords, Added, PointOf, Anywhere};
-ghost use Rattle.reach.specs.Passes.{Stepped, Given, Standing, Opening, Leads, Passed, Settled};
+ghost use Rattle.reach.specs.Sets.{setsWords, Marks, Added, PointOf, Anywhere};
+ghost use Rattle.reach.specs.Passes.{Stepped, Given, Standing, Enters, Opening, Leads, Passed, Settled};
 
 // Words of the sets of all places. specs/Sets has the same.
 const SETS: usize = positions::WORDS * grammar::MAX_PLACES;
 
 // A reader can stand at place q at position j. Whether that is new.
 fn mark(sets: &mut [u32], q: usize, j: usize) -> bool
-    requires { ⌜ (q < maxPlaces) × (j < positionCount) × (length (now sets) ≡ setsWords) ⌝ }
+    requires { ⌜ Marks q j (now sets) ⌝ }
     ensures { λ r. ⌜ Added (PointOf q j) r (now (sets .entry)) (now (sets .exit)) ⌝ }
 {
     if positions::holds(sets, positions::WORDS * q, j) {
@@ -30,7 +29,7 @@ fn mark(sets: &mut [u32], q: usize, j: usize) -> bool
 
 // It can stand at the first place of every production of a at position i. Whether any of that is new.
 fn enter(tables: &[u16], sets: &mut [u32], a: usize, i: usize) -> bool
-    requires { ⌜ Ready (now tables) × (a < nonterminalsIn (now tables)) × (i < positionCount) × (length (now sets) ≡ setsWords) ⌝ }
+    requires { ⌜ Enters (now tables) (now sets) a i ⌝ }
     ensures { λ r. ⌜ Added (Opening (grammarIn (now (tables .entry))) a i) r (now (sets .entry)) (now (sets .exit)) ⌝ }
 {
     let start = grammar::rule_at(tables, a);

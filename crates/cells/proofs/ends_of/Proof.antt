@@ -36,16 +36,19 @@ loop-holds : tie.Need-loop-holds Inv-loop μ-loop
 loop-holds c =
     let at-entry = c .before .before .before .before .before .before in
     let at-rule-at = c .before .before in
-    let at-rule-at2 = c .before in
-    (omega arith, gather-begins _ _ _ (at-entry .pre .0) (at-entry .pre .2) (at-rule-at .rule-at .ensures) (at-rule-at2 .rule-at2 .ensures) (c .empty .ensures))
+    let at-rule-at2 = c .before in (
+      omega arith,
+      gather-begins _ _ _ (at-entry .pre .ready) (at-entry .pre .named) (at-rule-at .rule-at .ensures) (at-rule-at2 .rule-at2 .ensures)
+          (c .empty .ensures),
+    )
 
 first-place-requires : tie.Need-first-place-requires Inv-loop μ-loop
 first-place-requires c κs =
     let at-entry = c .before .before .before .before .before .before .before .before in
     let at-rule-at = c .before .before .before .before in
     let at-rule-at2 = c .before .before .before in
-    let h = rule-within _ (at-entry .pre .0) _ (at-entry .pre .2) (at-rule-at .rule-at .ensures) (at-rule-at2 .rule-at2 .ensures) in
-    (omega (arith, at-entry .pre .0 .fits .long), at-entry .pre .0 .fits .long)
+    let h = rule-within _ (at-entry .pre .ready) _ (at-entry .pre .named) (at-rule-at .rule-at .ensures) (at-rule-at2 .rule-at2 .ensures) in
+    (omega (arith, at-entry .pre .ready .fits .long), at-entry .pre .ready .fits .long)
 
 cell-requires : tie.Need-cell-requires Inv-loop μ-loop
 cell-requires c κs =
@@ -55,13 +58,13 @@ cell-requires c κs =
     let at-rule-at2 = c .before .before .before .before in
     let at-loop = c .before .before in
     let at-loop-test = c .before in
-    spot-in _ _ _ _ _ (lent-sized (at-size .size .ensures) (at-entry .pre .1 .lent))
+    spot-in _ _ _ _ _ (lent-sized (at-size .size .ensures) (at-entry .pre .lent .lent))
     (omega (
       arith,
       at-size .size .ensures,
-      first-in _ (at-entry .pre .0) _ (at-entry .pre .2) (at-rule-at .rule-at .ensures) (at-rule-at2 .rule-at2 .ensures) _ (at-loop .loop .inv .0)
+      first-in _ (at-entry .pre .ready) _ (at-entry .pre .named) (at-rule-at .rule-at .ensures) (at-rule-at2 .rule-at2 .ensures) _ (at-loop .loop .inv .0)
           (at-loop-test .loop-test .taken) (c .first-place .ensures),
-    )) (at-entry .pre .1 .here)
+    )) (at-entry .pre .lent .here)
 
 union-requires : tie.Need-union-requires Inv-loop μ-loop
 union-requires c κs = search needs
@@ -84,7 +87,7 @@ loop-again c =
     let at-cell = c .before in (
       omega arith,
       gather-more _ _ _ _ _ _ _ (at-loop .loop .inv .1) (at-loop-test .loop-test .taken)
-          (rule-within _ (at-entry .pre .0) _ (at-entry .pre .2) (at-rule-at .rule-at .ensures) (at-rule-at2 .rule-at2 .ensures))
+          (rule-within _ (at-entry .pre .ready) _ (at-entry .pre .named) (at-rule-at .rule-at .ensures) (at-rule-at2 .rule-at2 .ensures))
           (at-first-place .first-place .ensures) (λ j l. cell-member _ _ _ _ _ (at-cell .cell .ensures) l ∙ sym (sized (at-size .size .ensures) _ _ _ _))
           (c .union .ensures),
     )

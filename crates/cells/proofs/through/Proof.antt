@@ -18,17 +18,17 @@ returns c =
     let at-entry = c .before .before .before .before in
     let at-next = c .before .before in
     let at-if1 = c .before in
-    no-member _ _ _ _ _ (omega (arith, at-entry .pre .0 .short)) _ _ (at-next .next .ensures) (at-if1 .if1 .taken) (c .empty .ensures)
+    no-member _ _ _ _ _ (omega (arith, at-entry .pre .lent .short)) _ _ (at-next .next .ensures) (at-if1 .if1 .taken) (c .empty .ensures)
 
 cell-requires : tie.Need-cell-requires
 cell-requires c κs =
     let at-entry = c .before .before .before in
-    spot-in _ _ _ _ _ (at-entry .pre .0) (at-entry .pre .1) (omega arith)
+    spot-in _ _ _ _ _ (at-entry .pre .lent) (at-entry .pre .within) (omega arith)
 
 add-next : tie.Need-add-next
 add-next c =
     let at-entry = c .before .before .before .before in
-    omega (arith, at-entry .pre .0 .short)
+    omega (arith, at-entry .pre .lent .short)
 
 next-requires-2 : tie.Need-next-requires-2
 next-requires-2 c κs = search needs
@@ -39,13 +39,13 @@ returns-2 c =
     let at-next = c .before .before .before .before in
     let at-cell = c .before .before in
     let at-next2 = c .before in
-    one-member _ _ _ _ _ (omega (arith, at-entry .pre .0 .short)) _ _ _ (at-next .next .ensures) (omega arith) (at-cell .cell .ensures)
+    one-member _ _ _ _ _ (omega (arith, at-entry .pre .lent .short)) _ _ _ (at-next .next .ensures) (omega arith) (at-cell .cell .ensures)
     (at-next2 .next2 .ensures) (c .if2 .taken)
 
 full-requires : tie.Need-full-requires
 full-requires c κs =
     let at-entry = c .before .before .before .before .before .before in
-    omega (arith, at-entry .pre .0 .short)
+    omega (arith, at-entry .pre .lent .short)
 
 returns-3 : tie.Need-returns-3
 returns-3 c =
@@ -54,13 +54,13 @@ returns-3 c =
     let at-cell = c .before .before .before .before in
     let at-next2 = c .before .before .before in
     let at-full = c .before in
-    everywhere _ _ _ _ _ (omega (arith, at-entry .pre .0 .short)) _ _ _ (at-next .next .ensures) (omega arith) (at-cell .cell .ensures)
-    (at-next2 .next2 .ensures) (at-entry .pre .2) (at-full .full .ensures) (c .if3 .taken)
+    everywhere _ _ _ _ _ (omega (arith, at-entry .pre .lent .short)) _ _ _ (at-next .next .ensures) (omega arith) (at-cell .cell .ensures)
+    (at-next2 .next2 .ensures) (at-entry .pre .ahead) (at-full .full .ensures) (c .if3 .taken)
 
 onward-requires : tie.Need-onward-requires
 onward-requires c κs =
     let at-entry = c .before .before .before .before .before .before .before .before in
-    (at-entry .pre .0, at-entry .pre .1)
+    (at-entry .pre .lent, at-entry .pre .within)
 
 returns-4 : tie.Need-returns-4
 returns-4 c =
@@ -68,7 +68,7 @@ returns-4 c =
     let at-next = c .before .before .before .before .before .before .before in
     let at-cell = c .before .before .before .before .before in
     let at-next2 = c .before .before .before .before in
-    more-members _ _ _ _ _ (omega (arith, at-entry .pre .0 .short)) _ _ _ (at-next .next .ensures) (omega arith) (at-cell .cell .ensures)
+    more-members _ _ _ _ _ (omega (arith, at-entry .pre .lent .short)) _ _ _ (at-next .next .ensures) (omega arith) (at-cell .cell .ensures)
     (at-next2 .next2 .ensures) _ (c .onward .ensures)
 
 pub through-spec : {M : Type 1} → statement M

@@ -26,7 +26,7 @@ empty-requires c κs = search needs
 with-requires : tie.Need-with-requires
 with-requires c κs =
     let at-entry = c .before .before .before .before .before .before .before .before .before in
-    row-position (at-entry .pre .0 .row)
+    row-position (at-entry .pre .ended .row)
 
 enum-known-symbol : tie.Need-enum-known-symbol
 enum-known-symbol c = search needs
@@ -52,7 +52,7 @@ add-cell c = search needs
 add-cell-2 : tie.Need-add-cell-2
 add-cell-2 c =
     let at-entry = c .before .before .before .before .before .before .before .before .before .before .before in
-    omega (arith, row-position (at-entry .pre .0 .row))
+    omega (arith, row-position (at-entry .pre .ended .row))
 
 cell-requires : tie.Need-cell-requires
 cell-requires c κs =
@@ -62,9 +62,9 @@ cell-requires c κs =
     let at-symbol = c .before .before .before in
     let at-matches = c .before in
     let faces = facing-of _ _ (at-place-at .place-at .ensures) (at-symbol .symbol .given .1) in
-    let row = at-entry .pre .0 .row in
+    let row = at-entry .pre .ended .row in
     let size = at-size .size .ensures in
-    let next = row-token row _ (at-entry .pre .1) faces in
+    let next = row-token row _ (at-entry .pre .within) faces in
     let inside = matches-found _ _ _ _ (at-matches .matches .ensures) (c .if1 .left) in
     spot-in _ _ _ _ _ (row-lent row size) (omega arith) (omega arith)
 
@@ -77,7 +77,7 @@ mul-read c =
     let at-place-at = c .before .before .before in
     let at-symbol2 = c .before in
     let faces = facing-of _ _ (at-place-at .place-at .ensures) (at-symbol2 .symbol2 .given .1) in
-    omega (arith, row-named (at-entry .pre .0 .row) _ faces)
+    omega (arith, row-named (at-entry .pre .ended .row) _ faces)
 
 read-requires : tie.Need-read-requires
 read-requires c κs =
@@ -85,7 +85,7 @@ read-requires c κs =
     let at-place-at = c .before .before .before in
     let at-symbol2 = c .before in
     let faces = facing-of _ _ (at-place-at .place-at .ensures) (at-symbol2 .symbol2 .given .1) in
-    omega (arith, row-named (at-entry .pre .0 .row) _ faces, at-entry .pre .0 .long)
+    omega (arith, row-named (at-entry .pre .ended .row) _ faces, at-entry .pre .ended .long)
 
 add-is-end : tie.Need-add-is-end
 add-is-end c = search needs
@@ -93,7 +93,7 @@ add-is-end c = search needs
 is-end-requires : tie.Need-is-end-requires
 is-end-requires c κs =
     let at-entry = c .before .before .before .before .before .before .before .before .before .before in
-    at-entry .pre .0 .row .ready .fits .long
+    at-entry .pre .ended .row .ready .fits .long
 
 returns-2 : tie.Need-returns-2
 returns-2 c =
@@ -103,7 +103,7 @@ returns-2 c =
     let at-read = c .before .before in
     let at-is-end = c .before in
     let faces = facing-of _ _ (at-place-at .place-at .ensures) (at-symbol2 .symbol2 .given .1) in
-    derived-behind (at-entry .pre .0) _ _ (at-entry .pre .1) faces (at-entry .pre .2) (at-is-end .is-end .ensures) (c .if2 .taken)
+    derived-behind (at-entry .pre .ended) _ _ (at-entry .pre .within) faces (at-entry .pre .behind) (at-is-end .is-end .ensures) (c .if2 .taken)
     (at-read .read .ensures)
 
 add-through : tie.Need-add-through
@@ -116,10 +116,10 @@ through-requires c κs =
     let at-place-at = c .before .before .before .before .before .before in
     let at-symbol2 = c .before .before .before .before in
     let faces = facing-of _ _ (at-place-at .place-at .ensures) (at-symbol2 .symbol2 .given .1) in
-    let row = at-entry .pre .0 .row in
+    let row = at-entry .pre .ended .row in
     let size = at-size .size .ensures in
-    let next = row-call row _ (at-entry .pre .1) faces in
-    (row-lent row size, omega arith, row-ahead row size _ _ next (omega arith))
+    let next = row-call row _ (at-entry .pre .within) faces in
+    record { lent = row-lent row size; within = omega arith; ahead = row-ahead row size _ _ next (omega arith) }
 
 returns-3 : tie.Need-returns-3
 returns-3 c =
@@ -128,7 +128,7 @@ returns-3 c =
     let at-enum-told = c .before .before in
     let at-empty = c .before in
     let faces = facing-of _ _ (at-place-at .place-at .ensures) (at-enum-told .enum-told .given .1) in
-    derived-end _ _ _ _ _ _ faces (row-position (at-entry .pre .0 .row)) (at-empty .empty .ensures) (c .with .ensures)
+    derived-end _ _ _ _ _ _ faces (row-position (at-entry .pre .ended .row)) (at-empty .empty .ensures) (c .with .ensures)
 
 returns-4 : tie.Need-returns-4
 returns-4 c =
@@ -148,7 +148,7 @@ returns-5 c =
     let at-symbol2 = c .before .before .before .before .before in
     let at-read = c .before .before .before in
     let faces = facing-of _ _ (at-place-at .place-at .ensures) (at-symbol2 .symbol2 .given .1) in
-    let row = at-entry .pre .0 .row in
+    let row = at-entry .pre .ended .row in
     derived-call _ _ _ _ _ _ _ _ (at-size .size .ensures) faces (row .here) (row-short row) (at-read .read .ensures) (c .through .ensures)
 
 pub derived-spec : {M : Type 1} → statement M

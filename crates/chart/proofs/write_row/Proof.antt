@@ -37,11 +37,12 @@ derived-requires c κs =
     let at-entry = c .before .before .before .before .before .before .before .before in
     let at-size = c .before .before .before in
     let at-loop = c .before .before in
-    let inv = at-loop .loop .inv .2 in (
-      written-ended _ _ _ _ _ _ (at-entry .pre .long) (at-entry .pre .right) inv,
-      omega (arith, at-loop .loop .inv .0, at-size .size .ensures),
-      written-behind _ _ _ _ _ (omega arith) inv,
-    )
+    let inv = at-loop .loop .inv .2 in
+    record {
+      ended = written-ended _ _ _ _ _ _ (at-entry .pre .long) (at-entry .pre .right) inv;
+      within = omega (arith, at-loop .loop .inv .0, at-size .size .ensures);
+      behind = written-behind _ _ _ _ _ (omega arith) inv;
+    }
 
 put-requires : tie.Need-put-requires Inv-loop μ-loop
 put-requires c κs =

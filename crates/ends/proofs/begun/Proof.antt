@@ -32,7 +32,7 @@ empty-requires c κs = search needs
 loop-holds : tie.Need-loop-holds Inv-loop μ-loop
 loop-holds c =
     let at-entry = c .before .before .before .before .before .before in
-    (at-entry .pre .2, ap length (c .empty .ensures), leading-begins _ _ _ _ _ _ _ (c .empty .ensures))
+    (at-entry .pre .within, ap length (c .empty .ensures), leading-begins _ _ _ _ _ _ _ (c .empty .ensures))
 
 place-at-requires : tie.Need-place-at-requires Inv-loop μ-loop
 place-at-requires c κs = search needs
@@ -53,7 +53,7 @@ returns c =
     let at-place-at = c .before .before .before in
     let at-enum-told = c .before in
     let faces = facing-of _ _ (at-place-at .place-at .ensures) (at-enum-told .enum-told .given .1) in
-    leading-end _ _ _ _ _ _ _ _ (at-loop .loop .inv .2) faces (row-position (at-entry .pre .0)) (at-loop .loop .inv .1) (c .with .ensures)
+    leading-end _ _ _ _ _ _ _ _ (at-loop .loop .inv .2) faces (row-position (at-entry .pre .row)) (at-loop .loop .inv .1) (c .with .ensures)
 
 enum-known-symbol : tie.Need-enum-known-symbol Inv-loop μ-loop
 enum-known-symbol c = search needs
@@ -73,7 +73,7 @@ returns-2 c =
 add-cell : tie.Need-add-cell Inv-loop μ-loop
 add-cell c =
     let at-entry = c .before .before .before .before .before .before .before .before .before .before .before .before .before .before in
-    omega (arith, row-position (at-entry .pre .0))
+    omega (arith, row-position (at-entry .pre .row))
 
 cell-requires : tie.Need-cell-requires Inv-loop μ-loop
 cell-requires c κs =
@@ -84,7 +84,7 @@ cell-requires c κs =
     let at-symbol = c .before .before .before in
     let at-matches = c .before in
     let faces = facing-of _ _ (at-place-at .place-at .ensures) (at-symbol .symbol .given .1) in
-    let row = at-entry .pre .0 in
+    let row = at-entry .pre .row in
     let size = at-size .size .ensures in
     let next = row-token row _ (at-loop .loop .inv .0) faces in
     let inside = matches-found _ _ _ _ (at-matches .matches .ensures) (c .if1 .left) in
@@ -115,7 +115,7 @@ mul-read c =
     let at-place-at = c .before .before .before in
     let at-symbol2 = c .before in
     let faces = facing-of _ _ (at-place-at .place-at .ensures) (at-symbol2 .symbol2 .given .1) in
-    omega (arith, row-named (at-entry .pre .0) _ faces)
+    omega (arith, row-named (at-entry .pre .row) _ faces)
 
 read-requires : tie.Need-read-requires Inv-loop μ-loop
 read-requires c κs =
@@ -123,7 +123,7 @@ read-requires c κs =
     let at-place-at = c .before .before .before in
     let at-symbol2 = c .before in
     let faces = facing-of _ _ (at-place-at .place-at .ensures) (at-symbol2 .symbol2 .given .1) in
-    omega (arith, row-named (at-entry .pre .0) _ faces)
+    omega (arith, row-named (at-entry .pre .row) _ faces)
 
 add-through : tie.Need-add-through Inv-loop μ-loop
 add-through c = search needs
@@ -136,10 +136,10 @@ through-requires c κs =
     let at-place-at = c .before .before .before .before in
     let at-symbol2 = c .before .before in
     let faces = facing-of _ _ (at-place-at .place-at .ensures) (at-symbol2 .symbol2 .given .1) in
-    let row = at-entry .pre .0 in
+    let row = at-entry .pre .row in
     let size = at-size .size .ensures in
     let next = row-call row _ (at-loop .loop .inv .0) faces in
-    (row-lent row size, omega arith, row-ahead row size _ _ next (omega arith))
+    record { lent = row-lent row size; within = omega arith; ahead = row-ahead row size _ _ next (omega arith) }
 
 union-requires-2 : tie.Need-union-requires-2 Inv-loop μ-loop
 union-requires-2 c κs = search needs
@@ -147,7 +147,7 @@ union-requires-2 c κs = search needs
 has-requires : tie.Need-has-requires Inv-loop μ-loop
 has-requires c κs =
     let at-entry = c .before .before .before .before .before .before .before .before .before .before .before .before .before .before .before in
-    row-position (at-entry .pre .0)
+    row-position (at-entry .pre .row)
 
 returns-4 : tie.Need-returns-4 Inv-loop μ-loop
 returns-4 c =
@@ -161,7 +161,7 @@ returns-4 c =
     let at-union2 = c .before .before in
     let at-has = c .before in
     let faces = facing-of _ _ (at-place-at .place-at .ensures) (at-symbol2 .symbol2 .given .1) in
-    let row = at-entry .pre .0 in
+    let row = at-entry .pre .row in
     leading-stops _ _ _ _ _ _ _ _ (at-loop .loop .inv .2) _ _ (at-size .size .ensures) faces (row .here) (row-short row) (at-read .read .ensures)
     (at-through .through .ensures) (at-union2 .union2 .ensures) (at-has .has .ensures) (c .if2 .taken)
 
@@ -180,7 +180,7 @@ loop-again c =
     let at-union2 = c .before .before in
     let at-has = c .before in
     let faces = facing-of _ _ (at-place-at .place-at .ensures) (at-symbol2 .symbol2 .given .1) in
-    let row = at-entry .pre .0 in (
+    let row = at-entry .pre .row in (
       row-call row _ (at-loop .loop .inv .0) faces,
       ap length (at-union2 .union2 .ensures) ∙ length-union _ _,
       leading-goes _ _ _ _ _ _ _ _ (at-loop .loop .inv .2) _ _ (at-size .size .ensures) faces (row .here) (row-short row) (at-read .read .ensures)
@@ -191,7 +191,7 @@ returns-5 : tie.Need-returns-5 Inv-loop μ-loop
 returns-5 c =
     let at-entry = c .before .before .before .before .before .before .before .before in
     let at-loop = c .before in
-    absurd (omega (arith, at-loop .loop .inv .0, row-places (at-entry .pre .0)))
+    absurd (omega (arith, at-loop .loop .inv .0, row-places (at-entry .pre .row)))
 
 pub begun-spec : {M : Type 1} → statement M
 begun-spec =

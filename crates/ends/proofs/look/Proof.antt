@@ -34,7 +34,7 @@ loop-holds c =
     let at-rule-at = c .before .before in
     let at-rule-at2 = c .before in (
       omega arith,
-      gather-begins _ _ _ (at-entry .pre .0 .ready) (at-entry .pre .2) (at-rule-at .rule-at .ensures) (at-rule-at2 .rule-at2 .ensures)
+      gather-begins _ _ _ (at-entry .pre .row .ready) (at-entry .pre .named) (at-rule-at .rule-at .ensures) (at-rule-at2 .rule-at2 .ensures)
           (c .empty .ensures),
     )
 
@@ -43,8 +43,8 @@ first-place-requires c κs =
     let at-entry = c .before .before .before .before .before .before .before .before .before in
     let at-rule-at = c .before .before .before .before in
     let at-rule-at2 = c .before .before .before in
-    let ready = at-entry .pre .0 .ready in
-    let within = rule-within _ ready _ (at-entry .pre .2) (at-rule-at .rule-at .ensures) (at-rule-at2 .rule-at2 .ensures) in
+    let ready = at-entry .pre .row .ready in
+    let within = rule-within _ ready _ (at-entry .pre .named) (at-rule-at .rule-at .ensures) (at-rule-at2 .rule-at2 .ensures) in
     (omega (arith, ready .fits .long), ready .fits .long)
 
 begun-requires : tie.Need-begun-requires Inv-loop μ-loop
@@ -54,12 +54,11 @@ begun-requires c κs =
     let at-rule-at2 = c .before .before .before .before .before in
     let at-loop = c .before .before .before in
     let at-loop-test = c .before .before in
-    let at-first-place = c .before in (
-      at-entry .pre .0,
-      at-entry .pre .1,
-      first-in _ (at-entry .pre .0 .ready) _ (at-entry .pre .2) (at-rule-at .rule-at .ensures) (at-rule-at2 .rule-at2 .ensures) _ (at-loop .loop .inv .0)
-          (at-loop-test .loop-test .taken) (at-first-place .first-place .ensures),
-    )
+    let at-first-place = c .before in
+    let within =
+    first-in _ (at-entry .pre .row .ready) _ (at-entry .pre .named) (at-rule-at .rule-at .ensures) (at-rule-at2 .rule-at2 .ensures) _ (at-loop .loop .inv .0)
+    (at-loop-test .loop-test .taken) (at-first-place .first-place .ensures) in
+    record { row = at-entry .pre .row; long = at-entry .pre .long; within = within }
 
 union-requires : tie.Need-union-requires Inv-loop μ-loop
 union-requires c κs = search needs
@@ -81,19 +80,19 @@ loop-again c =
     let at-begun = c .before in (
       omega arith,
       gather-more _ _ _ _ _ _ _ (at-loop .loop .inv .1) (at-loop-test .loop-test .taken)
-          (rule-within _ (at-entry .pre .0 .ready) _ (at-entry .pre .2) (at-rule-at .rule-at .ensures) (at-rule-at2 .rule-at2 .ensures))
+          (rule-within _ (at-entry .pre .row .ready) _ (at-entry .pre .named) (at-rule-at .rule-at .ensures) (at-rule-at2 .rule-at2 .ensures))
           (at-first-place .first-place .ensures) (begun-members _ _ _ _ _ _ _ (at-begun .begun .ensures)) (c .union .ensures),
     )
 
 mul-put : tie.Need-mul-put Inv-loop μ-loop
 mul-put c =
     let at-entry = c .before .before .before .before .before .before .before .before .before .before in
-    omega (arith, at-entry .pre .2, at-entry .pre .0 .ready .fits .few)
+    omega (arith, at-entry .pre .named, at-entry .pre .row .ready .fits .few)
 
 put-requires : tie.Need-put-requires Inv-loop μ-loop
 put-requires c κs =
     let at-entry = c .before .before .before .before .before .before .before .before .before .before in
-    omega (arith, at-entry .pre .2, at-entry .pre .1, at-entry .pre .0 .ready .fits .few)
+    omega (arith, at-entry .pre .named, at-entry .pre .long, at-entry .pre .row .ready .fits .few)
 
 same-length : tie.Need-same-length Inv-loop μ-loop
 same-length c = search needs
@@ -103,7 +102,7 @@ returns c =
     let at-entry = c .before .before .before .before .before .before .before .before .before .before .before .before .before in
     let at-loop = c .before .before .before .before .before in
     let at-put = c .before .before in
-    looked _ _ _ _ (at-entry .pre .0) _ _ _ (at-entry .pre .2) (at-entry .pre .1)
+    looked _ _ _ _ (at-entry .pre .row) _ _ _ (at-entry .pre .named) (at-entry .pre .long)
     (gather-ends _ _ _ _ _ _ (at-loop .loop .inv .1) (omega arith)) (at-put .put .ensures)
 
 pub look-spec : {M : Type 1} → statement M

@@ -21,33 +21,37 @@ abbrev μ-loop : tie.MeasureT-loop
 nonterminals-requires : tie.Need-nonterminals-requires Inv-loop μ-loop
 nonterminals-requires c κs =
     let at-entry = c .before .before .before .before .before in
-    at-entry .pre .0 .ready .fits .long
+    at-entry .pre .row .ready .fits .long
 
 loop-holds : tie.Need-loop-holds Inv-loop μ-loop
 loop-holds c =
     let at-entry = c .before .before .before .before .before .before in
-    let row = at-entry .pre .0 in
-    let empty = at-entry .pre .2 in
+    let row = at-entry .pre .row in
+    let empty = at-entry .pre .empty in
     (ap length empty, judged-none _ _ _ _ row _ _ (rw empty (sound-none _ _ _ (row .ready .fits .few))))
 
 mul-a : tie.Need-mul-a Inv-loop μ-loop
 mul-a c =
     let at-entry = c .before .before .before .before .before .before .before .before in
     let at-nonterminals = c .before .before in
-    omega (arith, at-nonterminals .nonterminals .ensures, at-entry .pre .0 .ready .fits .few)
+    omega (arith, at-nonterminals .nonterminals .ensures, at-entry .pre .row .ready .fits .few)
 
 shared-slice-read-a : tie.Need-shared-slice-read-a Inv-loop μ-loop
 shared-slice-read-a c =
     let at-entry = c .before .before .before .before .before .before .before .before .before in
     let at-nonterminals = c .before .before .before in
-    omega (arith, at-nonterminals .nonterminals .ensures, at-entry .pre .1 .room)
+    omega (arith, at-nonterminals .nonterminals .ensures, at-entry .pre .lined .room)
 
 look-requires : tie.Need-look-requires Inv-loop μ-loop
 look-requires c κs =
     let at-entry = c .before .before .before .before .before .before .before .before .before .before in
     let at-nonterminals = c .before .before .before .before in
     let at-loop = c .before .before .before in
-    (at-entry .pre .0, at-loop .loop .inv .0, at-entry .pre .1 .lined .named _ (omega (arith, at-nonterminals .nonterminals .ensures)))
+    record {
+      row = at-entry .pre .row;
+      long = at-loop .loop .inv .0;
+      named = at-entry .pre .lined .lined .named _ (omega (arith, at-nonterminals .nonterminals .ensures));
+    }
 
 add-k : tie.Need-add-k Inv-loop μ-loop
 add-k c = search needs
@@ -62,7 +66,7 @@ loop-again c =
     let at-loop = c .before .before .before .before .before .before in
     let at-look = c .before .before in (
       omega (arith, at-loop .loop .inv .0),
-      judged-on _ _ _ _ (at-entry .pre .0) _ (at-entry .pre .1) _ _ _ (omega (arith, at-nonterminals .nonterminals .ensures)) (at-loop .loop .inv .1) refl
+      judged-on _ _ _ _ (at-entry .pre .row) _ (at-entry .pre .lined) _ _ _ (omega (arith, at-nonterminals .nonterminals .ensures)) (at-loop .loop .inv .1) refl
           (at-look .look .ensures),
     )
 
@@ -70,14 +74,14 @@ same-length : tie.Need-same-length Inv-loop μ-loop
 same-length c =
     let at-entry = c .before .before .before .before .before .before .before .before in
     let at-loop = c .before in
-    omega (arith, at-loop .loop .inv .0, ap length (at-entry .pre .2))
+    omega (arith, at-loop .loop .inv .0, ap length (at-entry .pre .empty))
 
 returns : tie.Need-returns Inv-loop μ-loop
 returns c =
     let at-entry = c .before .before .before .before .before .before .before .before in
     let at-nonterminals = c .before .before in
     let at-loop = c .before in
-    judged-all _ _ _ _ (at-entry .pre .0) _ (at-entry .pre .1) _ _ (omega (arith, at-nonterminals .nonterminals .ensures)) (at-loop .loop .inv .1)
+    judged-all _ _ _ _ (at-entry .pre .row) _ (at-entry .pre .lined) _ _ (omega (arith, at-nonterminals .nonterminals .ensures)) (at-loop .loop .inv .1)
 
 pub settle-spec : {M : Type 1} → statement M
 settle-spec =

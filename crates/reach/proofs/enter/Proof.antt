@@ -38,8 +38,8 @@ first-place-requires c κs =
     let at-rule-at2 = c .before .before in
     omega (
       arith,
-      at-entry .pre .0 .fits .long,
-      rule-within _ (at-entry .pre .0) _ (at-entry .pre .1) (at-rule-at .rule-at .ensures) (at-rule-at2 .rule-at2 .ensures),
+      at-entry .pre .ready .fits .long,
+      rule-within _ (at-entry .pre .ready) _ (at-entry .pre .named) (at-rule-at .rule-at .ensures) (at-rule-at2 .rule-at2 .ensures),
     )
 
 add-k : tie.Need-add-k Inv-loop μ-loop
@@ -51,12 +51,13 @@ mark-requires c κs =
     let at-rule-at = c .before .before .before .before .before in
     let at-rule-at2 = c .before .before .before .before in
     let at-loop = c .before .before .before in
-    let at-first-place = c .before in (
-      first-small _ (at-entry .pre .0) _ (at-entry .pre .1) (at-rule-at .rule-at .ensures) (at-rule-at2 .rule-at2 .ensures) _
-          (at-first-place .first-place .ensures) (at-loop .loop .inv .0) (omega arith),
-      omega arith,
-      omega arith,
-    )
+    let at-first-place = c .before in
+    record {
+      place = first-small _ (at-entry .pre .ready) _ (at-entry .pre .named) (at-rule-at .rule-at .ensures) (at-rule-at2 .rule-at2 .ensures) _
+          (at-first-place .first-place .ensures) (at-loop .loop .inv .0) (omega arith);
+      position = at-entry .pre .position;
+      long = omega (arith, at-entry .pre .long, at-loop .loop .inv .1);
+    }
 
 loop-less : tie.Need-loop-less Inv-loop μ-loop
 loop-less c = search needs
@@ -97,7 +98,7 @@ returns c =
     let at-rule-at = c .before .before .before in
     let at-rule-at2 = c .before .before in
     let at-loop = c .before in
-    enter-end _ (at-entry .pre .0) _ _ _ (at-entry .pre .1) (at-rule-at .rule-at .ensures) (at-rule-at2 .rule-at2 .ensures) (omega arith)
+    enter-end _ (at-entry .pre .ready) _ _ _ (at-entry .pre .named) (at-rule-at .rule-at .ensures) (at-rule-at2 .rule-at2 .ensures) (omega arith)
     (at-loop .loop .inv .2)
 
 pub enter-spec : {M : Type 1} → statement M

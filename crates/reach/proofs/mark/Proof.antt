@@ -39,7 +39,8 @@ returns-2 c =
     let at-empty = c .before .before .before .before .before in
     let at-with = c .before .before .before .before in
     let at-join = c .before .before in
-    mark-adds (at-entry .pre .2) (at-entry .pre .0) (at-entry .pre .1) (at-empty .empty .ensures) (at-with .with .ensures) (at-join .join .ensures)
+    mark-adds (at-entry .pre .long) (at-entry .pre .place) (at-entry .pre .position) (at-empty .empty .ensures) (at-with .with .ensures)
+    (at-join .join .ensures)
 
 pub mark-spec : {M : Type 1} → statement M
 mark-spec =

@@ -45,7 +45,8 @@ mark-requires c κs =
     let at-symbol = c .before .before .before .before in
     let faces = facing-of _ _ (at-place-at .place-at .ensures) (at-symbol .symbol .given .1) in
     let start = at-entry .pre .0 in
-    (next-token _ (start .given .ready) _ (at-entry .pre .1) faces, omega (arith, start .given .lent .short, start .here), start .long)
+    let place = next-token _ (start .given .ready) _ (at-entry .pre .1) faces in
+    record { place = place; position = omega (arith, start .given .lent .short, start .here); long = start .long }
 
 enum-known-symbol-2 : tie.Need-enum-known-symbol-2
 enum-known-symbol-2 c = search needs
@@ -57,7 +58,11 @@ ends-of-requires c κs =
     let at-symbol2 = c .before in
     let faces = facing-of _ _ (at-place-at .place-at .ensures) (at-symbol2 .symbol2 .given .1) in
     let given = at-entry .pre .0 .given in
-    (given .ready, record { tokens = _; lent = given .lent; here = at-entry .pre .0 .here }, given .ready .fits .named _ _ faces)
+    record {
+      ready = given .ready;
+      lent = record { tokens = _; lent = given .lent; here = at-entry .pre .0 .here };
+      named = given .ready .fits .named _ _ faces;
+    }
 
 enter-requires : tie.Need-enter-requires
 enter-requires c κs =
@@ -66,7 +71,8 @@ enter-requires c κs =
     let at-symbol2 = c .before .before .before in
     let faces = facing-of _ _ (at-place-at .place-at .ensures) (at-symbol2 .symbol2 .given .1) in
     let start = at-entry .pre .0 in
-    (start .given .ready, start .given .ready .fits .named _ _ faces, omega (arith, start .given .lent .short, start .here), start .long)
+    let ready = start .given .ready in
+    record { ready = ready; named = ready .fits .named _ _ faces; position = omega (arith, start .given .lent .short, start .here); long = start .long }
 
 add-join : tie.Need-add-join
 add-join c = search needs

@@ -25,7 +25,7 @@ slice-aggregate-enter c = search needs
 enter-requires : tie.Need-enter-requires Inv-loop μ-loop
 enter-requires c κs =
     let at-entry = c .before .before .before .before in
-    (at-entry .pre .ready, start-known _ (at-entry .pre .ready), omega arith, length-replicate {A = ℕ} setsWords 0)
+    record { ready = at-entry .pre .ready; named = start-known _ (at-entry .pre .ready); position = omega arith; long = length-replicate {A = ℕ} setsWords 0 }
 
 loop-holds : tie.Need-loop-holds Inv-loop μ-loop
 loop-holds c =

@@ -1,5 +1,5 @@
 -- `cache::asking::step_outcome` meets its contract: the words of a slot from its configurations on, as many as its count says, are those of its state.
-use Rattle.cache.proofs.AskSteps.{part-within, part-short, part-kept}
+use Rattle.cache.proofs.AskSteps.{part-within, part-kept}
 use Rattle.words.proofs.SlotLaws.{slot-few}
 use lib.ListN.{length}
 use native.Mathlib.Omega.{arith}
@@ -50,9 +50,7 @@ part-step-end c =
 step-requires : tie.Need-step-requires
 step-requires c κs =
     let at-entry = c .before .before .before .before .before .before .before in
-    let args = at-entry .args in
-    let short = part-short (args .cache .now) (args .s) (c .before .before .before .configs-at .result) (c .before .before .kept-count .ensures) in
-    (at-entry .pre .0 .ready, short, at-entry .pre .1)
+    (at-entry .pre .0 .ready, at-entry .pre .1)
 
 same-length : tie.Need-same-length
 same-length c = search needs

@@ -11,7 +11,7 @@ slice-aggregate-begin c = search needs
 begin-requires : tie.Need-begin-requires
 begin-requires c κs =
     let at-entry = c .before .before .before in
-    record { ready = at-entry .pre .0; long = search needs; named = at-entry .pre .1 }
+    record { ready = at-entry .pre .ready; long = search needs; named = at-entry .pre .named }
 
 enum-known-n : tie.Need-enum-known-n
 enum-known-n c = search needs
@@ -32,7 +32,7 @@ finish-requires c κs =
     let at-n = c .before .before .before in
     let at-begin = at-n .before .before .before in
     let at-entry = at-begin .before .before .before .before in
-    record { ready = at-entry .pre .0; room = grow-room (at-begin .begin .ensures) _ (at-n .n .given .1); long = at-entry .pre .2 }
+    record { ready = at-entry .pre .ready; room = grow-room (at-begin .begin .ensures) _ (at-n .n .given .1); long = at-entry .pre .long }
 
 same-length : tie.Need-same-length
 same-length c = search needs

@@ -30,7 +30,7 @@ finish-requires c κs =
     let at-n = c .before .before .before in
     let at-advance = at-n .before .before .before in
     let at-entry = at-advance .before .before .before .before .before in
-    record { ready = at-entry .pre .0; room = grow-room (at-advance .advance .ensures) _ (at-n .n .given .1); long = at-entry .pre .2 }
+    record { ready = at-entry .pre .0; room = grow-room (at-advance .advance .ensures) _ (at-n .n .given .1); long = at-entry .pre .1 }
 
 same-length : tie.Need-same-length
 same-length c = search needs

@@ -33,7 +33,7 @@ loop-holds c =
     let at-rule-at = c .before in (
       omega arith,
       seeking-at _ _ _ _ _ _ _ _ _ (omega arith)
-          (seeking-begins _ _ _ _ _ (at-entry .pre .0) (at-entry .pre .2) (at-rule-at .rule-at .ensures) (c .rule-at2 .ensures)),
+          (seeking-begins _ _ _ _ _ (at-entry .pre .ready) (at-entry .pre .named) (at-rule-at .rule-at .ensures) (c .rule-at2 .ensures)),
     )
 
 sub-k : tie.Need-sub-k Inv-loop μ-loop
@@ -50,11 +50,11 @@ first-place-requires c κs =
     let at-rule-at2 = c .before .before in (
       omega (
         arith,
-        at-entry .pre .0 .fits .long,
+        at-entry .pre .ready .fits .long,
         at-loop .loop .inv .0,
-        rule-within _ (at-entry .pre .0) _ (at-entry .pre .2) (at-rule-at .rule-at .ensures) (at-rule-at2 .rule-at2 .ensures),
+        rule-within _ (at-entry .pre .ready) _ (at-entry .pre .named) (at-rule-at .rule-at .ensures) (at-rule-at2 .rule-at2 .ensures),
       ),
-      at-entry .pre .0 .fits .long,
+      at-entry .pre .ready .fits .long,
     )
 
 cell-requires : tie.Need-cell-requires Inv-loop μ-loop
@@ -64,13 +64,13 @@ cell-requires c κs =
     let at-rule-at = c .before .before .before .before in
     let at-rule-at2 = c .before .before .before in
     let at-loop = c .before .before in
-    spot-in _ _ _ _ _ (lent-of (at-size .size .ensures) (at-entry .pre .1 .lent))
+    spot-in _ _ _ _ _ (lent-of (at-size .size .ensures) (at-entry .pre .lent .lent))
     (omega (
       arith,
       at-size .size .ensures,
-      first-in _ (at-entry .pre .0) _ (at-entry .pre .2) (at-rule-at .rule-at .ensures) (at-rule-at2 .rule-at2 .ensures) _ (omega arith)
+      first-in _ (at-entry .pre .ready) _ (at-entry .pre .named) (at-rule-at .rule-at .ensures) (at-rule-at2 .rule-at2 .ensures) _ (omega arith)
           (omega (arith, at-loop .loop .inv .0)) (c .first-place .ensures),
-    )) (at-entry .pre .1 .here)
+    )) (at-entry .pre .lent .here)
 
 sub-left : tie.Need-sub-left Inv-loop μ-loop
 sub-left c = search needs
@@ -94,8 +94,8 @@ returns c =
     let at-size = c .before .before .before .before .before .before .before .before in
     let at-cell = c .before .before in
     let at-meets = c .before in
-    seeking-found _ _ _ _ _ (at-entry .pre .0) (at-entry .pre .2) (at-rule-at .rule-at .ensures) (at-rule-at2 .rule-at2 .ensures) _ (at-loop .loop .inv .1)
-    (omega arith) (omega (arith, at-loop .loop .inv .0)) (at-first-place .first-place .ensures)
+    seeking-found _ _ _ _ _ (at-entry .pre .ready) (at-entry .pre .named) (at-rule-at .rule-at .ensures) (at-rule-at2 .rule-at2 .ensures) _
+    (at-loop .loop .inv .1) (omega arith) (omega (arith, at-loop .loop .inv .0)) (at-first-place .first-place .ensures)
     (sized (at-size .size .ensures) _ _ _ (at-cell .cell .ensures)) (at-meets .meets .ensures) (c .if1 .taken)
 
 loop-less : tie.Need-loop-less Inv-loop μ-loop
@@ -113,7 +113,7 @@ loop-again c =
     let at-meets = c .before in (
       omega (arith, at-loop .loop .inv .0),
       seeking-at _ _ _ _ _ _ _ _ _ (omega (arith, at-loop .loop .inv .0))
-          (seeking-on _ _ _ _ _ (at-entry .pre .0) (at-entry .pre .2) (at-rule-at .rule-at .ensures) (at-rule-at2 .rule-at2 .ensures) _
+          (seeking-on _ _ _ _ _ (at-entry .pre .ready) (at-entry .pre .named) (at-rule-at .rule-at .ensures) (at-rule-at2 .rule-at2 .ensures) _
           (at-loop .loop .inv .1) (omega arith) (omega (arith, at-loop .loop .inv .0)) (at-first-place .first-place .ensures)
           (sized (at-size .size .ensures) _ _ _ (at-cell .cell .ensures)) (at-meets .meets .ensures) (c .if1 .left)),
     )

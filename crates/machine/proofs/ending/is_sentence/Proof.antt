@@ -20,7 +20,8 @@ with-requires c κs =
 lowest-requires : tie.Need-lowest-requires
 lowest-requires c κs =
     let at-entry = c .before .before .before .before .before in
-    (at-entry .pre .ready, lent-at (length (at-entry .args .note .now)) 0 refl (at-entry .pre .lent) (omega arith), some-named _ (at-entry .pre .ready))
+    let lent = lent-at (length (at-entry .args .note .now)) 0 refl (at-entry .pre .lent) (omega arith) in
+    record { ready = at-entry .pre .ready; lent = lent; named = some-named _ (at-entry .pre .ready) }
 
 returns : tie.Need-returns
 returns c =

@@ -95,12 +95,13 @@ enter-requires c κs =
     let at-if1 = c .before .before .before .before .before .before .before in
     let at-call = c .before .before .before .before .before in
     let at-if2 = c .before .before in
-    let at-space-of = c .before .before .before .before .before .before .before .before .before in (
-      at-entry .pre .ready,
-      taken-named _ _ _ _ (at-entry .pre) (at-loop .loop .inv) (at-if1 .if1 .left) (at-call .call .ensures) (at-if2 .if2 .left),
-      taken-room _ _ _ _ (at-entry .pre) (at-loop .loop .inv) (at-if1 .if1 .left) (at-call .call .ensures) (at-if2 .if2 .left)
-          (at-space-of .space-of .ensures .base),
-    )
+    let at-space-of = c .before .before .before .before .before .before .before .before .before in
+    record {
+      ready = at-entry .pre .ready;
+      named = taken-named _ _ _ _ (at-entry .pre) (at-loop .loop .inv) (at-if1 .if1 .left) (at-call .call .ensures) (at-if2 .if2 .left);
+      room = taken-room _ _ _ _ (at-entry .pre) (at-loop .loop .inv) (at-if1 .if1 .left) (at-call .call .ensures) (at-if2 .if2 .left)
+          (at-space-of .space-of .ensures .base);
+    }
 
 enum-told : tie.Need-enum-told Inv-loop μ-loop
 enum-told c = search needs
