@@ -34,7 +34,7 @@ Derivers tokens g x = (a : ℕ) → T (testBit x a) → T (deriving? tokens g a)
 unfoldable pub NeedIs : Bool → List Symbol → ℕ → Type 0
 NeedIs tokens l need = (x a : ℕ) → a < maxNonterminals → testBit x a ≡ false → isSubset need x ≡ passes tokens (testBit x) l
 
--- rows with a word for each production: as long as the tables from firstsAt on
+-- rows with a word for each production: as long as the tables from firstsAt to the corners
 abbrev pub rowWords : ℕ
 rowWords = cornersAt - firstsAt
 

@@ -9,8 +9,8 @@ ghost use Rattle.grammar.specs.Grammar.{suffix};
 ghost use Rattle.grammar.specs.Tables.{grammarIn, nonterminalsIn, Fits};
 ghost use Rattle.closures.specs.Steps.{Derivers, DerivingIs, NeedIs, Noted, Noting, Unnoted, Rows, rowWords, roundOf};
 
-// Rows have a word for each production, at its place in the tables counted from grammar::FIRSTS; so long are the tables from there on. specs/Steps has
-// the same.
+// Rows have a word for each production, at its place in the tables counted from grammar::FIRSTS; so long are the tables from there to the corners.
+// specs/Steps has the same.
 const ROW_WORDS: usize = grammar::CORNERS - grammar::FIRSTS;
 
 // The set of all nonterminals that there can be.

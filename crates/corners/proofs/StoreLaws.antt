@@ -8,10 +8,9 @@ use lib.ListN.{getD}
 use Rattle.base.specs.Bits.{testBit}
 use Rattle.base.proofs.Bits.{same?}
 use Rattle.grammar.specs.Limits.{maxNonterminals}
-use Rattle.grammar.specs.Grammar.{Grammar}
-use Rattle.grammar.specs.Tables.{grammarIn, nonterminalsIn, cornerRow, withCorners, Fits}
+use Rattle.grammar.specs.Tables.{grammarIn, nonterminalsIn, withCorners, Fits}
 use Rattle.grammar.proofs.CornerLaws.{put-kept, put-here, put-other, kept-none, kept-on}
-use Rattle.corners.specs.Corners.{move?, Corners, Cornered}
+use Rattle.corners.specs.Corners.{Corners, Cornered}
 use Rattle.corners.specs.Steps.{Stored}
 
 pub stored-none : (t rows : List ℕ) → Fits t → Stored t rows 0 t

@@ -3,12 +3,12 @@ use mathlib.Core.Path.{_≡_, refl, sym, ap, _∙_}
 use mathlib.Core.List.{List, [], _∷_, map}
 use Prim.Native.Nat.{ℕ, zero, suc, _+_, _*_, _/_, _%_, _≤_, _<_}
 use native.Mathlib.Omega.{arith}
-use lib.ListN.{length, getD, set, take, drop, length-set}
+use lib.ListN.{getD, set, drop, length-set}
 use lib.Seq.{slice, getD-set-same, getD-set-other, take-set-le}
 use Rattle.base.specs.Rounds.{upFrom}
 use Rattle.grammar.specs.Limits.{maxNonterminals}
 use Rattle.grammar.specs.Grammar.{Grammar, facing}
-use Rattle.grammar.specs.Tables.{placeWords, rulesAt, kindsAt, nonterminalsAt, sizeAt, cornersAt, tableWords, half, cornerAt, placeOf, ruleAt, startsIn}
+use Rattle.grammar.specs.Tables.{placeWords, rulesAt, kindsAt, nonterminalsAt, sizeAt, cornersAt, half, cornerAt, placeOf, ruleAt, startsIn}
 use Rattle.grammar.specs.Tables.{grammarIn, nonterminalsIn, cornerRow, withCorners, Fits, Kept}
 
 -- ---- a word behind the grammar is written

@@ -14,7 +14,7 @@ use Rattle.base.proofs.Booleans.{true→T, false→¬T}
 use Rattle.grammar.specs.Grammar.{Grammar}
 use Rattle.grammar.specs.Tables.{grammarIn, nonterminalsIn, cornerRow}
 use Rattle.closures.specs.Textbook.{Move, Reaches, one, LeftRecursive}
-use Rattle.corners.specs.Corners.{move?, Cornered}
+use Rattle.corners.specs.Corners.{Cornered}
 use Rattle.corners.proofs.LeftRecursion.{move-iff, move-to, reaches-trans}
 use Rattle.derivation.proofs.Pigeon.{Distinct, nil, also, pigeon}
 use Rattle.derivation.specs.Ready.{Ready}

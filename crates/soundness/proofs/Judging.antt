@@ -31,7 +31,7 @@ use Rattle.soundness.specs.Check.{lowestUnproductive, lowestLeftRecursiv
 use Rattle.soundness.specs.Check.{checkOf}
 use Rattle.closures.specs.Steps.{DerivingIs}
 use Rattle.corners.specs.Steps.{reachOf}
-use Rattle.soundness.specs.Compiled.{Judged, Compiled}
+use Rattle.soundness.specs.Compiled.{Judgement, Compiled}
 use Rattle.corners.proofs.LeftRecursion.{move-to}
 use Rattle.corners.proofs.Warshall.{reached}
 
@@ -71,7 +71,7 @@ module _ (g : Grammar) (number : ℕ) {v : Verdict} where
 
 -- ---- 6 before 7
 module _ (t₀ : List ℕ) {v : Verdict} (e : v ≡ verdictOn 6 (grammarIn t₀)) {t : List ℕ} (k : Kept t₀ t) where
-  pub judge-first : {r : Refusal} → v ≡ Refused r → Judged (Refused r) (judgeOf (grammarIn t₀)) t₀ t
+  pub judge-first : {r : Refusal} → v ≡ Refused r → Judgement (Refused r) (judgeOf (grammarIn t₀)) t₀ t
   unfolding judgeOf verdictOn
   judge-first h = record { verdict = rw (← e, h); kept = k; cornered = λ q. clash (cc) }
 
@@ -80,7 +80,7 @@ module _ (t₀ : List ℕ) {v : Verdict} (e : v ≡ verdictOn 6 (grammarIn t₀)
     unfolding judgeOf verdictOn
     second = let q : w ≡ verdictOn 7 (grammarIn t₀) = rw (k .says) at f in rw (← e, h, q)
 
-    pub judge-second : Judged w (judgeOf (grammarIn t₀)) t₀ t′
+    pub judge-second : Judgement w (judgeOf (grammarIn t₀)) t₀ t′
     judge-second = record { verdict = second; kept = kept-on k m; cornered = λ _. c }
 
 -- ---- the bytes
@@ -102,7 +102,7 @@ module _ (s t₀ : List ℕ) {x : Read} {t : List ℕ} (z : t₀ ≡ replicate t
         go (none r q h′) = clash (cc)
         go (whole g m v c q h′ l u f) = f
 
-    pub compile-judged : {w : Verdict} {t′ : List ℕ} → Judged w (judgeOf (grammarIn t)) t t′ → Compiled s w t′
+    pub compile-judged : {w : Verdict} {t′ : List ℕ} → Judgement w (judgeOf (grammarIn t)) t t′ → Compiled s w t′
     unfolding checkOf
     compile-judged {w} {t′} j = go (outcome s t₀ z e)
       where

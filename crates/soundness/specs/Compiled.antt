@@ -11,7 +11,7 @@ use Rattle.soundness.specs.declared.judgement.Verdict.{Verdict}
 use Rattle.soundness.specs.declared.judgement.Verdict.the-variants.{Sound}
 
 -- the verdict v on tables t₀ is w, and tables t are left: they say the same, and hold the left corners of a sound grammar
-pub record Judged (v w : Verdict) (t₀ t : List ℕ) : Type 0 where
+pub record Judgement (v w : Verdict) (t₀ t : List ℕ) : Type 0 where
   pub verdict : v ≡ w
   pub kept : Kept t₀ t
   pub cornered : v ≡ Sound → Cornered t

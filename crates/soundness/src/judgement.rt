@@ -11,7 +11,7 @@ ghost use Rattle.grammar.specs.Limits.{maxNonterminals};
 ghost use Rattle.grammar.specs.Tables.{grammarIn, Fits, Kept, tableWords};
 ghost use Rattle.corners.specs.Corners.{Cornered};
 ghost use Rattle.soundness.specs.Check.{refuseAt, unproductiveOf, leftRecursiveOf, verdictOn, judgeOf, checkOf, verdictNumber, verdictPlace};
-ghost use Rattle.soundness.specs.Compiled.{Judged, Compiled};
+ghost use Rattle.soundness.specs.Compiled.{Judgement, Compiled};
 
 // What the check answers.
 pub enum Verdict {
@@ -86,7 +86,8 @@ fn unproductive(tables: &[u16]) -> Verdict
 // Refusal 7; the left corners, by which it is found, stay in the tables.
 fn left_recursive(tables: &mut [u16]) -> Verdict
     requires { ⌜ Fits (now tables) ⌝ }
-    ensures { λ r. ⌜ (r ≡ leftRecursiveOf (grammarIn (now (tables .entry)))) × Kept (now (tables .entry)) (now (tables .exit)) × Cornered (now (tables .exit)) ⌝ }
+    ensures { λ r. ⌜ (r ≡ leftRecursiveOf (grammarIn (now (tables .entry))))
+        × Kept (now (tables .entry)) (now (tables .exit)) × Cornered (now (tables .exit)) ⌝ }
 {
     let n = grammar::nonterminals(tables);
     let mut rows = [0u32; grammar::MAX_NONTERMINALS];
@@ -111,7 +112,7 @@ fn verdict_on(tables: &mut [u16], number: u32) -> Verdict
 // 6, and then 7.
 fn judge(tables: &mut [u16]) -> Verdict
     requires { ⌜ Fits (now tables) ⌝ }
-    ensures { λ r. ⌜ Judged r (judgeOf (grammarIn (now (tables .entry)))) (now (tables .entry)) (now (tables .exit)) ⌝ }
+    ensures { λ r. ⌜ Judgement r (judgeOf (grammarIn (now (tables .entry)))) (now (tables .entry)) (now (tables .exit)) ⌝ }
 {
     let first = verdict_on(tables, 6);
     match first {

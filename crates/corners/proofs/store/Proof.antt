@@ -1,6 +1,5 @@
 -- `corners::store` meets its contract: the rows below a are stored, and a turn stores that of a and touches neither another row nor what the tables say.
 use borrow.Author.Needs.{needs}
-use mathlib.Core.Path.{_≡_}
 use Prim.Native.Nat.{_≤_, _-_}
 use native.Mathlib.Omega.{arith}
 use Rattle.corners.specs.Steps.{Stored}

@@ -1,5 +1,4 @@
 -- `soundness::judgement::verdict_on` meets its contract: each of the two ways out is one case of `verdictOn`, and only 7 writes into the tables.
-use mathlib.Core.Path.{_≡_}
 use Rattle.grammar.proofs.CornerLaws.{kept-none}
 use Rattle.soundness.proofs.Judging.{verdict-six, verdict-seven}
 use borrow.Author.Needs.{needs}
