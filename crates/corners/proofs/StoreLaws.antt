@@ -16,7 +16,8 @@ use Rattle.corners.specs.Steps.{Stored}
 pub stored-none : (t rows : List ℕ) → Fits t → Stored t rows 0 t
 stored-none t rows f = record { kept = kept-none f; same = λ a h. absurd (omega arith) }
 
-pub stored-more : (t₀ rows t : List ℕ) (a : ℕ) {t′ : List ℕ} → a < maxNonterminals → Stored t₀ rows a t → t′ ≡ withCorners t a (getD rows a 0)
+pub stored-more : (t₀ rows t : List ℕ) (a : ℕ) {t′ : List ℕ} → a < maxNonterminals → Stored t₀ rows a t → t′
+    ≡ withCorners t a (getD rows a 0)
     → Stored t₀ rows (a + 1) t′
 stored-more t₀ rows t a named s e =
     rw e
@@ -31,7 +32,8 @@ pub stored-upto : (t₀ rows t : List ℕ) (a n : ℕ) → Stored t₀ rows a t 
 stored-upto t₀ rows t a n s l = record { kept = s .kept; same = λ b h. s .same b (omega arith) }
 
 -- corners that are stored are the tables' own
-pub stored-corners : (t₀ rows t : List ℕ) → Corners (grammarIn t₀) (nonterminalsIn t₀) rows → Stored t₀ rows (nonterminalsIn t₀) t → Cornered t
+pub stored-corners : (t₀ rows t : List ℕ) → Corners (grammarIn t₀) (nonterminalsIn t₀) rows → Stored t₀ rows (nonterminalsIn t₀) t
+    → Cornered t
 unfolding Corners Cornered
 stored-corners t₀ rows t h s a c l =
     let m : a < nonterminalsIn t₀ = omega (arith, s .kept .number) in

@@ -82,7 +82,8 @@ module _ (t : List ℕ) (a row : ℕ) (fits : Fits t) (named : a < maxNontermina
       = getD-set-same low (suc (cornerAt a)) (row / half) 0 (omega (arith, low-fits .long)) in
       rw (l, h) (omega arith)
 
-  word-other : (j : ℕ) → (j ≡ cornerAt a → ⊥) → (j ≡ suc (cornerAt a) → ⊥) → getD (set low (suc (cornerAt a)) (row / half)) j 0 ≡ getD t j 0
+  word-other : (j : ℕ) → (j ≡ cornerAt a → ⊥) → (j ≡ suc (cornerAt a) → ⊥) → getD (set low (suc (cornerAt a)) (row / half)) j 0
+      ≡ getD t j 0
   word-other j n m =
       getD-set-other low (suc (cornerAt a)) j (row / half) 0 m ∙ getD-set-other t (cornerAt a) j (row % half) 0 n
 
@@ -102,7 +103,8 @@ pub kept-on : {t₀ t t′ : List ℕ} → Kept t₀ t → Kept t t′ → Kept 
 kept-on k m = record { says = m .says ∙ k .says; number = m .number ∙ k .number; fits = m .fits }
 
 -- ---- as the code has it
-pub row-read : (t : List ℕ) (a low high : ℕ) {r : ℕ} → low ≡ getD t (cornersAt + 2 * a) 0 → high ≡ getD t (cornersAt + 2 * a + 1) 0 → r ≡ low + high * half
+pub row-read : (t : List ℕ) (a low high : ℕ) {r : ℕ} → low ≡ getD t (cornersAt + 2 * a) 0 → high ≡ getD t (cornersAt + 2 * a + 1) 0 → r
+    ≡ low + high * half
     → r ≡ cornerRow t a
 unfolding cornerRow
 row-read t a low high l h e = let z : cornersAt + 2 * a + 1 ≡ suc (cornerAt a) = omega arith in e ∙ rw (l, h, z)

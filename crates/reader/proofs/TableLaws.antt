@@ -272,7 +272,8 @@ module _ (r : Rules) (limits : Limited r) where
   unfolding grammarIn compile S C
   tables-say =
       rw laid
-      (let N : getD held nonterminalsAt 0 ≡ length (r .productions) = get-last 1 (r .kinds ∷ length (r .productions) ∷ sizeAll (r .productions) ∷ unwritten) in
+      (let N : getD held nonterminalsAt 0 ≡ length (r .productions) =
+      get-last 1 (r .kinds ∷ length (r .productions) ∷ sizeAll (r .productions) ∷ unwritten) in
       let T : getD held kindsAt 0 ≡ r .kinds = get-last 0 (r .kinds ∷ length (r .productions) ∷ sizeAll (r .productions) ∷ unwritten) in
       let P : getD held sizeAt 0 ≡ sizeAll (r .productions) = get-last 2 (r .kinds ∷ length (r .productions) ∷ sizeAll (r .productions) ∷ unwritten) in
       let Q : startsIn held (upFrom 0 (getD held nonterminalsAt 0)) ≡ startsAll 0 (r .productions)

@@ -39,11 +39,12 @@ returns c =
 ends-of-requires : tie.Need-ends-of-requires
 ends-of-requires c κs =
     let at-entry = c .before .before .before .before .before .before in
-    let at-words = c .before .before .before in (
-      at-entry .pre .ready,
-      calling-at _ _ _ (λ k. at-words .slice-known .given k .fits) _ _ _ (at-entry .pre),
-      waits-named _ (at-entry .pre .ready) _ (at-entry .pre .waits),
-    )
+    let at-words = c .before .before .before in
+    record {
+      ready = at-entry .pre .ready;
+      lent = calling-at _ _ _ (λ k. at-words .slice-known .given k .fits) _ _ _ (at-entry .pre);
+      named = waits-named _ (at-entry .pre .ready) _ (at-entry .pre .waits);
+    }
 
 sub-rest : tie.Need-sub-rest
 sub-rest c = search needs

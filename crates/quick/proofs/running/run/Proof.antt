@@ -98,12 +98,13 @@ enter-requires c κs =
     let at-if1 = at-decide .before .before .before in
     let at-loop = at-if1 .before in
     let at-space-of = at-loop .before in
-    let at-entry = at-space-of .before .before .before .before .before .before in (
-      at-entry .pre .0 .ready,
-      at-decide .decide .ensures .named (at-if2 .if2 .left),
-      taken-room _ _ _ _ _ (at-entry .pre .0) (at-loop .loop .inv) (at-if1 .if1 .left) (at-decide .decide .ensures) (at-if2 .if2 .left)
-          (at-space-of .space-of .ensures .base),
-    )
+    let at-entry = at-space-of .before .before .before .before .before .before in
+    record {
+      ready = at-entry .pre .0 .ready;
+      named = at-decide .decide .ensures .named (at-if2 .if2 .left);
+      room = taken-room _ _ _ _ _ (at-entry .pre .0) (at-loop .loop .inv) (at-if1 .if1 .left) (at-decide .decide .ensures) (at-if2 .if2 .left)
+          (at-space-of .space-of .ensures .base);
+    }
 
 enum-told : tie.Need-enum-told Inv-loop μ-loop
 enum-told c = search needs
