@@ -23,7 +23,8 @@ use Rattle.derivation.proofs.ReadyLaws.{ready-call}
 use Rattle.cache.specs.declared.prediction.Forecast.{Forecast}
 use Rattle.cache.specs.declared.prediction.Forecast.the-variants.{Alternative, Full}
 use Rattle.cache.specs.Predictor.{Predicted, predicted}
-use Rattle.cache.specs.Predict.{predict, Predictable}
+use Rattle.cache.specs.Calls.{Predictable}
+use Rattle.cache.specs.Predict.{predict}
 use Rattle.cache.proofs.ForecastLaws.{predict-named, predict-length}
 use Rattle.adaptive.specs.Chooser.{settle}
 use Rattle.adaptive.proofs.ChoiceLaws.{choice-decided, choice-single}
