@@ -14,7 +14,10 @@ use Rattle.derivation.specs.Runs.{marked}
 use Rattle.derivation.specs.Space.{frameWords, returnsOf}
 use Rattle.cells.specs.Chart.{spot, cellsEnd, cellHas, Lent, Charted}
 use Rattle.machine.specs.Frames.{frameHas, EveryFrame, FramesBelow, Good}
-use Rattle.machine.specs.Space.{ground}
+use Rattle.derivation.specs.Ready.{Ready}
+use Rattle.machine.specs.Space.{ground, Spaced}
+use Rattle.machine.specs.declared.steps.At.{At}
+use Rattle.machine.specs.declared.steps.Space.{Space}
 
 -- the return place of frame k
 abbrev pub returnAt : List ℕ → ℕ → ℕ → ℕ
@@ -74,6 +77,17 @@ pub record Unsettled (t w ws : List ℕ) (known d p i : ℕ) : Type 0 where
   pub place : p < grammarIn t .size
   pub position : i ≤ length w
   pub good : Good (grammarIn t) (marked w) ws (ground t w) (FramesBelow known) d p i
+
+-- what filling the cells, and then making the sets right, rest on
+pub record Tabling (t w ws : List ℕ) (s : Space) (known : ℕ) (at : At) : Type 0 where
+  pub ready : Ready t
+  pub spaced : Spaced t w s
+  pub standing : Standing t w ws known (at .depth) (at .place) (at .position)
+
+pub record Settling (t w ws : List ℕ) (s : Space) (known : ℕ) (at : At) : Type 0 where
+  pub ready : Ready t
+  pub spaced : Spaced t w s
+  pub unsettled : Unsettled t w ws known (at .depth) (at .place) (at .position)
 
 -- it came to that, with the sets of r frames; no return place has changed
 pub record Tabled (t w ws after : List ℕ) (d p i r : ℕ) : Type 0 where

@@ -7,10 +7,8 @@ use positions::Positions;
 ghost use mathlib.Core.Path.{_≡_};
 ghost use Prim.Native.Nat.{suc, _+_, _*_, _≤_, _<_, min};
 ghost use lib.ListN.{length, set};
-ghost use Rattle.derivation.specs.Ready.{Ready};
 ghost use Rattle.derivation.specs.Space.{frameWords};
-ghost use Rattle.machine.specs.Space.{Spaced};
-ghost use Rattle.choosing.specs.Sets.{Standing, Tabled};
+ghost use Rattle.choosing.specs.Sets.{Tabling, Tabled};
 ghost use Rattle.choosing.specs.Deciding.{Waiting, Deciding, Found, Chose};
 
 // An alternative, 0 for none, and of how many open frames the sets stand after it: 0 where no cell was worked out.
@@ -33,8 +31,7 @@ fn push(ws: &mut [u32], base: usize, known: usize, at: At) -> usize
 
 // The cells, if there are none yet, and with them the set of the lowest frame, which returns to the end place. Of how many frames the sets stand.
 fn table(tables: &[u16], note: &[u16], ws: &mut [u32], space: Space, known: usize, at: At) -> usize
-    requires { ⌜ Ready (now tables) × Spaced (now tables) (now note) space
-        × Standing (now tables) (now note) (now ws) known (at .depth) (at .place) (at .position) ⌝ }
+    requires { ⌜ Tabling (now tables) (now note) (now ws) space known at ⌝ }
     ensures { λ r. ⌜ Tabled (now (tables .entry)) (now (note .entry)) (now (ws .entry)) (now (ws .exit)) (at .depth) (at .place) (at .position) r ⌝ }
 {
     if known == 0 {

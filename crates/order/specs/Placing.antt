@@ -2,12 +2,13 @@
 use mathlib.Core.Path.{_≡_}
 use mathlib.Core.Bool.{Bool, true, false, not, _&&_}
 use mathlib.Core.List.{List}
-use Prim.Native.Nat.{ℕ, suc, _-_}
+use Prim.Native.Nat.{ℕ, suc, _-_, _<_}
 use lib.Dec.{T}
 use lib.ListN.{length}
 use Rattle.base.specs.Bits.{testBit, isSubset}
 use Rattle.grammar.specs.Limits.{maxNonterminals}
 use Rattle.grammar.specs.Tables.{grammarIn, nonterminalsIn}
+use Rattle.derivation.specs.Ready.{Ready}
 use Rattle.order.specs.Order.{Among, Lined}
 
 -- a has no place, and every nonterminal of its row has one
@@ -25,3 +26,9 @@ pub record Placing (t order : List ℕ) (set count : ℕ) : Type 0 where
   pub lined : Lined (grammarIn t) (nonterminalsIn t) order count
   pub listed : (a : ℕ) → T (testBit set a) → Among order count a
   pub marked : (a : ℕ) → Among order count a → T (testBit set a)
+
+-- what a sweep rests on: somebody has no place yet
+pub record Sweeps (t order : List ℕ) (set count : ℕ) : Type 0 where
+  pub ready : Ready t
+  pub placing : Placing t order set count
+  pub left : count < nonterminalsIn t

@@ -5,10 +5,9 @@ ghost use Prim.Native.Nat.{suc, _<_};
 ghost use lib.ListN.{length, set};
 ghost use Rattle.base.specs.Bits.{setBit};
 ghost use Rattle.grammar.specs.Limits.{maxNonterminals};
-ghost use Rattle.grammar.specs.Tables.{nonterminalsIn};
 ghost use Rattle.derivation.specs.Ready.{Ready};
 ghost use Rattle.order.specs.Order.{InOrder};
-ghost use Rattle.order.specs.Placing.{ripeOf, turnOf, Placing};
+ghost use Rattle.order.specs.Placing.{ripeOf, turnOf, Placing, Sweeps};
 
 // Nonterminals that have a place: which, and how many.
 struct Placed {
@@ -54,7 +53,7 @@ fn place(order: &mut [usize], placed: Placed, a: usize) -> Placed
 
 // Every nonterminal once, upwards or downwards: those that are ripe then take the next place. At least one does.
 fn sweep(tables: &[u16], order: &mut [usize], from: Placed, up: bool) -> Placed
-    requires { ⌜ Ready (now tables) × Placing (now tables) (now order) (from .set) (from .count) × (from .count < nonterminalsIn (now tables)) ⌝ }
+    requires { ⌜ Sweeps (now tables) (now order) (from .set) (from .count) ⌝ }
     ensures { λ r. ⌜ Placing (now (tables .entry)) (now (order .exit)) (r .set) (r .count) × (from .count < r .count) ⌝ }
 {
     let n = grammar::nonterminals(tables);

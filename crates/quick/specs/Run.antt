@@ -29,6 +29,12 @@ pub record Stopped (t w row ws : List ℕ) (r : Stop) : Type 0 where
   pub charted : 0 < r .known → Charted t w ws
   pub within : Counted (r .outcome) row
 
+-- what filling the cells rests on, where they may be right already
+pub record Tabling (t w ws : List ℕ) (known : ℕ) : Type 0 where
+  pub ready : Ready t
+  pub lent : Lent (grammarIn t .size) (length w) ws
+  pub charted : 0 < known → Charted t w ws
+
 -- the cells are right
 pub record Tabled (t w ws after : List ℕ) : Type 0 where
   pub charted : Charted t w after

@@ -7,21 +7,18 @@ ghost use mathlib.Core.Path.{_≡_};
 ghost use Prim.Native.Nat.{_≤_, _<_};
 ghost use lib.ListN.{length};
 ghost use Rattle.grammar.specs.Tables.{grammarIn};
-ghost use Rattle.derivation.specs.Ready.{Ready};
 ghost use Rattle.derivation.specs.Plain.{onOutcome};
 ghost use Rattle.words.specs.Layout.{minWords};
 ghost use Rattle.adaptive.specs.Quick.{overCache, quickReading};
-ghost use Rattle.cells.specs.Chart.{Lent, Charted};
 ghost use Rattle.gate.specs.Reading.{answered};
 ghost use Rattle.gate.specs.Passing.{Admitted};
 ghost use Rattle.machine.specs.Ending.{outcomeIn};
-ghost use Rattle.quick.specs.Run.{Stopped, Tabled};
+ghost use Rattle.quick.specs.Run.{Stopped, Tabling, Tabled};
 ghost use Rattle.quick.specs.Replied.{replied, readingOf};
 
 // The cells, if there are none yet.
 fn table(tables: &[u16], note: &[u16], ws: &mut [u32], known: usize)
-    requires { ⌜ Ready (now tables) × Lent (grammarIn (now tables) .size) (length (now note)) (now ws)
-        × (0 < known → Charted (now tables) (now note) (now ws)) ⌝ }
+    requires { ⌜ Tabling (now tables) (now note) (now ws) known ⌝ }
     ensures { λ _. ⌜ Tabled (now (tables .entry)) (now (note .entry)) (now (ws .entry)) (now (ws .exit)) ⌝ }
 {
     if known == 0 {

@@ -29,7 +29,7 @@ sweep-requires c κs =
     let at-loop = c .before .before .before in
     let at-nonterminals = at-loop .before in
     let at-entry = at-nonterminals .before .before .before in
-    (at-entry .pre .0, at-loop .loop .inv .1, omega (arith, at-nonterminals .nonterminals .ensures))
+    record { ready = at-entry .pre .0; placing = at-loop .loop .inv .1; left = omega (arith, at-nonterminals .nonterminals .ensures) }
 
 loop-less : tie.Need-loop-less Inv-loop μ-loop
 loop-less c =

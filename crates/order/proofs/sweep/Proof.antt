@@ -24,12 +24,12 @@ abbrev μ-loop : tie.MeasureT-loop
 nonterminals-requires : tie.Need-nonterminals-requires Inv-loop μ-loop
 nonterminals-requires c κs =
     let at-entry = c .before .before in
-    at-entry .pre .0 .fits .long
+    at-entry .pre .ready .fits .long
 
 loop-holds : tie.Need-loop-holds Inv-loop μ-loop
 loop-holds c =
     let at-entry = c .before .before .before in
-    (refl, omega arith, at-entry .pre .1, λ _. none-yet _ _ _ _)
+    (refl, omega arith, at-entry .pre .placing, λ _. none-yet _ _ _ _)
 
 turn-requires : tie.Need-turn-requires Inv-loop μ-loop
 turn-requires c κs = search needs
@@ -43,7 +43,7 @@ corner-row-requires c κs =
     let at-nonterminals = at-loop-test .before .before in
     let at-entry = at-nonterminals .before .before .before in
     let l = turn-named _ _ _ (c .turn .ensures) (at-loop-test .loop-test .taken) (at-nonterminals .nonterminals .ensures) in
-    (omega (arith, at-entry .pre .0 .fits .few), at-entry .pre .0 .fits .long)
+    (omega (arith, at-entry .pre .ready .fits .few), at-entry .pre .ready .fits .long)
 
 ripe-requires : tie.Need-ripe-requires Inv-loop μ-loop
 ripe-requires c κs =
@@ -52,7 +52,7 @@ ripe-requires c κs =
     let at-nonterminals = at-loop-test .before .before in
     let at-entry = at-nonterminals .before .before .before in
     let l = turn-named _ _ _ (at-turn .turn .ensures) (at-loop-test .loop-test .taken) (at-nonterminals .nonterminals .ensures) in
-    omega (arith, at-entry .pre .0 .fits .few)
+    omega (arith, at-entry .pre .ready .fits .few)
 
 place-requires : tie.Need-place-requires Inv-loop μ-loop
 place-requires c κs =
@@ -65,9 +65,9 @@ place-requires c κs =
     let at-nonterminals = at-loop .before in
     let at-entry = at-nonterminals .before .before .before in
     let l = turn-named _ _ _ (at-turn .turn .ensures) (at-loop-test .loop-test .taken) (at-nonterminals .nonterminals .ensures) in (
-      placing-fits _ _ _ _ _ (at-entry .pre .0) (at-loop .loop .inv .2) l (at-corner-row .corner-row .ensures)
+      placing-fits _ _ _ _ _ (at-entry .pre .ready) (at-loop .loop .inv .2) l (at-corner-row .corner-row .ensures)
           (at-ripe .ripe .ensures) (at-if1 .if1 .taken),
-      omega (arith, at-entry .pre .0 .fits .few),
+      omega (arith, at-entry .pre .ready .fits .few),
     )
 
 loop-less : tie.Need-loop-less Inv-loop μ-loop
@@ -88,7 +88,7 @@ loop-again c =
     let more = at-place .place .ensures in (
       omega arith,
       omega (arith, at-loop .loop .inv .1, more .1),
-      placing-on _ _ _ _ _ (at-entry .pre .0) (at-loop .loop .inv .2) l (at-corner-row .corner-row .ensures)
+      placing-on _ _ _ _ _ (at-entry .pre .ready) (at-loop .loop .inv .2) l (at-corner-row .corner-row .ensures)
           (at-ripe .ripe .ensures) (at-if1 .if1 .taken) (more .0) (more .1) (more .2),
       λ e. absurd (omega (arith, at-loop .loop .inv .1, more .1)),
     )
@@ -118,7 +118,7 @@ returns c =
     let at-nonterminals = at-loop .before in
     let at-entry = at-nonterminals .before .before .before in (
       at-loop .loop .inv .2,
-      sweep-grows _ _ _ _ _ _ _ (at-entry .pre .0) (at-loop .loop .inv .2) (at-nonterminals .nonterminals .ensures) (at-entry .pre .2) (at-loop .loop .inv .1)
+      sweep-grows _ _ _ _ _ _ _ (at-entry .pre .ready) (at-loop .loop .inv .2) (at-nonterminals .nonterminals .ensures) (at-entry .pre .left) (at-loop .loop .inv .1)
           (at-loop .loop .inv .3) (omega arith),
     )
 

@@ -37,13 +37,17 @@ table-requires : tie.Need-table-requires
 table-requires c κs =
     let at-if1 = c .before .before in
     let at-entry = at-if1 .before .before .before .before .before in
-    (at-entry .pre .ready, at-entry .pre .spaced, over-standing _ _ _ (at-entry .pre) (at-if1 .if1 .left))
+    record {
+      ready = at-entry .pre .ready;
+      spaced = at-entry .pre .spaced;
+      standing = over-standing _ _ _ (at-entry .pre) (at-if1 .if1 .left);
+    }
 
 settle-requires : tie.Need-settle-requires
 settle-requires c κs =
     let at-table = c .before .before .before in
     let at-entry = at-table .before .before .before .before .before .before .before .before in
-    (at-entry .pre .ready, at-entry .pre .spaced, at-table .table .ensures .unsettled)
+    record { ready = at-entry .pre .ready; spaced = at-entry .pre .spaced; unsettled = at-table .table .ensures .unsettled }
 
 call-requires-2 : tie.Need-call-requires-2
 call-requires-2 c κs =

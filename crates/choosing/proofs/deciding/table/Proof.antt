@@ -8,7 +8,7 @@ use Rattle.choosing.proofs.deciding.table.Tie as tie
 fill-requires : tie.Need-fill-requires
 fill-requires c κs =
     let at-entry = c .before .before .before .before .before in
-    (at-entry .pre .0, at-entry .pre .2 .lent)
+    (at-entry .pre .ready, at-entry .pre .standing .lent)
 
 empty-requires : tie.Need-empty-requires
 empty-requires c κs = search needs
@@ -20,7 +20,7 @@ put-rest-requires : tie.Need-put-rest-requires
 put-rest-requires c κs =
     let at-fill = c .before .before .before .before .before in
     let at-entry = at-fill .before .before .before .before .before .before in
-    omega (arith, at-entry .pre .1 .base, at-entry .pre .2 .room, at-entry .pre .2 .floored .some, at-fill .fill .ensures .kept)
+    omega (arith, at-entry .pre .spaced .base, at-entry .pre .standing .room, at-entry .pre .standing .floored .some, at-fill .fill .ensures .kept)
 
 same-length : tie.Need-same-length
 same-length c = search needs
@@ -32,18 +32,18 @@ returns c =
     let at-empty = at-with .before in
     let at-fill = at-empty .before .before .before in
     let at-entry = at-fill .before .before .before .before .before .before in
-    table-put _ (at-entry .pre .0) _ _ (at-entry .pre .2) (at-entry .pre .1 .base) (at-empty .empty .ensures) (at-with .with .ensures)
+    table-put _ (at-entry .pre .ready) _ _ (at-entry .pre .standing) (at-entry .pre .spaced .base) (at-empty .empty .ensures) (at-with .with .ensures)
     (at-put-rest .put-rest .ensures) (at-fill .fill .ensures)
 
 returns-2 : tie.Need-returns-2
 returns-2 c =
     let at-entry = c .before .before .before .before .before .before in
-    table-again _ (at-entry .pre .0) _ _ (at-entry .pre .2) (omega arith) (omega arith)
+    table-again _ (at-entry .pre .ready) _ _ (at-entry .pre .standing) (omega arith) (omega arith)
 
 returns-3 : tie.Need-returns-3
 returns-3 c =
     let at-entry = c .before .before .before .before .before .before in
-    table-again _ (at-entry .pre .0) _ _ (at-entry .pre .2) (omega arith) (omega arith)
+    table-again _ (at-entry .pre .ready) _ _ (at-entry .pre .standing) (omega arith) (omega arith)
 
 pub table-spec : {M : Type 1} → statement M
 table-spec =

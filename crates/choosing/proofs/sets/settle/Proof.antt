@@ -12,19 +12,19 @@ use Rattle.choosing.proofs.sets.settle.Tie as tie
 cell-requires : tie.Need-cell-requires
 cell-requires c κs =
     let at-entry = c .before .before .before .before in
-    spot-in _ _ _ _ _ (lent-of (at-entry .pre .1 .places) (at-entry .pre .2 .framed .lent)) (omega (arith, at-entry .pre .1 .places, at-entry .pre .2 .place))
-    (at-entry .pre .2 .position)
+    spot-in _ _ _ _ _ (lent-of (at-entry .pre .spaced .places) (at-entry .pre .unsettled .framed .lent)) (omega (arith, at-entry .pre .spaced .places, at-entry .pre .unsettled .place))
+    (at-entry .pre .unsettled .position)
 
 ask-down-requires : tie.Need-ask-down-requires
 ask-down-requires c κs =
     let at-entry = c .before .before .before .before .before .before in
-    framed-of (at-entry .pre .1) (at-entry .pre .2 .framed)
+    framed-of (at-entry .pre .spaced) (at-entry .pre .unsettled .framed)
 
 serve-up-requires : tie.Need-serve-up-requires
 serve-up-requires c κs =
     let at-ask-down = c .before .before .before in
     let at-entry = at-ask-down .before .before .before .before .before .before .before in
-    only-framed (at-ask-down .ask-down .ensures .kept) (framed-of (at-entry .pre .1) (at-entry .pre .2 .framed))
+    only-framed (at-ask-down .ask-down .ensures .kept) (framed-of (at-entry .pre .spaced) (at-entry .pre .unsettled .framed))
 
 same-length : tie.Need-same-length
 same-length c = search needs
@@ -36,7 +36,7 @@ returns c =
     let at-cell = at-ask-down .before .before in
     let at-slice-known = at-cell .before .before in
     let at-entry = at-slice-known .before .before .before in
-    settle-leaves _ (at-entry .pre .0) _ _ (λ k. at-slice-known .slice-known .given k .fits) _ _ _ _ (at-entry .pre .2) (at-entry .pre .1)
+    settle-leaves _ (at-entry .pre .ready) _ _ (λ k. at-slice-known .slice-known .given k .fits) _ _ _ _ (at-entry .pre .unsettled) (at-entry .pre .spaced)
     (at-cell .cell .ensures) (at-ask-down .ask-down .ensures) (at-serve-up .serve-up .ensures)
 
 pub settle-spec : {M : Type 1} → statement M

@@ -22,7 +22,7 @@ enum-told c = search needs
 table-requires : tie.Need-table-requires
 table-requires c κs =
     let at-entry = c .before .before .before .before .before .before .before in
-    (at-entry .pre .ready, at-entry .pre .lent, at-entry .pre .charted)
+    record { ready = at-entry .pre .ready; lent = at-entry .pre .lent; charted = at-entry .pre .charted }
 
 finish-requires : tie.Need-finish-requires
 finish-requires c κs =
@@ -36,7 +36,7 @@ enum-told-2 c = search needs
 table-requires-2 : tie.Need-table-requires-2
 table-requires-2 c κs =
     let at-entry = c .before .before .before .before .before .before .before in
-    (at-entry .pre .ready, at-entry .pre .lent, at-entry .pre .charted)
+    record { ready = at-entry .pre .ready; lent = at-entry .pre .lent; charted = at-entry .pre .charted }
 
 finish-requires-2 : tie.Need-finish-requires-2
 finish-requires-2 c κs =

@@ -17,7 +17,7 @@ returns c = search needs
 returns-2 : tie.Need-returns-2
 returns-2 c =
     let at-entry = c .before .before .before .before in
-    record { charted = (at-entry .pre .2) (omega arith); kept = refl }
+    record { charted = at-entry .pre .charted (omega arith); kept = refl }
 
 pub table-spec : {M : Type 1} → statement M
 table-spec = tie.close (tie.spec fill-requires same-length returns returns-2)
