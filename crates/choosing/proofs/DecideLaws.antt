@@ -1,6 +1,6 @@
 -- What the code takes where a nonterminal waits is what the quick reading's chooser names, and it leaves the frames as that is entered.
 use mathlib.Core.Path.{_≡_, refl, sym, ap, subst, _∙_}
-use mathlib.Core.Option.{Option, none, some}
+use mathlib.Core.Option.{some}
 use mathlib.Core.List.{List, [], _∷_}
 use Prim.Native.Nat.{ℕ, zero, suc, _+_, _-_, _*_, _≤_, _<_, min}
 use native.Mathlib.Omega.{arith}
@@ -12,13 +12,11 @@ use Rattle.grammar.specs.Limits.{endPlace}
 use Rattle.grammar.specs.Grammar.{Grammar, alternatives, first}
 use Rattle.grammar.specs.Tables.{grammarIn, nonterminalsIn}
 use Rattle.derivation.specs.Runs.{marked}
-use Rattle.derivation.specs.Cells.{runs?}
 use Rattle.derivation.specs.Machine.{Choice, choice, lowest}
 use Rattle.derivation.specs.Space.{frameWords, returnsOf, Pushed}
-use Rattle.derivation.specs.Ready.{Ready}
 use Rattle.derivation.proofs.CountLaws.{one-at-least, first-within}
 use Rattle.derivation.proofs.Entries.{Open}
-use Rattle.derivation.proofs.FrameWords.{returns-same, pushed-returns}
+use Rattle.derivation.proofs.FrameWords.{pushed-returns}
 use Rattle.derivation.proofs.ReadyLaws.{ready-call}
 use Rattle.cache.specs.declared.prediction.Forecast.{Forecast}
 use Rattle.cache.specs.declared.prediction.Forecast.the-variants.{Alternative, Full}
@@ -28,7 +26,7 @@ use Rattle.cache.specs.Predict.{predict}
 use Rattle.cache.proofs.ForecastLaws.{predict-named, predict-length}
 use Rattle.adaptive.specs.Chooser.{settle}
 use Rattle.adaptive.proofs.ChoiceLaws.{choice-decided, choice-single}
-use Rattle.cells.specs.Chart.{Lent, Charted, Filled}
+use Rattle.cells.specs.Chart.{Charted, Filled}
 use Rattle.cells.proofs.Spots.{lent-kept}
 use Rattle.machine.specs.Frames.{EveryFrame, FramesBelow}
 use Rattle.machine.specs.Choice.{orZero}

@@ -2,7 +2,7 @@
 -- set alone the sets of the lowest frame stand.
 use mathlib.Core.Path.{_≡_, refl}
 use mathlib.Core.List.{List, [], _∷_}
-use Prim.Native.Nat.{ℕ, zero, suc, _+_, _*_, _≤_, _<_}
+use Prim.Native.Nat.{ℕ, zero, suc, _≤_, _<_}
 use native.Mathlib.Omega.{arith}
 use native.Mathlib.Decide.{decLt}
 use lib.ListN.{length}
@@ -13,7 +13,7 @@ use Rattle.grammar.specs.Grammar.{facing}
 use Rattle.grammar.specs.Tables.{grammarIn}
 use Rattle.derivation.specs.Runs.{marked}
 use Rattle.derivation.specs.Cells.{runs?}
-use Rattle.derivation.specs.Space.{frameWords, returnsOf}
+use Rattle.derivation.specs.Space.{returnsOf}
 use Rattle.derivation.specs.Ready.{Ready}
 use Rattle.derivation.proofs.Entries.{Entry, Below, ground, wait, Open, inside, quiet}
 use Rattle.derivation.proofs.FrameWords.{Held}

@@ -3,12 +3,10 @@ use mathlib.Core.Path.{_≡_, sym, ap, _∙_}
 use mathlib.Core.Bool.{Bool, true, false, not}
 use mathlib.Core.List.{List}
 use Prim.Native.Nat.{ℕ, _≤_, _<_}
-use lib.Dec.{T}
 use lib.ListN.{length}
 use Rattle.base.proofs.Booleans.{clash, true→T}
 use Rattle.grammar.specs.Grammar.{Grammar}
 use Rattle.grammar.specs.Tables.{grammarIn}
-use Rattle.derivation.specs.Machine.{Ended}
 use Rattle.derivation.specs.Plain.{Answer, answer, refuse, onOutcome}
 use Rattle.derivation.specs.Gate as definition
 use Rattle.words.specs.Layout.{minWords}
@@ -21,7 +19,6 @@ use Rattle.gate.specs.declared.reading.Reading.{Reading}
 use Rattle.gate.specs.declared.reading.Reading.the-variants.{ShortCache, ForeignCache}
 use Rattle.gate.specs.declared.passing.Gate.{Gate}
 use Rattle.gate.specs.declared.passing.Gate.the-variants.{Passed, Shut}
-use Rattle.cells.specs.Chart.{Lent}
 use Rattle.cells.proofs.Spots.{lent-kept}
 use Rattle.reach.specs.Passes.{Given}
 use Rattle.machine.specs.Ending.{outcomeIn}

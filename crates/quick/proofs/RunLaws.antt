@@ -7,7 +7,7 @@ use lib.ListN.{length, set, length-set}
 use Rattle.base.proofs.Booleans.{clash}
 use Rattle.grammar.specs.Tables.{grammarIn}
 use Rattle.derivation.specs.Runs.{marked}
-use Rattle.derivation.specs.Machine.{Chooser, stuck, accepted, ended}
+use Rattle.derivation.specs.Machine.{Chooser, stuck, ended}
 use Rattle.derivation.specs.Space.{frameWords, returnsOf}
 use Rattle.derivation.proofs.MarkedCells.{length-marked}
 use Rattle.words.specs.Layout.{minWords}
@@ -24,7 +24,6 @@ use Rattle.machine.specs.declared.steps.At.{At}
 use Rattle.machine.specs.declared.steps.Space.{Space}
 use Rattle.machine.specs.declared.steps.Turn.{Turn}
 use Rattle.machine.specs.declared.steps.Turn.the-variants.{Calls, Stuck as Dead, Ended}
-use Rattle.machine.specs.declared.ending.Outcome.{Outcome}
 use Rattle.machine.specs.declared.ending.Outcome.the-variants.{Accepted, Stuck, Full}
 use Rattle.machine.proofs.AlternativeLaws.{named-small}
 use Rattle.machine.proofs.MoveLaws.{moves-held, moves-good}

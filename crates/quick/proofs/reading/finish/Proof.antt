@@ -1,5 +1,4 @@
 -- `quick::reading::finish` meets its contract: an accepted note needs no cells, and for any other they are right before it is asked why.
-use native.Mathlib.Omega.{arith}
 use Rattle.base.proofs.Booleans.{clash}
 use Rattle.machine.proofs.EndingLaws.{end-accepted, by-outcome}
 use Rattle.quick.proofs.ReadingLaws.{stopped-given}
