@@ -1,5 +1,6 @@
 //! The time of one reading: quick over a cache that has learned the note, quick over a freshly begun cache (the time of beginning taken off), plain,
-//! and the grammar check alone, side by side.  Compiled with `rustc -O --edition 2021 -L target/staticlib -l static=allstar_c bench/readings.rs -o target/bench/readings`.
+//! and the grammar check alone, side by side.
+//! Compiled with `rustc -O --edition 2021 -L target/staticlib -l static=allstar_c bench/readings.rs -o target/bench/readings`.
 #![deny(unsafe_code)]
 
 #[allow(dead_code, unsafe_code)]

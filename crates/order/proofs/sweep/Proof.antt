@@ -118,7 +118,8 @@ returns c =
     let at-nonterminals = at-loop .before in
     let at-entry = at-nonterminals .before .before .before in (
       at-loop .loop .inv .2,
-      sweep-grows _ _ _ _ _ _ _ (at-entry .pre .ready) (at-loop .loop .inv .2) (at-nonterminals .nonterminals .ensures) (at-entry .pre .left) (at-loop .loop .inv .1)
+      sweep-grows _ _ _ _ _ _ _ (at-entry .pre .ready) (at-loop .loop .inv .2) (at-nonterminals .nonterminals .ensures) (at-entry .pre .left)
+          (at-loop .loop .inv .1)
           (at-loop .loop .inv .3) (omega arith),
     )
 

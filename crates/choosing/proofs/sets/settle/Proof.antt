@@ -12,7 +12,8 @@ use Rattle.choosing.proofs.sets.settle.Tie as tie
 cell-requires : tie.Need-cell-requires
 cell-requires c κs =
     let at-entry = c .before .before .before .before in
-    spot-in _ _ _ _ _ (lent-of (at-entry .pre .spaced .places) (at-entry .pre .unsettled .framed .lent)) (omega (arith, at-entry .pre .spaced .places, at-entry .pre .unsettled .place))
+    spot-in _ _ _ _ _ (lent-of (at-entry .pre .spaced .places) (at-entry .pre .unsettled .framed .lent))
+    (omega (arith, at-entry .pre .spaced .places, at-entry .pre .unsettled .place))
     (at-entry .pre .unsettled .position)
 
 ask-down-requires : tie.Need-ask-down-requires
