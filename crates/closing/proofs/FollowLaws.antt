@@ -17,7 +17,7 @@ use Rattle.grammar.specs.declared.Symbol.the-variants.{Token, Nonterminal, End}
 use Rattle.grammar.specs.declared.Place.{Place}
 use Rattle.grammar.specs.Limits.{endPlace}
 use Rattle.grammar.specs.Grammar.{nowhere, placeAt, facing, owner}
-use Rattle.grammar.specs.Tables.{placeWords, symbolOf, placeOf, ruleAt, grammarIn, nonterminalsIn}
+use Rattle.grammar.specs.Tables.{placeWords, symbolOf, placeOf, ruleAt, grammarIn, nonterminalsIn, codes}
 use Rattle.grammar.proofs.WordLaws.{code-end, code-token, code-nonterminal, place-in, place-past}
 use Rattle.derivation.specs.Ready.{Ready}
 use Rattle.derivation.proofs.FirstLaws.{rules-are, first-in}
@@ -70,11 +70,11 @@ code-calls a c = go (same? c 0) (same? (c % 2) 1)
     go (inr n) (inr o) = rw (← code-nonterminal c n o) (eqb-iff c (2 * a + 2) (c / 2 - 1) a (λ e. omega arith) (λ e. omega arith))
 
 pub calls-is : (t : List ℕ) (p a : ℕ) {w : ℕ} → p ≤ endPlace → w ≡ getD t p 0
-    → eqb (w % 256) (2 * a + 2) ≡ calls? a (facing (grammarIn t) p)
+    → eqb (w % codes) (2 * a + 2) ≡ calls? a (facing (grammarIn t) p)
 unfolding facing placeOf
 calls-is t p a {w} h e =
     let q : placeOf w ≡ placeAt (grammarIn t) p = place-in t p (omega arith) (ap placeOf e) in
-    code-calls a (w % 256) ∙ ap (λ (x : Place). calls? a (x .symbol)) q
+    code-calls a (w % codes) ∙ ap (λ (x : Place). calls? a (x .symbol)) q
 
 pub owner-small : (t : List ℕ) (p : ℕ) {a : ℕ} → a ≡ owner (grammarIn t) p → a < 64
 unfolding owner placeOf

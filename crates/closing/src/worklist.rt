@@ -51,7 +51,7 @@ fn calls(tables: &[u16], p: usize, a: usize) -> bool
     requires { ⌜ Looks (now tables) p a ⌝ }
     ensures { λ r. ⌜ r ≡ calls? a (facing (grammarIn (now (tables .entry))) p) ⌝ }
 {
-    base::index(tables[p]) % 256 == 2 * a + 2
+    base::index(tables[p]) % grammar::CODES == 2 * a + 2
 }
 
 // On an empty stack, behind a production of nonterminal a: behind every occurrence of it.

@@ -46,7 +46,7 @@ pub const TABLE_WORDS: usize = CORNERS + 2 * MAX_NONTERMINALS;
 const HALF: usize = 65536;
 
 // The word of a place: its symbol's code is below CODES, its owner below OWNERS. specs/Tables has the same.
-const CODES: usize = 256;
+pub const CODES: usize = 256;
 
 const OWNERS: usize = 64;
 

@@ -12,7 +12,7 @@
 --     128 ..       the kept configurations in ascending order, three words each
 -- An outcome is one word: 0 where none is recorded, 1 to 16 for that alternative, 17 for FULL, 18 + s for state s.
 use Prim.Native.Nat.{ℕ, suc, _+_, _-_, _*_, _/_, min}
-use Rattle.grammar.specs.Limits.{maxProductions}
+use Rattle.grammar.specs.Limits.{maxNonterminals, maxProductions}
 use Rattle.configurations.specs.Packing as packing
 
 -- ---- sizes
@@ -67,7 +67,7 @@ startAt a = startsAt + a
 
 -- the first grammar bytes
 abbrev pub bytesAt : ℕ
-bytesAt = 64
+bytesAt = startAt maxNonterminals
 
 -- slot s, which begins with its decision
 abbrev pub slotAt : ℕ → ℕ

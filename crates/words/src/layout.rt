@@ -26,7 +26,7 @@ pub const HELD_AT: usize = BYTE_COUNT_AT + 1;
 // The start of decision 0, and the first grammar bytes.
 pub const STARTS_AT: usize = 32;
 
-pub const BYTES_AT: usize = 64;
+pub const BYTES_AT: usize = STARTS_AT + grammar::MAX_NONTERMINALS;
 
 // In a slot, behind its decision: how many configurations it keeps, and the step over token 0.
 pub const COUNT_AT: usize = 1;
@@ -34,6 +34,6 @@ pub const COUNT_AT: usize = 1;
 pub const STEPS_AT: usize = COUNT_AT + 1;
 
 // The outcomes that are no alternative: FULL, and state 0.
-pub const FULL: u32 = 17;
+pub const FULL: u32 = grammar::MAX_PRODUCTIONS as u32 + 1;
 
 pub const STATES: usize = FULL as usize + 1;
