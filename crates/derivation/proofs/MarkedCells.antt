@@ -5,11 +5,12 @@ use mathlib.Core.Option.{some}
 use mathlib.Core.List.{List, [], _∷_, _++_}
 use Prim.Native.Nat.{ℕ, suc, _≤_, _<_}
 use native.Mathlib.Omega.{arith}
-use lib.Dec.{T, eqb→eq}
+use lib.Dec.{T}
 use lib.ListN.{length, getElem?}
 use Rattle.base.proofs.Booleans.{clash, same}
 use Rattle.grammar.specs.declared.Symbol.the-variants.{Token}
 use Rattle.grammar.specs.Limits.{endMark}
+use Rattle.grammar.proofs.GrammarLaws.{admits-mark}
 use Rattle.grammar.specs.Grammar.{facing, admits}
 use Rattle.grammar.specs.Tables.{grammarIn}
 use Rattle.derivation.specs.Runs.{Der, marked}
@@ -36,12 +37,11 @@ module _ (t : List ℕ) (h : Ready t) (w : List ℕ) where
   token-inside : (p k i : ℕ) {u : ℕ} → p < grammarIn t .size → facing (grammarIn t) p ≡ Token k → getElem? (marked w) i ≡ some u
       → T (admits (grammarIn t) k u)
       → i < length w
-  unfolding admits
   token-inside p k i {u} l e d a = go (marked-get w i u d)
     where
       go : (i < length w) ⊎ (u ≡ endMark) → i < length w
       go (inl m) = m
-      go (inr q) = let z = eqb→eq k u a in absurd (omega (arith, ready-kind t h p k l e))
+      go (inr q) = let z = admits-mark (grammarIn t) k (rw q at a) in absurd (omega (arith, ready-kind t h p k l e))
 
   der-inside : {p i j : ℕ} {r : List ℕ} → p < grammarIn t .size → i ≤ length w → Der (grammarIn t) (marked w) p i j r → j ≤ length w
   der-inside l m (Der.finish e k) = m

@@ -5,10 +5,11 @@ use mathlib.Core.List.{List, [], _∷_, _++_, append-assoc}
 use Prim.Native.Nat.{ℕ, zero, suc, _≤_, _<_}
 use native.Mathlib.Omega.{arith}
 use native.Mathlib.Decide.{decLe}
-use lib.Dec.{T, eqb-refl}
+use lib.Dec.{T, eqb-refl, eqb→eq}
 use lib.ListN.{length, getD, getElem?, drop, List·getD-eq-default}
 use Rattle.base.proofs.Booleans.{clash}
 use Rattle.grammar.specs.Types.{Symbol, End, Place}
+use Rattle.grammar.specs.Limits.{endMark}
 use Rattle.grammar.specs.Grammar.{Grammar, facing, admits, alternatives, first, nowhere, before, spell, suffix, production}
 use Rattle.grammar.specs.Derivation.{Leftmost}
 
@@ -63,6 +64,11 @@ first-below g a b {f} e = go (decLe (length (g .starts)) a) b e
 pub admits-self : (g : Grammar) (k : ℕ) → T (admits g k k)
 unfolding admits
 admits-self g k = eqb-refl k
+
+-- the end mark may stand only where it is called for
+pub admits-mark : (g : Grammar) (k : ℕ) → T (admits g k endMark) → k ≡ endMark
+unfolding admits
+admits-mark g k a = eqb→eq k endMark a
 
 -- two derivations, one behind the other
 pub leftmost-append : {g : Grammar} {α β : List Symbol} {r s w v : List ℕ} → Leftmost g α r w → Leftmost g β s v

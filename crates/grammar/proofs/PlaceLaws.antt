@@ -5,7 +5,7 @@ use mathlib.Core.Option.{some}
 use mathlib.Core.List.{List, [], _∷_, _++_}
 use Prim.Native.Nat.{ℕ, zero, suc, _+_, _-_, _≤_, _<_}
 use native.Mathlib.Omega.{arith}
-use lib.Dec.{T, eqb→eq}
+use lib.Dec.{T}
 use lib.ListN.{length, getD, replicate}
 use Rattle.base.proofs.Booleans.{clash}
 use Rattle.grammar.specs.Types.{Symbol, Token, Nonterminal, End, Place}
@@ -13,7 +13,7 @@ use Rattle.grammar.specs.Limits.{maxPlaces, endPlace, endMark, nobody}
 use Rattle.grammar.specs.Decode.{Rules, AllOf, Legal, Production, Alternatives}
 use Rattle.grammar.specs.Grammar.{at, nowhere, facing, owner, admits, first}
 use Rattle.grammar.specs.Grammar.{layOne, layEach, layAll, sizeEach, sizeAll, startsAll, padded, compile, Limited}
-use Rattle.grammar.proofs.GrammarLaws.{first-below}
+use Rattle.grammar.proofs.GrammarLaws.{first-below, admits-mark}
 use Rattle.grammar.proofs.CompileLaws.{length-all}
 use Rattle.grammar.proofs.OrderedLaws.{end-at}
 
@@ -108,14 +108,13 @@ module _ (r : Rules) (limits : Limited r) where
 
   -- the end mark may stand only where the end place calls for it
   pub compile-end-only : (p k : ℕ) → facing (compile r) p ≡ Token k → T (admits (compile r) k endMark) → p ≡ endPlace
-  unfolding admits
   compile-end-only p k e c = go (compile-faces p) e
     where
       go : {s : Symbol} → Faces (r .kinds) (length (r .productions)) (sizeAll (r .productions)) endPlace p s → s ≡ Token k → p ≡ endPlace
       go (end q) e = clash (cc)
       go (mark l q) e = l
       go (legal l q) e =
-          let z : k ≡ endMark = eqb→eq k endMark c in
+          let z = admits-mark (compile r) k c in
           let y : Legal (r .kinds) (length (r .productions)) (Token k) = rw e at q in
           let u = y .0 in
           absurd (omega arith)
