@@ -17,17 +17,20 @@ pub enum Added {
     Full,
 }
 
-// Whether c is one of the first n.
+// Whether c is one of the first n. Most others differ in the head, and so their stacks are not read.
 fn is_member(members: &[u32], n: usize, c: Packed) -> bool
     requires { ⌜ Room (now members) n × Exact c ⌝ }
     ensures { λ r. ⌜ r ≡ member? (configOf c) (held (now (members .entry)) 0 n) ⌝ }
 {
     let mut k = 0;
     while k < n {
-        if c.equals(crate::words::member(members, k)) {
-            return true;
-        }
+        let here = k;
         k += 1;
+        if crate::words::head(members, here) == c.head {
+            if c.equals(crate::words::member(members, here)) {
+                return true;
+            }
+        }
     }
     false
 }

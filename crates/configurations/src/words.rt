@@ -9,6 +9,14 @@ ghost use Rattle.configurations.specs.Held.{held, Room};
 // The words of a configuration.
 pub const CONFIG_WORDS: usize = 3;
 
+// The head of configuration k.
+pub fn head(words: &[u32], k: usize) -> u32
+    requires { ⌜ Has (now words) k ⌝ }
+    ensures { λ r. ⌜ r ≡ packedAt (now (words .entry)) k .head ⌝ }
+{
+    words[CONFIG_WORDS * k]
+}
+
 // Configuration k.
 pub fn member(words: &[u32], k: usize) -> Packed
     requires { ⌜ Has (now words) k ⌝ }
