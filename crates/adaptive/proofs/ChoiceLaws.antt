@@ -14,10 +14,11 @@ use Rattle.base.specs.Search.{LowestIs, this, nothing}
 use Rattle.base.proofs.Booleans.{clash}
 use Rattle.grammar.specs.Grammar.{Grammar, alternatives, first}
 use Rattle.derivation.specs.Runs.{Opens}
-use Rattle.derivation.specs.Machine.{Choice, choice, Serves, lowest, plainly}
-use Rattle.derivation.specs.Choosers.{names, thence, Served, AnyState, Keeps, Repeats, Alike}
+use Rattle.derivation.specs.Machine.{Choice, choice, lowest, plainly}
+use Rattle.derivation.specs.Runs.{Serves}
+use Rattle.derivation.specs.inside.Choosers.{names, thence, Served, AnyState, KeepsKind, Repeats, Alike}
 use Rattle.derivation.proofs.LowestLaws.{lowest-serves, first-lt}
-use Rattle.cache.specs.Predictor.{Decides}
+use Rattle.lookahead.specs.Configs.{Decides}
 use Rattle.cache.specs.declared.prediction.Forecast.{Forecast}
 use Rattle.cache.specs.declared.prediction.Forecast.the-variants.{Alternative, Full}
 use Rattle.cache.specs.Predictor.{Predicted, predicted, Predicts, FullOr, Predictor}
@@ -88,7 +89,7 @@ module _ {C : Type 0} (Coherent : C → Type 0) (Extends : C → C → Type 0) (
     (predict : Predicts C)
     (predictor : Predictor Coherent Extends g w Stands predict) where
   -- coherent states stay coherent
-  pub guided-keeps : Keeps Coherent (guided g w predict)
+  pub guided-keeps : KeepsKind Coherent (guided g w predict)
   guided-keeps c S a i h = go (ltb 1 (length (alternatives g a))) refl
     where
       go : (x : Bool) → ltb 1 (length (alternatives g a)) ≡ x → Coherent ((guided g w predict c S a i) .state)
@@ -99,7 +100,7 @@ module _ {C : Type 0} (Coherent : C → Type 0) (Extends : C → C → Type 0) (
   -- states only grow, and what was chosen before is chosen again
   pub guided-repeats : ((c : C) → Extends c c) → ((c d e : C) → Extends c d → Extends d e → Extends c e)
       → Repeats Coherent (guided g w predict) Extends
-  guided-repeats same onward = record { keeps = guided-keeps; same = same; onward = onward; grows = grows; again = again }
+  guided-repeats same joined = record { keeps = guided-keeps; same = same; joined = joined; grows = grows; again = again }
     where
       grows : (c : C) (S : List ℕ) (a i : ℕ) → Coherent c → Extends c (thence (guided g w predict) c S a i)
       grows c S a i h = go (ltb 1 (length (alternatives g a))) refl

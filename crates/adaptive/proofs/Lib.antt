@@ -3,5 +3,7 @@ pub mod Standing
 pub mod ChoiceLaws
 pub mod NoteLaws
 pub mod QuickLaws
-pub mod Demand3Laws
-pub mod EffectLaws
+pub mod ProceedLaws
+pub mod ProceedOne
+pub mod TeachLaws
+pub mod AgreementLaws

@@ -7,14 +7,14 @@ use Prim.Native.Nat.{ℕ, suc, _+_, _*_}
 use lib.ListN.{length}
 use Rattle.base.proofs.Booleans.{true→T, false→¬T}
 use Rattle.grammar.specs.Limits.{endPlace}
-use Rattle.grammar.specs.Grammar.{Grammar}
-use Rattle.grammar.specs.Ordered.{Ordered}
+use Rattle.grammar.specs.Grammar.{Grammar, ofPlaces}
+use Rattle.grammar.specs.inside.Ordered.{Ordered}
 use Rattle.derivation.specs.Runs.{marked}
-use Rattle.derivation.specs.Machine.{plainly, Outcome, accepted, stuck, full, Ended, ended, reading}
-use Rattle.derivation.specs.Choosers.{AnyState, Later, Repeats}
+use Rattle.derivation.specs.Machine.{plainly, Conclusion, accepted, stuck, full, Ended, ended, reading}
+use Rattle.derivation.specs.inside.Choosers.{AnyState, Later, Repeats}
 use Rattle.derivation.specs.Viable.{Sentence}
 use Rattle.derivation.specs.ReachRounds.{wrongPlace}
-use Rattle.derivation.specs.Plain.{clear, sentence?, onOutcome, readNote}
+use Rattle.derivation.specs.Plain.{clear, sentence?, onConclusion, readNote}
 use Rattle.derivation.proofs.MachineStates.{call-run-grows, call-run-again}
 use Rattle.derivation.proofs.LockStep.{call-same}
 use Rattle.derivation.proofs.LowestLaws.{lowest-right}
@@ -27,10 +27,10 @@ use Rattle.adaptive.proofs.ChoiceLaws.{guided-keeps, guided-repeats, gu
 use Rattle.adaptive.proofs.Standing.{Stands, Waits, standing, first-waits, waits-asks}
 
 -- a note that is no sentence is refused with 10 by any reading that accepts sentences alone
-no-sentence : (g : Grammar) → Ordered g → (v row : List ℕ) (o : Outcome) → sentence? g v ≡ false
-    → ((d : List ℕ) → o ≡ accepted d → Sentence g v)
-    → onOutcome g v row o ≡ clear 10 (wrongPlace g v) row
-unfolding onOutcome
+no-sentence : (g : Grammar) → Ordered g → (v row : List ℕ) (o : Conclusion) → sentence? g v ≡ false
+    → ((d : List ℕ) → o ≡ accepted d → Sentence (ofPlaces g) v)
+    → onConclusion g v row o ≡ clear 10 (wrongPlace g v) row
+unfolding onConclusion
 no-sentence g ordered v row (accepted d) e h =
     absurd (false→¬T (sentence? g v) e (sentence-iff g (ordered .end-mark) (ordered .end-past) v .1 (h d refl)))
 no-sentence g ordered v row stuck e h = refl
@@ -43,7 +43,8 @@ module _ {C : Type 0} (Coherent : C → Type 0) (Extends : C → C → Type 0) (
   read room c = reading g (marked v) (guided g (marked v) predict) room c
 
   -- a sentence is read as the plain reading reads it
-  read-same : (room : ℕ) (c : C) → Sentence g v → Coherent c → (read room c) .outcome ≡ (reading g (marked v) (plainly g (marked v)) room tt) .outcome
+  read-same : (room : ℕ) (c : C) → Sentence (ofPlaces g) v → Coherent c
+      → (read room c) .outcome ≡ (reading g (marked v) (plainly g (marked v)) room tt) .outcome
   unfolding reading
   read-same room c h j =
       call-same Coherent AnyState g (marked v) (Stands g) (Waits g) (standing g ordered) (guided g (marked v) predict) (plainly g (marked v))
@@ -53,24 +54,25 @@ module _ {C : Type 0} (Coherent : C → Type 0) (Extends : C → C → Type 0) (
       (sentence-serves g (ordered .end-mark) (ordered .end-past) v h)
 
   -- THE SAME ANSWER
-  pub note-answer : (row : List ℕ) (c : C) → Coherent c → onOutcome g v row ((read (length row) c) .outcome) ≡ readNote g v row
+  pub note-answer : (row : List ℕ) (c : C) → Coherent c → onConclusion g v row ((read (length row) c) .outcome) ≡ readNote g v row
   unfolding readNote
   note-answer row c j = go (sentence? g v) refl
     where
       plain : Ended (Unit {0})
       plain = reading g (marked v) (plainly g (marked v)) (length row) tt
 
-      go : (x : Bool) → sentence? g v ≡ x → onOutcome g v row ((read (length row) c) .outcome) ≡ onOutcome g v row (plain .outcome)
-      go true e = ap (onOutcome g v row) (read-same (length row) c (sentence-iff g (ordered .end-mark) (ordered .end-past) v .0 (true→T (sentence? g v) e)) j)
+      go : (x : Bool) → sentence? g v ≡ x → onConclusion g v row ((read (length row) c) .outcome) ≡ onConclusion g v row (plain .outcome)
+      go true e =
+          ap (onConclusion g v row) (read-same (length row) c (sentence-iff g (ordered .end-mark) (ordered .end-past) v .0 (true→T (sentence? g v) e)) j)
       go false e =
           no-sentence g ordered v row ((read (length row) c) .outcome) e
           (λ d q. (d, reading-sound g (ordered .end-mark) (ordered .end-past) v (guided g (marked v) predict) (length row) c d q .0))
           ∙ sym (no-sentence g ordered v row (plain .outcome) e
           (λ d q. (d, reading-sound g (ordered .end-mark) (ordered .end-past) v (plainly g (marked v)) (length row) tt d q .0)))
 
-  module _ (same : (c : C) → Extends c c) (onward : (c d e : C) → Extends c d → Extends d e → Extends c e) where
+  module _ (same : (c : C) → Extends c c) (joined : (c d e : C) → Extends c d → Extends d e → Extends c e) where
     repeats : Repeats Coherent (guided g (marked v) predict) Extends
-    repeats = guided-repeats Coherent Extends g (marked v) (Asks g (marked v)) predict predictor same onward
+    repeats = guided-repeats Coherent Extends g (marked v) (Asks g (marked v)) predict predictor same joined
 
     -- STATES ONLY GROW
     pub note-grows : (room : ℕ) (c : C) → Coherent c → Later Coherent Extends c ((read room c) .state)

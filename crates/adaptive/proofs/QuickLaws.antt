@@ -12,11 +12,11 @@ use borrow.Author.Tests.{lt-ltb, le-ltb}
 use Rattle.base.proofs.Booleans.{T→true}
 use Rattle.grammar.specs.Limits.{endMark}
 use Rattle.grammar.specs.Grammar.{Grammar}
-use Rattle.grammar.specs.Ordered.{Ordered}
+use Rattle.grammar.specs.inside.Ordered.{Ordered}
 use Rattle.derivation.specs.Runs.{marked}
 use Rattle.derivation.specs.Machine.{Ended}
-use Rattle.derivation.specs.Choosers.{Later}
-use Rattle.derivation.specs.Plain.{refuse, onOutcome, readNote}
+use Rattle.derivation.specs.inside.Choosers.{Later}
+use Rattle.derivation.specs.Plain.{refuse, onConclusion, readNote}
 use Rattle.derivation.specs.Demand2.{Known}
 use Rattle.derivation.proofs.MarkedCells.{length-marked, get-mark}
 use Rattle.lookahead.specs.Configs.{In}
@@ -30,7 +30,7 @@ use Rattle.cache.specs.Coherent.{Coherent, Extends}
 use Rattle.cache.proofs.SuitLaws.{Suits}
 use Rattle.cache.proofs.ExtendLaws.{extends-refl, extends-trans}
 use Rattle.cache.proofs.PredictorLaws.{Stands as Asks, cache-predicts}
-use Rattle.adaptive.specs.Quick.{reply, quickNote, answered, overCache}
+use Rattle.adaptive.specs.Quick.{reply, quickNote, replyOf, overCache}
 use Rattle.adaptive.proofs.NoteLaws.{note-answer, note-grows, note-again}
 
 -- ---- 12, 13, and then the reading
@@ -43,12 +43,12 @@ module _ (s : List ℕ) (g : Grammar) (w row c : List ℕ) where
   unfolding overCache
   over-13 l e = rw (overCache, le-ltb (length c) minWords l, e)
 
-  pub over-begun : minWords ≤ length c → T (begun? s c) → overCache s g w row c ≡ answered g w row (quickNote g w (length row) c)
+  pub over-begun : minWords ≤ length c → T (begun? s c) → overCache s g w row c ≡ replyOf g w row (quickNote g w (length row) c)
   unfolding overCache
   over-begun l t = rw (overCache, le-ltb (length c) minWords l, T→true (begun? s c) t)
 
 -- ---- a note of known tokens
-tokens-of : (kinds : ℕ) (w : List ℕ) → Known kinds w → Each (λ (t : ℕ). t ≤ kinds) (marked w)
+pub tokens-of : (kinds : ℕ) (w : List ℕ) → Known kinds w → Each (λ (t : ℕ). t ≤ kinds) (marked w)
 tokens-of kinds [] h t m = go (List·Memᴰ·cases-cons m)
   where
     go : (t ≡ endMark) ⊎ In t [] → t ≤ kinds
@@ -74,7 +74,7 @@ module _ (g : Grammar) (bytes : List ℕ) (suits : Suits g bytes) (ordered : Ord
   predictor = cache-predicts g bytes suits (marked w) (tokens-of (g .kinds) w known) ordered (ends-marked g ordered w)
 
   -- THE SAME ANSWER as the plain reading's
-  pub quick-answer : (row c : List ℕ) → Coherent g bytes c → onOutcome g w row ((quickNote g w (length row) c) .outcome) ≡ readNote g w row
+  pub quick-answer : (row c : List ℕ) → Coherent g bytes c → onConclusion g w row ((quickNote g w (length row) c) .outcome) ≡ readNote g w row
   unfolding quickNote
   quick-answer row c h = note-answer (Coherent g bytes) (Extends g) g ordered w (predict g) predictor row c h
 

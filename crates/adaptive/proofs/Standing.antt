@@ -10,9 +10,9 @@ use Rattle.base.proofs.Booleans.{clash}
 use Rattle.grammar.specs.declared.Symbol.the-variants.{Token, Nonterminal, End}
 use Rattle.grammar.specs.Limits.{endPlace}
 use Rattle.grammar.specs.Grammar.{Grammar, facing, first}
-use Rattle.grammar.specs.Ordered.{Ordered}
+use Rattle.grammar.specs.inside.Ordered.{Ordered}
 use Rattle.derivation.specs.Runs.{Run, Opens}
-use Rattle.derivation.specs.Choosers.{Ground}
+use Rattle.derivation.specs.inside.Choosers.{Ground}
 use Rattle.derivation.proofs.RunLaws.{run-le}
 use Rattle.cache.proofs.PredictorLaws.{Stands as Asks}
 use Rattle.lookahead.proofs.Following.{Valid, last, valid-below, valid-token, valid-call}

@@ -1,5 +1,7 @@
--- The adaptive reading as a definition: the one machine with a chooser that predicts, its refusals, and demand 3.
+-- The adaptive reading as a definition: the one machine with a chooser that predicts, its refusals, what it teaches the cache, and what lists of readings
+-- answer and leave.
 pub mod Chooser
 pub mod Quick
-pub mod Demand3
-pub mod Effects
+pub mod Proceeding
+pub mod Teaching
+pub mod inside

@@ -1,4 +1,4 @@
--- What the quick reading answers and leaves, for any bytes, note, row, working space and cache: document 01's refusals in their order, as one
+-- What the quick reading answers and leaves, for any bytes, note, row, working space and cache: the scope's refusals in their order, as one
 -- executable definition.
 use mathlib.Core.Bool.{true, false}
 use mathlib.Core.List.{List}
@@ -9,7 +9,7 @@ use Rattle.grammar.specs.Grammar.{Grammar}
 use Rattle.derivation.specs.Runs.{marked}
 use Rattle.derivation.specs.Machine.{Ended, reading}
 use Rattle.derivation.specs.Gate.{atGate, gate}
-use Rattle.derivation.specs.Plain.{Answer, refuse, onOutcome}
+use Rattle.derivation.specs.Plain.{Answer, refuse, onConclusion}
 use Rattle.words.specs.Layout.{minWords}
 use Rattle.words.specs.Begin.{begun?}
 use Rattle.cache.specs.Predict.{predict}
@@ -29,16 +29,16 @@ unfolding reading guided predict
 quickNote g w room c = reading g (marked w) (adaptively g (marked w)) room c
 
 -- 10 and 14
-abbrev pub answered : Grammar → List ℕ → List ℕ → Ended (List ℕ) → Reply
-answered g w row e = reply (onOutcome g w row (e .outcome)) (e .state)
+abbrev pub replyOf : Grammar → List ℕ → List ℕ → Ended (List ℕ) → Reply
+replyOf g w row e = reply (onConclusion g w row (e .outcome)) (e .state)
 
 -- 12, 13, and then the reading of a note that passed the gate
 unfoldable pub overCache : List ℕ → Grammar → List ℕ → List ℕ → List ℕ → Reply
-unfolding begun? onOutcome quickNote
+unfolding begun? onConclusion quickNote
 overCache s g w row c =
     elim (ltb (length c) minWords) [
       | true ↦ reply (refuse 12 0 row) c
-      | false ↦ elim (begun? s c) [ true ↦ answered g w row (quickNote g w (length row) c) | false ↦ reply (refuse 13 0 row) c ]
+      | false ↦ elim (begun? s c) [ true ↦ replyOf g w row (quickNote g w (length row) c) | false ↦ reply (refuse 13 0 row) c ]
     ]
 
 -- the quick reading: what the gate refuses leaves the row and the cache as they were

@@ -1,1 +1,1 @@
-// Nothing runs here: the reading that adapts to what it has seen, as a definition, and the demand that it answers as the plain one does.
+// Nothing runs here: the reading that adapts to what it has seen, as a definition, and that it answers as the plain one does.

@@ -1,6 +1,7 @@
 // Delivery notes read by ALL(*), every call proved. A grammar is a row of bytes that says which rows of numbered tokens are sentences; a note is such a row.
 //
 //   check(grammar)                                 whether the grammar is sound
+//   measure(grammar)                               the same, and of a sound grammar its kinds, nonterminals and places, by which working space is lent
 //   plain(grammar, note, row, workspace)           the note's derivation into the row, or a refusal
 //   begin(grammar, cache)                          a lookahead cache for the grammar
 //   quick(grammar, note, row, cache, workspace)    the same answer as `plain`, always, and faster the more the cache has learned
@@ -21,11 +22,24 @@
 //   7    a left recursive nonterminal
 //
 // After 10 and 14 the row is all zeros and the cache keeps what it learned; every other refusal leaves row and cache as they were.
+//
+// A note of so many tokens by a grammar of so many places takes SPACE_WORDS + SPACE_WORDS_EACH * places * (tokens + 1) words of workspace; a cache of so
+// many slots has FIXED_WORDS + SLOT_WORDS * slots words, at least MIN_WORDS, and no more than MAX_SLOTS slots are used.
 pub use cache::Beginning;
 pub use cache::begin;
+pub use gate::MAX_TOKENS;
 pub use gate::Reading;
+pub use gate::SPACE_WORDS;
+pub use gate::SPACE_WORDS_EACH;
+pub use measuring::Measure;
+pub use measuring::Sizes;
+pub use measuring::measure;
 pub use number::Refusal;
 pub use plain::plain;
 pub use quick::quick;
 pub use soundness::Verdict;
 pub use soundness::check;
+pub use words::layout::FIXED_WORDS;
+pub use words::layout::MAX_SLOTS;
+pub use words::layout::MIN_WORDS;
+pub use words::layout::SLOT_WORDS;

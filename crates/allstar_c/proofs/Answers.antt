@@ -1,7 +1,9 @@
--- Beginnings and readings told in numbers are the answers of the definitions.
+-- Measures, beginnings and readings told in numbers are the answers of the definitions.
 use mathlib.Core.Path.{_≡_}
 use mathlib.Core.List.{List}
 use Prim.Native.Nat.{ℕ}
+use Rattle.measuring.specs.declared.answer.Measure.{Measure}
+use Rattle.measuring.specs.Measuring.{measureNumber, measurePlace, measureKinds, measureNonterminals, measurePlaces, figures, figuresOf}
 use Rattle.derivation.specs.Plain.{Answer, answer}
 use Rattle.words.specs.Begin.{Begun, begun}
 use Rattle.words.specs.declared.beginning.Beginning.{Beginning}
@@ -9,7 +11,7 @@ use Rattle.words.specs.Beginning.{beginningNumber, beginningPlace, begunBy}
 use Rattle.gate.specs.declared.reading.Reading.{Reading}
 use Rattle.gate.specs.Reading.{readingNumber, readingPlace, readingCount, answered}
 use Rattle.adaptive.specs.Quick.{Reply, reply}
-use Rattle.quick.specs.Replied.{replied}
+use Rattle.quick.specs.inside.Replied.{replied}
 
 pub told : (r : Reading) (row : List ℕ) {n p c : ℕ} {x : Answer} → n ≡ readingNumber r → p ≡ readingPlace r → c ≡ readingCount r
     → answered r row ≡ x
@@ -23,3 +25,7 @@ told-reply r row words e f g h = rw (e, f, g) h
 pub told-begun : (b : Beginning) (c : List ℕ) {n p : ℕ} {x : Begun} → n ≡ beginningNumber b → p ≡ beginningPlace b → begunBy b c ≡ x
     → begun n p c ≡ x
 told-begun b c e f h = rw (e, f) h
+
+pub told-measure : (m : Measure) {n p t k q : ℕ} {x : Measure} → n ≡ measureNumber m → p ≡ measurePlace m → t ≡ measureKinds m
+    → k ≡ measureNonterminals m → q ≡ measurePlaces m → m ≡ x → figures n p t k q ≡ figuresOf x
+told-measure m a b c d e h = rw (a, b, c, d, e, h)

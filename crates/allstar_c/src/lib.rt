@@ -1,33 +1,41 @@
 // The library's calls for C and Rust: thin, with numbers and slices alone.
-ghost use mathlib.Core.Path.{_≡_};
 ghost use lib.ListN.{length};
-ghost use Rattle.derivation.specs.Plain.{answer, plainReading};
-ghost use Rattle.words.specs.Begin.{begun, beginning};
-ghost use Rattle.adaptive.specs.Quick.{reply, quickReading};
-ghost use Rattle.soundness.specs.Check.{checkOf, verdictNumber, verdictPlace};
+ghost use mathlib.Core.Path.{_≡_};
+ghost use Rattle.soundness.specs.Check.{CheckDid};
+ghost use Rattle.words.specs.Begin.{BeginDid};
+ghost use Rattle.plain.specs.Contract.{PlainDid};
+ghost use Rattle.quick.specs.Contract.{QuickDid};
+ghost use Rattle.measuring.specs.Measuring.{figures, figuresOf, measureOf};
+ghost use Rattle.allstar_c.specs.Version.{version};
 
-// Checks a grammar. Answers document 01's number, 0 if it is sound, and stores the place.
+// The library's version. specs/Version has the same.
+const MAJOR: u32 = 1;
+
+const MINOR: u32 = 0;
+
+const PATCH: u32 = 0;
+
+// Checks a grammar. Answers the scope's number, 0 if it is sound, and stores the place.
 #[no_mangle]
 pub extern "C" fn allstar_check(grammar: &[u8], place: &mut u64) -> u32
-    ensures number { λ r. ⌜ r ≡ verdictNumber (checkOf (now (grammar .entry))) ⌝ }
-    ensures stored { λ r. ⌜ now (place .exit) ≡ verdictPlace (checkOf (now (grammar .entry))) ⌝ }
+    ensures { λ r. ⌜ CheckDid (now (grammar .entry)) r (now (place .exit)) ⌝ }
 {
     let verdict = soundness::check(grammar);
     *place = verdict.place() as u64;
     verdict.number()
 }
 
-// Begins a cache for a grammar. Answers document 01's number, 0 if the cache has begun, stores the place, and leaves the cache as beginning does.
+// Begins a cache for a grammar. Answers the scope's number, 0 if the cache has begun, stores the place, and leaves the cache as beginning does.
 #[no_mangle]
 pub extern "C" fn allstar_begin(grammar: &[u8], cache: &mut [u32], place: &mut u64) -> u32
-    ensures { λ r. ⌜ begun r (now (place .exit)) (now (cache .exit)) ≡ beginning (now (grammar .entry)) (now (cache .entry)) ⌝ }
+    ensures { λ r. ⌜ BeginDid (now (grammar .entry)) (now (cache .entry)) r (now (place .exit)) (now (cache .exit)) ⌝ }
 {
     let beginning = cache::begin(grammar, cache);
     *place = beginning.place() as u64;
     beginning.number()
 }
 
-// Reads a note plainly. Answers document 01's number, 0 if the note was read, stores the place and the count of row entries, and leaves the row as the
+// Reads a note plainly. Answers the scope's number, 0 if the note was read, stores the place and the count of row entries, and leaves the row as the
 // plain reading does.
 #[no_mangle]
 pub extern "C" fn allstar_plain(
@@ -38,8 +46,8 @@ pub extern "C" fn allstar_plain(
     place: &mut u64,
     count: &mut u64,
 ) -> u32
-    ensures { λ r. ⌜ answer r (now (place .exit)) (now (count .exit)) (now (row .exit))
-        ≡ plainReading (now (grammar .entry)) (now (note .entry)) (now (row .entry)) (length (now (workspace .entry))) ⌝ }
+    ensures { λ r. ⌜ PlainDid (now (grammar .entry)) (now (note .entry)) (now (row .entry)) (length (now (workspace .entry)))
+        r (now (place .exit)) (now (count .exit)) (now (row .exit)) ⌝ }
 {
     let reading = plain::plain(grammar, note, row, workspace);
     *place = reading.place() as u64;
@@ -47,7 +55,7 @@ pub extern "C" fn allstar_plain(
     reading.number()
 }
 
-// Reads a note over a cache that was begun for the grammar. Answers document 01's number, 0 if the note was read, stores the place and the count of row
+// Reads a note over a cache that was begun for the grammar. Answers the scope's number, 0 if the note was read, stores the place and the count of row
 // entries, and leaves the row and the cache as the quick reading does.
 #[no_mangle]
 pub extern "C" fn allstar_quick(
@@ -59,11 +67,40 @@ pub extern "C" fn allstar_quick(
     place: &mut u64,
     count: &mut u64,
 ) -> u32
-    ensures { λ r. ⌜ reply (answer r (now (place .exit)) (now (count .exit)) (now (row .exit))) (now (cache .exit))
-        ≡ quickReading (now (grammar .entry)) (now (note .entry)) (now (row .entry)) (length (now (workspace .entry))) (now (cache .entry)) ⌝ }
+    ensures { λ r. ⌜ QuickDid (now (grammar .entry)) (now (note .entry)) (now (row .entry)) (length (now (workspace .entry))) (now (cache .entry))
+        r (now (place .exit)) (now (count .exit)) (now (row .exit)) (now (cache .exit)) ⌝ }
 {
     let reply = quick::quick(grammar, note, row, cache, workspace);
     *place = reply.place() as u64;
     *count = reply.count() as u64;
     reply.number()
+}
+
+// Measures a grammar. Answers the check's number, 0 if it is sound, and stores the place and the highest token kind, the number of nonterminals and the
+// number of places: three zeros if it is refused.
+#[no_mangle]
+pub extern "C" fn allstar_measure(
+    grammar: &[u8],
+    place: &mut u64,
+    kinds: &mut u64,
+    nonterminals: &mut u64,
+    places: &mut u64,
+) -> u32
+    ensures { λ r. ⌜ figures r (now (place .exit)) (now (kinds .exit)) (now (nonterminals .exit)) (now (places .exit))
+        ≡ figuresOf (measureOf (now (grammar .entry))) ⌝ }
+{
+    let measure = measuring::measure(grammar);
+    *place = measure.place() as u64;
+    *kinds = measure.kinds() as u64;
+    *nonterminals = measure.nonterminals() as u64;
+    *places = measure.places() as u64;
+    measure.number()
+}
+
+// The library's version as one number: 10,000 times the major, 100 times the minor and the patch.
+#[no_mangle]
+pub extern "C" fn allstar_version() -> u32
+    ensures { λ r. ⌜ r ≡ version ⌝ }
+{
+    MAJOR * 10000 + MINOR * 100 + PATCH
 }

@@ -70,13 +70,9 @@ module _ (p : ℕ → Bool) (i k : ℕ) {o : Option ℕ} (h : lowestFrom p i k �
           let q : suc k - 1 ≡ k = omega arith in
           rw (q, add-one) (ap (λ (b : Bool). elim b as (λ _. Option ℕ) [ true ↦ some i | false ↦ lowestFrom p (suc i) k ]) (sym e) ∙ h)
 
--- the same by how many of the numbers below n are left
-pub lowest-begin : (p : ℕ → Bool) (n : ℕ) → lowestFrom p (n - n) n ≡ lowestFrom p 0 n
-lowest-begin p n = let e : n - n ≡ 0 = omega arith in rw e
-
-pub lowest-next : (p : ℕ → Bool) (n k : ℕ) {o : Option ℕ} → lowestFrom p (n - k) k ≡ o → 0 < k → k ≤ n → p (n - k) ≡ false
-    → lowestFrom p (n - (k - 1)) (k - 1) ≡ o
-lowest-next p n k h l m e = let q : n - (k - 1) ≡ n - k + 1 = omega arith in rw q (lowest-miss p (n - k) k h l e)
+-- the same up to n, as a loop that counts up meets it
+pub lowest-next : (p : ℕ → Bool) (n i : ℕ) {o : Option ℕ} → lowestFrom p i (n - i) ≡ o → i < n → p i ≡ false → lowestFrom p (i + 1) (n - (i + 1)) ≡ o
+lowest-next p n i h l e = let q : n - (i + 1) ≡ n - i - 1 = omega arith in rw q (lowest-miss p i (n - i) h (omega arith) e)
 
 -- two tests that agree on the numbers searched find the same
 pub lowest-same : (p q : ℕ → Bool) (i k : ℕ) → ((a : ℕ) → i ≤ a → a < i + k → p a ≡ q a) → lowestFrom p i k ≡ lowestFrom q i k

@@ -17,13 +17,13 @@ use Rattle.configurations.specs.Packing.{packAll}
 use Rattle.words.specs.Layout.{slots, stepAt, fullWord, stateWord}
 use Rattle.words.specs.Words.{word, held, startOf, stepOf, decision, keptWords, keptIn, setStart, setStep}
 use Rattle.cache.specs.Recording.{learned, find, recordNew, recordOutcome, askStart, askStep}
-use Rattle.cache.specs.Predictor.{Decides}
+use Rattle.lookahead.specs.Configs.{Decides}
 use Rattle.cache.specs.Coherent.{Coherent, Extends}
 use Rattle.cache.proofs.SuitLaws.{Suits}
 use Rattle.cache.proofs.ExtendLaws.{extends-trans, kept-extends}
 use Rattle.cache.proofs.FieldLaws.{Field, of-start, of-step, field-cell, field-extends, field-says, recorded-stays}
 use Rattle.cache.proofs.FindLaws.{find-none, none-find}
-use Rattle.cache.proofs.PutLaws.{put-here, put-extends}
+use Rattle.cache.proofs.PutLaws.{put-here, put-grows}
 use Rattle.cache.proofs.RecordLaws.{putAt, byRoom, byFind, byWord, ask, field-recordable, field-new, ask-step}
 
 -- a word that records something is the answer
@@ -36,7 +36,7 @@ module _ (g : Grammar) (bytes : List ℕ) (suits : Suits g bytes) {c″ : List �
       → Extends g (set c i w) c″ → ask c″ i a o ≡ learned w c″
   again-put {c} k {i} {a} {o} f z w n x =
       let h = put-here g bytes suits k f w in
-      let e = recorded-stays g suits x (field-extends g (put-extends g bytes suits k f w z) f) (λ y. n (sym h ∙ y)) ∙ h in
+      let e = recorded-stays g suits x (field-extends g (put-grows g bytes suits k f w z) f) (λ y. n (sym h ∙ y)) ∙ h in
       known c″ i a o (λ y. n (sym e ∙ y)) ∙ ap (λ (y : ℕ). learned y c″) e
 
   module _ {c : List ℕ} (k : Coherent g bytes c) {i a : ℕ} where

@@ -4,36 +4,36 @@ use mathlib.Core.Option.{Option, none, some}
 use mathlib.Core.List.{List}
 use Prim.Native.Nat.{ℕ, _+_, _-_, _*_, _≤_, _<_}
 use native.Mathlib.Omega.{arith}
-use lib.ListN.{length, set, take, drop, length-take}
+use lib.ListN.{length, set, take, drop, length-take, length-drop}
+use lib.Seq.{take-length}
 use borrow.Author.Tests.{eq-eqb, ne-eqb}
 use Rattle.grammar.specs.Grammar.{Grammar}
 use Rattle.lookahead.specs.Configs.{Config}
 use Rattle.lookahead.specs.Closing.{maxKept}
-use Rattle.configurations.specs.Packing.{packAll, unpackAll, keptWords, configWords}
+use Rattle.configurations.specs.Packing.{packAll, unpackAll, configWords}
 use Rattle.lookahead.specs.Outcomes.{Outcome, state, startOutcome, stepOutcome}
-use Rattle.learning.specs.Told.{Tells}
+use Rattle.learning.specs.inside.Told.{Tells}
 use Rattle.learning.specs.declared.rules.Outcome as told
 use Rattle.learning.specs.declared.rules.Outcome.the-variants.{Full, Alternative, State}
 use Rattle.configurations.proofs.PackLaws.{length-packAll}
 use Rattle.words.specs.Layout.{slots, configsAt, startAt, stepAt, fullWord, stateWord}
 use Rattle.words.specs.Words.{word, startOf, stepOf, keptCount, keptIn, addState, searched}
 use Rattle.words.specs.Words as words
-use Rattle.cache.specs.Calls.{Kept}
+use Rattle.cache.specs.inside.Calls.{KeptConfigs}
 use Rattle.cache.specs.Recording.{Learned, learned, holds?, find, recordNew, recordOutcome, askStart, askStep}
-use Rattle.cache.specs.ByWords.{holdsWords, findWords, addWords, sayWord, newWords, onFound, stateWords, outcomeWords, Room}
+use Rattle.cache.specs.inside.ByWords.{holdsWords, findWords, addWords, sayWord, newWords, onFound, stateWords, outcomeWords, RoomFor}
 use Rattle.words.proofs.WordLaws.{slot-within}
 use Rattle.cache.proofs.RecordLaws.{putAt, ask, start-ask, step-ask}
 
 -- the words of a state are as many as its configurations say
-pub told-room : (o : told.Outcome) (ws : List ℕ) (x : Outcome) → length ws ≡ keptWords → Tells o ws x → Room o ws
-unfolding Tells Room
-told-room Full ws x l h = tt
-told-room (Alternative b) ws x l h = tt
-told-room (State n) ws x q h =
+pub told-room : (o : told.Outcome) (ws : List ℕ) (x : Outcome) → Tells o ws x → RoomFor o ws
+unfolding Tells RoomFor
+told-room Full ws x h = tt
+told-room (Alternative b) ws x h = tt
+told-room (State f n) ws x h =
     let e = ap (λ (l : List ℕ). length l) (h .words) ∙ length-packAll (h .configs) in
-    let z = h .count in
-    let l = length-take (configWords * n) ws in
-    record { few = omega (arith, e, z, l); room = omega (arith, e, z, l) }
+    let l = length-take (configWords * n) (drop (configWords * f) ws) in
+    (h .within, record { few = h .few; room = omega (arith, e, h .count, l) })
 
 -- a state by its configurations is one by its words
 state-by-words : (i : ℕ) (c : List ℕ) (a : ℕ) (ks : List Config) → recordOutcome (putAt i) c a (state ks) ≡ stateWords i c a (length ks) (packAll ks)
@@ -50,12 +50,21 @@ pub told-is : (i : ℕ) (c : List ℕ) (a : ℕ) (o : told.Outcome) (ws : List �
 unfolding Tells outcomeWords recordOutcome
 told-is i c a Full ws x h = rw h
 told-is i c a (Alternative b) ws x h = rw h
-told-is i c a (State n) ws x h = rw (h .is, h .words, ← h .count) (sym (state-by-words i c a (h .configs)))
+told-is i c a (State f n) ws x h = rw (h .is, h .words, ← h .count) (sym (state-by-words i c a (h .configs)))
 
 -- ---- recording by the code's ways out
-pub room-state : (o : told.Outcome) (ws : List ℕ) {n : ℕ} → o ≡ State n → Room o ws → Kept n ws
-unfolding Room
+pub room-state : (o : told.Outcome) (ws : List ℕ) {f n : ℕ} → o ≡ State f n → RoomFor o ws
+    → (configWords * f ≤ length ws) × KeptConfigs n (drop (configWords * f) ws)
+unfolding RoomFor
 room-state o ws e h = rw e at h
+
+-- the words from k on
+rest-is : (ws : List ℕ) (k : ℕ) → take (length ws - k) (drop k ws) ≡ drop k ws
+rest-is ws k = ap (λ (n : ℕ). take n (drop k ws)) (sym (length-drop k ws)) ∙ take-length (drop k ws)
+
+pub room-part : (o : told.Outcome) (ws : List ℕ) {f n : ℕ} → o ≡ State f n → RoomFor o ws
+    → KeptConfigs n (take (length ws - configWords * f) (drop (configWords * f) ws))
+room-part o ws {f} e h = rw (rest-is ws (configWords * f)) (room-state o ws e h .1)
 
 module _ (i : ℕ) (c : List ℕ) (a : ℕ) (o : told.Outcome) (ws : List ℕ) {x : Learned} where
   pub record-full : o ≡ Full → x ≡ sayWord i c fullWord → x ≡ outcomeWords i c a o ws
@@ -66,9 +75,10 @@ module _ (i : ℕ) (c : List ℕ) (a : ℕ) (o : told.Outcome) (ws : List ℕ) {
   unfolding outcomeWords
   record-alternative e h = rw e h
 
-  pub record-is : {n : ℕ} → o ≡ State n → x ≡ stateWords i c a n (take (configWords * n) ws) → x ≡ outcomeWords i c a o ws
+  pub record-is : {f n : ℕ} → o ≡ State f n
+      → x ≡ stateWords i c a n (take (configWords * n) (take (length ws - configWords * f) (drop (configWords * f) ws))) → x ≡ outcomeWords i c a o ws
   unfolding outcomeWords
-  record-is e h = rw e h
+  record-is {f} {n} e h = rw e (h ∙ ap (λ (l : List ℕ). stateWords i c a n (take (configWords * n) l)) (rest-is ws (configWords * f)))
 
 -- ---- the words of a slot's configurations
 pub kept-few : (c : List ℕ) (s : ℕ) {n : ℕ} → n ≡ keptCount c s → n ≤ maxKept

@@ -11,7 +11,7 @@ use Rattle.grammar.specs.Grammar.{Grammar}
 use Rattle.lookahead.specs.Outcomes.{Outcome, startOutcome, stepOutcome}
 use Rattle.words.specs.Layout.{keptRoom, fixedWords, heldAt, startAt, bytesAt, slotAt, countAt, stepAt, configsAt}
 use Rattle.words.specs.Words.{word, held, startOf, stepOf, decision, keptIn}
-use Rattle.cache.specs.Predictor.{Decides}
+use Rattle.lookahead.specs.Configs.{Decides}
 use Rattle.cache.specs.Coherent.{Says, Coherent, Used, size, start, byte, its-decision, count, step, kept, Extends}
 use Rattle.words.proofs.WordLaws.{kept-room}
 use Rattle.cache.proofs.SuitLaws.{Suits}

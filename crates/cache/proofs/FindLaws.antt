@@ -16,43 +16,58 @@ use Rattle.lookahead.proofs.AddLaws.{same-list, list-same}
 use Rattle.words.specs.Layout.{slots}
 use Rattle.words.specs.Words.{held, decision, keptWords}
 use Rattle.cache.specs.Recording.{holds?, find}
+use Rattle.cache.specs.Lessons.{Stores}
 
 -- state s is that of these configurations for decision a
-abbrev pub Held : List ℕ → ℕ → List Config → ℕ → Type 0
-Held c a ks s = (s < held c) × (decision c s ≡ a) × (keptWords c s ≡ packAll ks)
+abbrev pub HeldBy : List ℕ → ℕ → List Config → ℕ → Type 0
+HeldBy c a ks s = (s < held c) × (decision c s ≡ a) × (keptWords c s ≡ packAll ks)
 
-module _ (c : List ℕ) (a : ℕ) (ks : List Config) (fits : held c ≤ slots (length c)) where
-  to : (s : ℕ) → s < min (held c) (slots (length c)) → T (holds? c a ks s) → Held c a ks s
+module _ (c : List ℕ) (a : ℕ) (ks : List Config) where
+  to : (s : ℕ) → s < min (held c) (slots (length c)) → T (holds? c a ks s) → Stores c a ks s
   unfolding holds?
   to s h t =
       let p = and-T (eqb (decision c s) a) (sameList (keptWords c s) (packAll ks)) t in
-      (omega arith, eqb→eq (decision c s) a (p .0), same-list (keptWords c s) (packAll ks) (p .1))
+      record {
+        holds = omega arith;
+        slot = omega arith;
+        decides = eqb→eq (decision c s) a (p .0);
+        keeps = same-list (keptWords c s) (packAll ks) (p .1);
+      }
 
-  back : (s : ℕ) → Held c a ks s → T (holds? c a ks s) × (s < min (held c) (slots (length c)))
+  back : (s : ℕ) → Stores c a ks s → T (holds? c a ks s) × (s < min (held c) (slots (length c)))
   unfolding holds?
-  back s (h, d, e) = (rw (d, e) (T-and (eqb a a) (sameList (packAll ks) (packAll ks)) (eqb-refl a) (list-same (packAll ks))), omega arith)
+  back s x = (
+    rw (x .decides, x .keeps) (T-and (eqb a a) (sameList (packAll ks) (packAll ks)) (eqb-refl a) (list-same (packAll ks))),
+    omega (arith, x .holds, x .slot),
+  )
 
-  found : LowestIs (Held c a ks) (find c a ks)
+  -- over any words
+  pub found : LowestIs (Stores c a ks) (find c a ks)
   unfolding find
-  found = lowest-is (Held c a ks) (holds? c a ks) (min (held c) (slots (length c))) to back
+  found = lowest-is (Stores c a ks) (holds? c a ks) (min (held c) (slots (length c))) to back
 
-  pub find-some : {s : ℕ} → find c a ks ≡ some s → Held c a ks s
-  find-some {s} e = go found e
-    where
-      go : {o : Option ℕ} → LowestIs (Held c a ks) o → o ≡ some s → Held c a ks s
-      go (this s′ h l) e = let q : s′ ≡ s = cc in subst (Held c a ks) q h
-      go (nothing n) e = clash (cc)
+  -- over words that hold no more states than they have slots
+  module _ (fits : held c ≤ slots (length c)) where
+    stores : (s : ℕ) → HeldBy c a ks s → Stores c a ks s
+    stores s (h, d, e) = record { holds = h; slot = omega arith; decides = d; keeps = e }
 
-  pub find-none : find c a ks ≡ none → (s : ℕ) → ¬ Held c a ks s
-  find-none e = go found e
-    where
-      go : {o : Option ℕ} → LowestIs (Held c a ks) o → o ≡ none → (s : ℕ) → ¬ Held c a ks s
-      go (this s′ h l) e = clash (cc)
-      go (nothing n) e = n
+    pub find-some : {s : ℕ} → find c a ks ≡ some s → HeldBy c a ks s
+    find-some {s} e = go found e
+      where
+        go : {o : Option ℕ} → LowestIs (Stores c a ks) o → o ≡ some s → HeldBy c a ks s
+        go (this s′ h l) e = let q : s′ ≡ s = cc in subst (HeldBy c a ks) q (h .holds, h .decides, h .keeps)
+        go (nothing n) e = clash (cc)
 
-  pub none-find : ((s : ℕ) → ¬ Held c a ks s) → find c a ks ≡ none
-  none-find n = go found
-    where
-      go : {o : Option ℕ} → LowestIs (Held c a ks) o → o ≡ none
-      go (this s h l) = absurd (n s h)
-      go (nothing m) = refl
+    pub find-none : find c a ks ≡ none → (s : ℕ) → ¬ HeldBy c a ks s
+    find-none e s x = go found e
+      where
+        go : {o : Option ℕ} → LowestIs (Stores c a ks) o → ¬ (o ≡ none)
+        go (this s′ h l) e = clash (cc)
+        go (nothing n) e = n s (stores s x)
+
+    pub none-find : ((s : ℕ) → ¬ HeldBy c a ks s) → find c a ks ≡ none
+    none-find n = go found
+      where
+        go : {o : Option ℕ} → LowestIs (Stores c a ks) o → o ≡ none
+        go (this s h l) = absurd (n s (h .holds, h .decides, h .keeps))
+        go (nothing m) = refl

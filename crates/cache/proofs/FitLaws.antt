@@ -1,46 +1,44 @@
 -- What outcomes keep fits into words, if what they were worked out from fits.
 use mathlib.Core.Path.{_≡_, refl, sym, subst}
-use mathlib.Core.Logic.{_⊎_, inl, inr}
 use mathlib.Core.Bool.{Bool, true, false, _&&_, not, cond}
 use mathlib.Core.Option.{Option, none, some}
-use mathlib.Core.List.{List, [], _∷_, List·Memᴰ·head, List·Memᴰ·tail, List·Memᴰ·not-nil, List·Memᴰ·cases-cons}
-use Prim.Native.Nat.{ℕ, suc, _≤_, _<_}
+use mathlib.Core.List.{List, [], _∷_, List·Memᴰ·head}
+use Prim.Native.Nat.{ℕ, _≤_}
 use native.Mathlib.Omega.{arith}
 use lib.Dec.{ltb}
 use lib.ListN.{length}
 use Rattle.base.proofs.Booleans.{clash}
-use Rattle.grammar.specs.Limits.{maxProductions, endPlace}
+use Rattle.grammar.specs.Limits.{maxProductions}
 use Rattle.grammar.specs.Grammar.{Grammar}
-use Rattle.lookahead.specs.Configs.{Config, In, Moves, enter, pop, behind, end, Closes, from, move}
+use Rattle.lookahead.specs.Configs.{Config, In, Closes}
 use Rattle.lookahead.specs.Closing.{maxEntries, maxKept, close}
-use Rattle.lookahead.specs.Order.{pastEnd, Packable, Ascending, returnRadix, kept}
-use Rattle.lookahead.specs.Outcomes.{Outcome, full, alternative, state, agreed, shared, settled, resolved, judged, limited, outcome, onward}
+use Rattle.lookahead.specs.Order.{Packable, Ascending, kept}
+use Rattle.lookahead.specs.Outcomes.{Outcome, full, alternative, state, agreed, shared, settled, resolved, judged, withinKept, outcome}
 use Rattle.lookahead.specs.Outcomes.{startConfigs, stepConfigs, startOutcome, stepOutcome}
 use Rattle.lookahead.specs.Rules.{Each}
 use Rattle.lookahead.proofs.CloseLaws.{Closure, close-some}
 use Rattle.lookahead.proofs.OrderLaws.{kept-right, kept-ascending}
-use Rattle.lookahead.proofs.StepLaws.{step-exact}
 use Rattle.lookahead.proofs.Bounds.{Bounded}
-use Rattle.lookahead.proofs.Standing.{At, inside, last, past, Standing, start-standing}
+use Rattle.lookahead.proofs.Low.{Low, Source, closes-low, start-low, step-low}
 use Rattle.lookahead.proofs.StateLaws.{outcome-state}
-use Rattle.cache.specs.Coherent.{Fits}
+use Rattle.cache.specs.Coherent.{Storable}
 
--- a configuration that fits but for the length of its stack
-pub record Low (k : Config) : Type 0 where
-  pub place : k .place ≤ pastEnd
-  pub least : 1 ≤ k .alternative
-  pub most : k .alternative ≤ maxProductions
-  pub returns : Each (λ (r : ℕ). r < returnRadix) (k .stack)
+-- a number of an alternative
+abbrev Numbered : ℕ → Type 0
+Numbered b = (1 ≤ b) × (b ≤ maxProductions)
 
-low-fits : (k : Config) → Low k → length (k .stack) ≤ maxEntries → Fits k
-low-fits k l d = record { place = l .place; least = l .least; most = l .most; entries = d; returns = l .returns }
+low-fits : (k : Config) → Low Numbered k → length (k .stack) ≤ maxEntries → Storable k
+low-fits k l d = record { place = l .place; least = l .named .0; most = l .named .1; entries = d; returns = l .returns }
 
-pub fits-packable : (k : Config) → Fits k → Packable k
+fits-returns : (k : Config) → Storable k → Source Numbered k
+fits-returns k f = record { named = (f .least, f .most); returns = f .returns }
+
+pub fits-packable : (k : Config) → Storable k → Packable k
 fits-packable k f = record { place = omega (arith, f .place); alternative = omega (arith, f .most); entries = omega (arith, f .entries); returns = f .returns }
 
 -- what one word, or one slot, can record
 pub record Keepable (ks : List Config) : Type 0 where
-  pub fitting : Each Fits ks
+  pub fitting : Each Storable ks
   pub few : length ks ≤ maxKept
   pub ascending : Ascending ks
 
@@ -68,8 +66,8 @@ judged-one (k ∷ ks) {b} e = go (agreed (k .alternative) ks) e
     go true e = (k, List·Memᴰ·head refl, cc)
     go false e = absurd (resolved-never (k ∷ ks) e)
 
-limited-one : (ks : List Config) {b : ℕ} → limited ks ≡ alternative b → (c : Config) × In c ks × (c .alternative ≡ b)
-unfolding limited
+limited-one : (ks : List Config) {b : ℕ} → withinKept ks ≡ alternative b → (c : Config) × In c ks × (c .alternative ≡ b)
+unfolding withinKept
 limited-one ks {b} e = go (ltb maxKept (length ks)) e
   where
     go : (x : Bool) → cond x full (judged ks) ≡ alternative b → (c : Config) × In c ks × (c .alternative ≡ b)
@@ -81,7 +79,7 @@ module _ (g : Grammar) where
   unfolding outcome
   outcome-one start {b} e = go (close g start) refl e
     where
-      go : (o : Option (List Config)) → close g start ≡ o → (elim o as (λ _. Outcome) [ none ↦ full | some ms ↦ limited (kept g ms) ])
+      go : (o : Option (List Config)) → close g start ≡ o → (elim o as (λ _. Outcome) [ none ↦ full | some ms ↦ withinKept (kept g ms) ])
           ≡ alternative b
           → (c : Config) × Closes g start c × (c .alternative ≡ b)
       go none q e = clash (cc)
@@ -90,36 +88,10 @@ module _ (g : Grammar) where
           (t .0, close-some g start ms q .exact (t .0) .0 (kept-right g ms (t .0) .0 (t .1) .0), t .2)
 
   module _ (bounded : Bounded g) where
-    -- ---- closing
-    moved : {c d : Config} → Low c → Moves g c d → Low d
-    moved {c} l (enter {a = a} {f = f} b e q) =
-        record {
-          place = omega (arith, bounded .begins a b f q, bounded .small);
-          least = l .least;
-          most = l .most;
-          returns =
-              λ r m. pick r (List·Memᴰ·cases-cons m);
-        }
-      where
-        pick : (r : ℕ) → (r ≡ suc (c .place)) ⊎ In r (c .stack) → r < returnRadix
-        pick r (inl z) = let h = bounded .goes-on (c .place) (bounded .calls (c .place) a e) (λ x. clash (cc)) in omega (arith, bounded .small)
-        pick r (inr m) = l .returns r m
-    moved {c} l (pop {r = r} {s = t} e q) =
-        let h = l .returns r (subst (In r) (sym q) (List·Memᴰ·head refl)) in
-        record { place = omega arith; least = l .least; most = l .most; returns = λ x m. l .returns x (subst (In x) (sym q) (List·Memᴰ·tail m)) }
-    moved {c} l (behind {q = q} e z f) =
-        let h = bounded .goes-on q (bounded .calls q _ f) (λ x. clash (cc)) in
-        record { place = omega (arith, bounded .small); least = l .least; most = l .most; returns = λ x m. absurd (List·Memᴰ·not-nil m) }
-    moved {c} l (end e z o) = record { place = omega arith; least = l .least; most = l .most; returns = λ x m. absurd (List·Memᴰ·not-nil m) }
+    members-fit : (start ms : List Config) → Each (Low Numbered) start → Closure g start ms → Each Storable ms
+    members-fit start ms l h c m = low-fits c (closes-low g bounded Numbered l (h .exact c .0 m)) (h .small c m)
 
-    closes-low : {start : List Config} → Each Low start → {c : Config} → Closes g start c → Low c
-    closes-low h (from {c = c} m) = h c m
-    closes-low h (move r m) = moved (closes-low h r) m
-
-    members-fit : (start ms : List Config) → Each Low start → Closure g start ms → Each Fits ms
-    members-fit start ms l h c m = low-fits c (closes-low l (h .exact c .0 m)) (h .small c m)
-
-    state-keepable : (start ks : List Config) → Each Low start → outcome g start ≡ state ks → Keepable ks
+    state-keepable : (start ks : List Config) → Each (Low Numbered) start → outcome g start ≡ state ks → Keepable ks
     state-keepable start ks l e =
         let h = outcome-state g start ks e in
         let f = members-fit start (h .members) l (h .closure) in
@@ -129,7 +101,7 @@ module _ (g : Grammar) where
           ascending = subst Ascending (h .same) (kept-ascending g (h .members) (h .closure .distinct) (λ c m. fits-packable c (f c m)));
         }
 
-    outcome-recordable : (start : List Config) → Each Low start → Recordable (outcome g start)
+    outcome-recordable : (start : List Config) → Each (Low Numbered) start → Recordable (outcome g start)
     outcome-recordable start l = go (outcome g start) refl
       where
         go : (o : Outcome) → outcome g start ≡ o → Recordable o
@@ -137,41 +109,15 @@ module _ (g : Grammar) where
         go (alternative b) e =
             let t = outcome-one start e in
             let q = t .2 in
-            let h = closes-low l (t .1) in
-            (omega (arith, h .least), omega (arith, h .most))
+            let h = closes-low g bounded Numbered l (t .1) .named in
+            (omega (arith, h .0), omega (arith, h .1))
         go (state ks) e = state-keepable start ks l e
 
     -- ---- starts and steps
-    standing-low : (c : Config) → Standing g c → Low c
-    standing-low c s = record {
-      place = go (s .stands);
-      least = s .least;
-      most = s .most;
-      returns = λ r m. let h = s .returns r m in
-          omega (arith, bounded .small);
-    }
-      where
-        go : {p : ℕ} {t : List ℕ} → At g p t → p ≤ pastEnd
-        go (inside h) = omega (arith, bounded .small)
-        go (last h _) = omega arith
-        go (past h _) = omega arith
-
-    onward-low : (c : Config) → Fits c → (c .place < g .size) ⊎ (c .place ≡ endPlace) → Low (onward c)
-    onward-low c f h = record { place = go h; least = f .least; most = f .most; returns = f .returns }
-      where
-        go : (c .place < g .size) ⊎ (c .place ≡ endPlace) → suc (c .place) ≤ pastEnd
-        go (inl l) = omega (arith, bounded .small)
-        go (inr q) = omega arith
-
-    step-low : (t : ℕ) (ks : List Config) → Each Fits ks → Each Low (stepConfigs g t ks)
-    step-low t ks f c m =
-        let u = step-exact g t ks c .0 m in
-        subst Low (sym (u .is)) (onward-low (u .source) (f (u .source) (u .held)) (bounded .tokens (u .source .place) (u .kind) (u .faces)))
-
     pub start-recordable : (a : ℕ) → Recordable (startOutcome g a)
     unfolding startOutcome
-    start-recordable a = outcome-recordable (startConfigs g a) (λ c m. standing-low c (start-standing g bounded a c m))
+    start-recordable a = outcome-recordable (startConfigs g a) (start-low g bounded Numbered (λ b h l. (h, l)) a)
 
-    pub step-recordable : (t : ℕ) (ks : List Config) → Each Fits ks → Recordable (stepOutcome g t ks)
+    pub step-recordable : (t : ℕ) (ks : List Config) → Each Storable ks → Recordable (stepOutcome g t ks)
     unfolding stepOutcome
-    step-recordable t ks f = outcome-recordable (stepConfigs g t ks) (step-low t ks f)
+    step-recordable t ks f = outcome-recordable (stepConfigs g t ks) (step-low g bounded Numbered t ks (λ c m. fits-returns c (f c m)))

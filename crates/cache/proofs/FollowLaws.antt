@@ -13,7 +13,7 @@ use Rattle.words.specs.Layout.{slots, fullWord, stateWord}
 use Rattle.cache.specs.declared.prediction.Forecast.the-variants.{Alternative, Full}
 use Rattle.cache.specs.Predictor.{predicted}
 use Rattle.cache.specs.Recording.{Learned, learned, askStep}
-use Rattle.cache.specs.Predict.{Meaning, chosen, undecided, at, meaning, meaningOf, follow}
+use Rattle.cache.specs.Predict.{Meaning, chosen, undecided, at, meaning, meaningOf, predictFrom}
 
 -- ---- words
 -- what tells no state and none of n alternatives says FULL
@@ -46,21 +46,21 @@ module _ (g : Grammar) where
   unfolding meaningOf
   meaning-is a l = refl
 
-  pub follow-unsure : (ts : List ℕ) (a : ℕ) (l : Learned) → meaningOf g a l ≡ undecided → follow g a ts l ≡ predicted Full (l .words)
-  unfolding follow
-  follow-unsure [] a l e = rw (follow, e)
-  follow-unsure (t ∷ ts) a l e = rw (follow, e)
+  pub follow-unsure : (ts : List ℕ) (a : ℕ) (l : Learned) → meaningOf g a l ≡ undecided → predictFrom g a ts l ≡ predicted Full (l .words)
+  unfolding predictFrom
+  follow-unsure [] a l e = rw (predictFrom, e)
+  follow-unsure (t ∷ ts) a l e = rw (predictFrom, e)
 
-  pub follow-sure : (ts : List ℕ) (a b : ℕ) (l : Learned) → meaningOf g a l ≡ chosen b → follow g a ts l ≡ predicted (Alternative b) (l .words)
-  unfolding follow
-  follow-sure [] a b l e = rw (follow, e)
-  follow-sure (t ∷ ts) a b l e = rw (follow, e)
+  pub follow-sure : (ts : List ℕ) (a b : ℕ) (l : Learned) → meaningOf g a l ≡ chosen b → predictFrom g a ts l ≡ predicted (Alternative b) (l .words)
+  unfolding predictFrom
+  follow-sure [] a b l e = rw (predictFrom, e)
+  follow-sure (t ∷ ts) a b l e = rw (predictFrom, e)
 
-  pub follow-over : (a s : ℕ) (l : Learned) → meaningOf g a l ≡ at s → follow g a [] l ≡ predicted Full (l .words)
-  unfolding follow
-  follow-over a s l e = rw (follow, e)
+  pub follow-over : (a s : ℕ) (l : Learned) → meaningOf g a l ≡ at s → predictFrom g a [] l ≡ predicted Full (l .words)
+  unfolding predictFrom
+  follow-over a s l e = rw (predictFrom, e)
 
-  pub follow-on : (t : ℕ) (ts : List ℕ) (a s : ℕ) (l : Learned) → meaningOf g a l ≡ at s → follow g a (t ∷ ts) l
-      ≡ follow g a ts (askStep g (l .words) a s t)
-  unfolding follow
-  follow-on t ts a s l e = rw (follow, e)
+  pub follow-on : (t : ℕ) (ts : List ℕ) (a s : ℕ) (l : Learned) → meaningOf g a l ≡ at s → predictFrom g a (t ∷ ts) l
+      ≡ predictFrom g a ts (askStep g (l .words) a s t)
+  unfolding predictFrom
+  follow-on t ts a s l e = rw (predictFrom, e)

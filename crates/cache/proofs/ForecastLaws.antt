@@ -11,7 +11,7 @@ use Rattle.words.specs.Layout.{slots, fullWord, stateWord}
 use Rattle.cache.specs.declared.prediction.Forecast.the-variants.{Alternative, Full}
 use Rattle.cache.specs.Predictor.{Predicted, predicted}
 use Rattle.cache.specs.Recording.{Learned, askStart, askStep}
-use Rattle.cache.specs.Predict.{Meaning, chosen, undecided, at, meaning, meaningOf, follow, predict}
+use Rattle.cache.specs.Predict.{Meaning, chosen, undecided, at, meaning, meaningOf, predictFrom, predict}
 use Rattle.cache.proofs.LengthLaws.{length-askStart, length-askStep}
 use Rattle.cache.proofs.FollowLaws.{meaning-is, follow-unsure, follow-sure, follow-over, follow-on}
 
@@ -38,16 +38,16 @@ module _ (g : Grammar) where
       pub sure : (l : Learned) (b : ℕ) → meaningOf g a l ≡ chosen b → Holds l (predicted (Alternative b) (l .words))
       pub on : (l : Learned) (s t : ℕ) (p : Predicted (List ℕ)) → Holds (askStep g (l .words) a s t) p → Holds l p
 
-    follow-ways : Ways → (ts : List ℕ) (l : Learned) → Holds l (follow g a ts l)
+    follow-ways : Ways → (ts : List ℕ) (l : Learned) → Holds l (predictFrom g a ts l)
     follow-ways h [] l = go (meaningOf g a l) refl
       where
-        go : (m : Meaning) → meaningOf g a l ≡ m → Holds l (follow g a [] l)
+        go : (m : Meaning) → meaningOf g a l ≡ m → Holds l (predictFrom g a [] l)
         go (chosen b) e = rw (follow-sure g [] a b l e) (h .sure l b e)
         go undecided e = rw (follow-unsure g [] a l e) (h .unsure l)
         go (at s) e = rw (follow-over g a s l e) (h .unsure l)
     follow-ways h (t ∷ ts) l = go (meaningOf g a l) refl (λ m. follow-ways h ts m)
       where
-        go : (m : Meaning) → meaningOf g a l ≡ m → ((k : Learned) → Holds k (follow g a ts k)) → Holds l (follow g a (t ∷ ts) l)
+        go : (m : Meaning) → meaningOf g a l ≡ m → ((k : Learned) → Holds k (predictFrom g a ts k)) → Holds l (predictFrom g a (t ∷ ts) l)
         go (chosen b) e rec = rw (follow-sure g (t ∷ ts) a b l e) (h .sure l b e)
         go undecided e rec = rw (follow-unsure g (t ∷ ts) a l e) (h .unsure l)
         go (at s) e rec = rw (follow-on g t ts a s l e) (h .on l s t _ (rec (askStep g (l .words) a s t)))

@@ -13,7 +13,7 @@ use Rattle.configurations.specs.Packing.{packAll}
 use Rattle.lookahead.specs.Rules.{Each}
 use Rattle.words.specs.Layout.{slots, countAt, stepAt}
 use Rattle.words.specs.Words.{word, held, startOf, stepOf, decision, keptWords, keptIn}
-use Rattle.cache.specs.Coherent.{Says, Fits, Slot, Used, Coherent, Extends}
+use Rattle.cache.specs.Coherent.{Says, Storable, Slot, Used, Coherent, Extends}
 use Rattle.cache.proofs.SuitLaws.{Suits}
 use Rattle.cache.proofs.ExtendLaws.{kept-extends, begun-extends}
 use Rattle.cache.proofs.FieldLaws.{Field, of-start, of-step, used-extends}
@@ -45,7 +45,7 @@ module _ (g : Grammar) (bytes : List ℕ) (suits : Suits g bytes) {c c′ : List
         counted = w .counts s h ∙ o .counted ∙ ap length (sym e);
         few = rw e (o .few);
         packed = x .same-kept s h ∙ o .packed ∙ ap packAll (sym e);
-        fitting = subst (Each Fits) (sym e) (o .fitting);
+        fitting = subst (Each Storable) (sym e) (o .fitting);
         ascending = subst Ascending (sym e) (o .ascending);
       }
 

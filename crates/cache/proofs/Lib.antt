@@ -4,6 +4,7 @@ pub mod SuitLaws
 pub mod FitLaws
 pub mod ExtendLaws
 pub mod FieldLaws
+pub mod StayLaws
 pub mod GrowLaws
 pub mod PutLaws
 pub mod NewLaws
@@ -15,6 +16,10 @@ pub mod FollowLaws
 pub mod ForecastLaws
 pub mod PredictLaws
 pub mod PredictorLaws
+pub mod LessonLaws
+pub mod LessonOne
+pub mod LessonGrowth
+pub mod RecordedLaws
 pub mod StateSteps
 pub mod AskSteps
 pub mod PredictSteps

@@ -13,17 +13,18 @@ use Rattle.lookahead.specs.Order.{Ascending}
 use Rattle.lookahead.specs.Outcomes.{Outcome, state}
 use Rattle.configurations.specs.Packing.{packAll, unpackAll}
 use Rattle.lookahead.specs.Rules.{Each}
-use Rattle.configurations.proofs.PackLaws.{unpack-all, length-packAll}
-use Rattle.words.specs.Layout.{keptRoom, fixedWords, slots, heldAt, bytesAt, slotAt, countAt, stepAt, configsAt, stateWord}
-use Rattle.words.specs.Words.{word, held, startOf, stepOf, decision, keptWords, keptIn, addState}
-use Rattle.cache.specs.Predictor.{Decides}
-use Rattle.cache.specs.Coherent.{Says, Fits, Slot, Used, size, its-decision, count, kept, Coherent, Extends}
-use Rattle.words.proofs.WordLaws.{kept-same, Added, added}
+use Rattle.configurations.proofs.PackLaws.{unpack-all}
+use Rattle.words.specs.Layout.{slots, countAt, stepAt, configsAt, stateWord}
+use Rattle.words.specs.Words.{word, held, stepOf, decision, keptWords, keptIn, addState}
+use Rattle.lookahead.specs.Configs.{Decides}
+use Rattle.cache.specs.Coherent.{Says, Storable, Slot, Used, size, its-decision, count, kept, Coherent, Extends}
+use Rattle.words.proofs.WordLaws.{Added}
 use Rattle.cache.proofs.FitLaws.{Keepable, fits-packable}
 use Rattle.cache.proofs.SuitLaws.{Suits}
 use Rattle.cache.proofs.ExtendLaws.{says-extends}
-use Rattle.cache.proofs.FieldLaws.{Cell, start-cell, step-cell, cell-held, cell-slot, cell-count, cell-configs, Field, field-cell, field-says}
+use Rattle.cache.proofs.FieldLaws.{Cell, step-cell, Field, field-cell, field-says}
 use Rattle.cache.proofs.FieldLaws.{unheld-step}
+use Rattle.cache.proofs.StayLaws.{new-added, cell-stays, slot-stays, new-extends}
 use Rattle.cache.proofs.GrowLaws.{Growth, grown}
 
 -- what the words are with a new state of decision a: words that record outcomes stay as they were
@@ -41,39 +42,20 @@ module _ (g : Grammar) (bytes : List ℕ) (suits : Suits g bytes) {c : List ℕ}
 
     new : Added c a ks after
     unfolding after
-    new = added c a ks room (keep .few)
+    new = new-added c a ks room (keep .few)
 
     -- ---- what stays
-    cell-stays : {i : ℕ} → Cell i → word after i ≡ word c i
-    cell-stays {i} x = new .elsewhere i (cell-held x) (cell-slot x (held c)) (cell-count x (held c)) (go (cell-configs x (held c)))
-      where
-        go : (i < configsAt (held c)) ⊎ (configsAt (held c) + keptRoom ≤ i) → (i < configsAt (held c))
-            ⊎ (configsAt (held c) + length (packAll ks) ≤ i)
-        go (inl h) = inl h
-        go (inr h) = inr (omega (arith, length-packAll ks, keep .few))
+    cells : {i : ℕ} → Cell i → word after i ≡ word c i
+    unfolding after
+    cells x = cell-stays c a ks room (keep .few) x
 
-    fixed-stays : (i : ℕ) → (i < heldAt) ⊎ ((bytesAt ≤ i) × (i < fixedWords)) → word after i ≡ word c i
-    fixed-stays i (inl h) = new .elsewhere i (λ e. omega arith) (λ e. omega arith) (λ e. omega arith) (inl (omega arith))
-    fixed-stays i (inr (h, l)) = new .elsewhere i (λ e. omega arith) (λ e. omega arith) (λ e. omega arith) (inl (omega arith))
+    grows : Extends g c after
+    unfolding after
+    grows = new-extends c a ks room (keep .few) g
 
-    -- words of the slots before it
-    slot-stays : (s i : ℕ) → s < held c → slotAt s ≤ i → i < configsAt s + keptRoom → word after i ≡ word c i
-    slot-stays s i h l m = new .elsewhere i (λ e. omega arith) (λ e. omega arith) (λ e. omega arith) (inl (omega arith))
-
-    kept-stays : (s : ℕ) → s < held c → keptWords after s ≡ keptWords c s
-    kept-stays s h = kept-same c after s (new .as-long) (slot-stays s (countAt s) h (omega arith) (omega arith)) (λ i l m. slot-stays s i h (omega arith) m)
-
-    new-extends : Extends g c after
-    unfolding decision startOf stepOf
-    new-extends = record {
-      as-long = new .as-long;
-      same-fixed = fixed-stays;
-      more = omega (arith, new .now-held);
-      same-decision = λ s h. slot-stays s (slotAt s) h (omega arith) (omega arith);
-      same-kept = kept-stays;
-      same-start = λ b h n. cell-stays (start-cell b h refl);
-      same-step = λ s t h l n. cell-stays (step-cell s t l refl);
-    }
+    counts : (s : ℕ) → s < held c → word after (countAt s) ≡ word c (countAt s)
+    unfolding after
+    counts s h = slot-stays c a ks room (keep .few) s (countAt s) h (omega arith) (omega arith)
 
     -- ---- what is new
     its-kept : keptIn after (held c) ≡ ks
@@ -86,7 +68,7 @@ module _ (g : Grammar) (bytes : List ℕ) (suits : Suits g bytes) {c : List ℕ}
       counted = new .its-count ∙ ap length (sym its-kept);
       few = rw its-kept (keep .few);
       packed = new .its-words ∙ ap packAll (sym its-kept);
-      fitting = subst (Each Fits) (sym its-kept) (keep .fitting);
+      fitting = subst (Each Storable) (sym its-kept) (keep .fitting);
       ascending = subst Ascending (sym its-kept) (keep .ascending);
     }
 
@@ -94,7 +76,7 @@ module _ (g : Grammar) (bytes : List ℕ) (suits : Suits g bytes) {c : List ℕ}
     unfolding stepOf
     new-steps t l =
         let m : t ≤ maxKinds = omega (arith, suits .kinds) in
-        cell-stays (step-cell (held c) t m refl) ∙ k .unused (stepAt (held c) t) (unheld-step g suits (held c) t (omega arith) m refl)
+        cells (step-cell (held c) t m refl) ∙ k .unused (stepAt (held c) t) (unheld-step g suits (held c) t (omega arith) m refl)
 
     elsewhere : (i : ℕ) → ¬ Used g bytes after i → word after i ≡ word c i
     elsewhere i n =
@@ -110,15 +92,15 @@ module _ (g : Grammar) (bytes : List ℕ) (suits : Suits g bytes) {c : List ℕ}
 
     new-said : {i b : ℕ} {o : Outcome} → Field g c i b o → word after i ≢ 0 → Says after b (word after i) o
     new-said {i} {b} {o} f n =
-        let e = cell-stays (field-cell g suits f) in
-        rw e (says-extends g new-extends b (word c i) o (field-says g k f (λ z. n (e ∙ z))))
+        let e = cells (field-cell g suits f) in
+        rw e (says-extends g grows b (word c i) o (field-says g k f (λ z. n (e ∙ z))))
 
     growth : Growth g bytes c after
     growth = record {
-      extends = new-extends;
+      extends = grows;
       within = omega (arith, new .now-held, room, ap slots (new .as-long));
       one = omega (arith, new .now-held);
-      counts = λ s h. slot-stays s (countAt s) h (omega arith) (omega arith);
+      counts = counts;
       new-slot = λ h. new-slot;
       new-single = λ h s l d e. fresh s l (d ∙ new .its-decision) (e ∙ new .its-words);
       new-steps = λ h. new-steps;
@@ -130,7 +112,7 @@ module _ (g : Grammar) (bytes : List ℕ) (suits : Suits g bytes) {c : List ℕ}
     unfolding after
     new-state = record {
       coherent = grown g bytes suits k growth;
-      extends = new-extends;
+      extends = grows;
       says = (held c, refl, omega (arith, new .now-held), new .its-decision, new .its-words);
-      cells = λ x. cell-stays x;
+      cells = λ x. cells x;
     }

@@ -11,7 +11,7 @@ use lib.ListN.{length, drop}
 use borrow.Author.Tests.{ltb-true, ltb-false}
 use Rattle.grammar.specs.Limits.{maxProductions}
 use Rattle.grammar.specs.Grammar.{Grammar, alternatives, first}
-use Rattle.grammar.specs.Ordered.{Ordered}
+use Rattle.grammar.specs.inside.Ordered.{Ordered}
 use Rattle.derivation.specs.Runs.{Run}
 use Rattle.derivation.proofs.Notes.{get-of-drop, get-lt}
 use Rattle.lookahead.specs.Configs.{Config}
@@ -28,8 +28,8 @@ use Rattle.cache.specs.Recording.{Learned, learned, askStart, askStep}
 use Rattle.cache.specs.declared.prediction.Forecast.the-variants.{Alternative}
 use Rattle.cache.specs.Predictor.{Predicted, predicted, FullOr}
 use Rattle.cache.specs.Predictor as predictor
-use Rattle.cache.specs.Predict.{chosen, undecided, at, meaning, meaningOf, follow, predict}
-use Rattle.cache.specs.Predictor.{Decides}
+use Rattle.cache.specs.Predict.{chosen, undecided, at, meaning, meaningOf, predictFrom, predict}
+use Rattle.lookahead.specs.Configs.{Decides}
 use Rattle.cache.specs.Coherent.{Says, Coherent, Extends}
 use Rattle.cache.proofs.FollowLaws.{meaning-none, meaning-chosen, meaning-state, meaning-is, meaning-same, follow-unsure, follow-sure, follow-over}
 use Rattle.cache.proofs.FollowLaws.{follow-on}
@@ -87,16 +87,16 @@ module _ (g : Grammar) (bytes : List ℕ) (suits : Suits g bytes) where
 
   abbrev Grows : List ℕ → Type 0
   Grows ts = (a : ℕ) (l : Learned) (o : Outcome) → Coherent g bytes (l .words) → Meant g a l o → Tokens ts
-      → Grown (l .words) ((follow g a ts l) .state)
+      → Grown (l .words) ((predictFrom g a ts l) .state)
 
   grow-none : Grows []
-  grow-none a l o h (unsure e) k = still (l .words) ((follow g a [] l) .state) (rw (follow-unsure g [] a l e)) h
-  grow-none a l o h (sure b e) k = still (l .words) ((follow g a [] l) .state) (rw (follow-sure g [] a b l e)) h
-  grow-none a l o h (stands s ks e _ _ _) k = still (l .words) ((follow g a [] l) .state) (rw (follow-over g a s l e)) h
+  grow-none a l o h (unsure e) k = still (l .words) ((predictFrom g a [] l) .state) (rw (follow-unsure g [] a l e)) h
+  grow-none a l o h (sure b e) k = still (l .words) ((predictFrom g a [] l) .state) (rw (follow-sure g [] a b l e)) h
+  grow-none a l o h (stands s ks e _ _ _) k = still (l .words) ((predictFrom g a [] l) .state) (rw (follow-over g a s l e)) h
 
   grow-on : (t : ℕ) (ts : List ℕ) → Grows ts → Grows (t ∷ ts)
-  grow-on t ts rec a l o h (unsure e) k = still (l .words) ((follow g a (t ∷ ts) l) .state) (rw (follow-unsure g (t ∷ ts) a l e)) h
-  grow-on t ts rec a l o h (sure b e) k = still (l .words) ((follow g a (t ∷ ts) l) .state) (rw (follow-sure g (t ∷ ts) a b l e)) h
+  grow-on t ts rec a l o h (unsure e) k = still (l .words) ((predictFrom g a (t ∷ ts) l) .state) (rw (follow-unsure g (t ∷ ts) a l e)) h
+  grow-on t ts rec a l o h (sure b e) k = still (l .words) ((predictFrom g a (t ∷ ts) l) .state) (rw (follow-sure g (t ∷ ts) a b l e)) h
   grow-on t ts rec a l o h (stands s ks e m d _) k =
       let x = ask-step g bytes suits (l .words) a s t h m (k t (List·Memᴰ·head refl)) d in
       let y = rec a (askStep g (l .words) a s t) (stepOutcome g t (keptIn (l .words) s)) (x .coherent) (asked-meant x) (λ u n. k u (List·Memᴰ·tail n)) in
@@ -127,10 +127,10 @@ module _ (g : Grammar) (bytes : List ℕ) (suits : Suits g bytes) where
     abbrev Agrees : List ℕ → Type 0
     Agrees ts = (a : ℕ) (l : Learned) (o : Outcome) (i : ℕ) → Coherent g bytes (l .words) → Meant g a l o → Given a o → Tokens ts
         → Allows g ordered b w i o → drop i w ≡ ts
-        → FullOr b ((follow g a ts l) .forecast)
+        → FullOr b ((predictFrom g a ts l) .forecast)
 
     agree-sure : (ts : List ℕ) (a b′ : ℕ) (l : Learned) (i : ℕ) → meaningOf g a l ≡ chosen b′ → Allows g ordered b w i (alternative b′)
-        → (follow g a ts l) .forecast ≡ Alternative b
+        → (predictFrom g a ts l) .forecast ≡ Alternative b
     agree-sure ts a b′ l i e this = rw (follow-sure g ts a b l e)
 
     agree-none : Agrees []
@@ -141,7 +141,7 @@ module _ (g : Grammar) (bytes : List ℕ) (suits : Suits g bytes) where
     agree-step : (t : ℕ) (ts : List ℕ) → Agrees ts → (a : ℕ) (l : Learned) (s : ℕ) (ks : List Config) (i : ℕ) → Coherent g bytes (l .words)
         → meaningOf g a l ≡ at s → s < held (l .words) → decision (l .words) s ≡ a → keptWords (l .words) s ≡ packAll ks
         → States g a ks → Tokens (t ∷ ts) → Allows g ordered b w i (state ks) → drop i w ≡ t ∷ ts
-        → FullOr b ((follow g a (t ∷ ts) l) .forecast)
+        → FullOr b ((predictFrom g a (t ∷ ts) l) .forecast)
     agree-step t ts rec a l s ks i h e m d z v k (over q) p = absurd (omega (arith, get-lt w i (get-of-drop w i p .0)))
     agree-step t ts rec a l s ks i h e m d z v k (there f) p =
         let x = ask-step g bytes suits (l .words) a s t h m (k t (List·Memᴰ·head refl)) d in
@@ -178,16 +178,16 @@ module _ (g : Grammar) (bytes : List ℕ) (suits : Suits g bytes) where
   -- ---- a prediction again
   abbrev Again : List ℕ → Type 0
   Again ts = (a : ℕ) (l : Learned) (o : Outcome) (d : List ℕ) → Coherent g bytes (l .words) → Meant g a l o → Tokens ts → Coherent g bytes d
-      → Extends g ((follow g a ts l) .state) d → length d ≡ length (l .words) → follow g a ts (learned (l .said) d)
-      ≡ predicted ((follow g a ts l) .forecast) d
+      → Extends g ((predictFrom g a ts l) .state) d → length d ≡ length (l .words) → predictFrom g a ts (learned (l .said) d)
+      ≡ predicted ((predictFrom g a ts l) .forecast) d
 
   again-unsure : (ts : List ℕ) (a : ℕ) (l : Learned) (d : List ℕ) → length d ≡ length (l .words) → meaningOf g a l ≡ undecided
-      → follow g a ts (learned (l .said) d) ≡ predicted ((follow g a ts l) .forecast) d
+      → predictFrom g a ts (learned (l .said) d) ≡ predicted ((predictFrom g a ts l) .forecast) d
   again-unsure ts a l d n e = let e′ : meaningOf g a (learned (l .said) d) ≡ undecided = meaning-same g a l d n ∙ e in
       rw (follow-unsure g ts a (learned (l .said) d) e′, follow-unsure g ts a l e)
 
   again-sure : (ts : List ℕ) (a b : ℕ) (l : Learned) (d : List ℕ) → length d ≡ length (l .words) → meaningOf g a l ≡ chosen b
-      → follow g a ts (learned (l .said) d) ≡ predicted ((follow g a ts l) .forecast) d
+      → predictFrom g a ts (learned (l .said) d) ≡ predicted ((predictFrom g a ts l) .forecast) d
   again-sure ts a b l d n e = let e′ : meaningOf g a (learned (l .said) d) ≡ chosen b = meaning-same g a l d n ∙ e in
       rw (follow-sure g ts a b (learned (l .said) d) e′, follow-sure g ts a b l e)
 
@@ -206,11 +206,11 @@ module _ (g : Grammar) (bytes : List ℕ) (suits : Suits g bytes) where
       let y = ask-step g bytes suits (l .words) a s t h m (k t (List·Memᴰ·head refl)) z in
       let l′ = askStep g (l .words) a s t in
       let more : Tokens ts = λ u v. k u (List·Memᴰ·tail v) in
-      let x′ : Extends g ((follow g a ts l′) .state) d = subst (λ (f : Predicted (List ℕ)). Extends g (f .state) d) (follow-on g t ts a s l e) x in
+      let x′ : Extends g ((predictFrom g a ts l′) .state) d = subst (λ (f : Predicted (List ℕ)). Extends g (f .state) d) (follow-on g t ts a s l e) x in
       let grown = follow-grows ts a l′ (stepOutcome g t (keptIn (l .words) s)) (y .coherent) (asked-meant y) more in
       let said = again-step g bytes suits (l .words) d a s t h m (k t (List·Memᴰ·head refl)) z j (extends-trans g _ _ _ (grown .extends) x′) in
       let n′ : length d ≡ length (l′ .words) = n ∙ sym (y .extends .as-long) in
-      follow-on g t ts a s (learned (l .said) d) e′ ∙ ap (follow g a ts) said
+      follow-on g t ts a s (learned (l .said) d) e′ ∙ ap (predictFrom g a ts) said
       ∙ (rw (follow-on g t ts a s l e) (rec a l′ (stepOutcome g t (keptIn (l .words) s)) d (y .coherent) (asked-meant y) more j x′ n′))
 
   follow-again : (ts : List ℕ) → Again ts
@@ -226,5 +226,5 @@ module _ (g : Grammar) (bytes : List ℕ) (suits : Suits g bytes) where
       let y = ask-start g bytes suits c a h z in
       let grown = follow-grows ts a (askStart g c a) (startOutcome g a) (y .coherent) (asked-meant y) k in
       let e = extends-trans g _ _ _ (grown .extends) x in
-      ap (follow g a ts) (again-start g bytes suits c d a h z j e)
+      ap (predictFrom g a ts) (again-start g bytes suits c d a h z j e)
       ∙ follow-again ts a (askStart g c a) (startOutcome g a) d (y .coherent) (asked-meant y) k j x (e .as-long)

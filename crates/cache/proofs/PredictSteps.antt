@@ -11,9 +11,9 @@ use lib.ListN.{length, getD, getElem?, drop, drop-of-length-le}
 use borrow.Author.Tests.{ltb-true, ltb-false}
 use Rattle.grammar.specs.Limits.{maxKinds}
 use Rattle.grammar.specs.Grammar.{Grammar, alternatives, compile}
-use Rattle.grammar.specs.Tables.{grammarIn}
+use Rattle.grammar.specs.inside.Tables.{grammarIn}
 use Rattle.derivation.specs.Runs.{marked}
-use Rattle.derivation.specs.Ready.{Ready}
+use Rattle.derivation.specs.inside.Ready.{Ready}
 use Rattle.derivation.specs.Demand2.{Known}
 use Rattle.derivation.proofs.Notes.{drop-of-get, get-lt}
 use Rattle.derivation.proofs.MarkedCells.{length-marked}
@@ -22,7 +22,7 @@ use Rattle.words.specs.Layout.{slots, fullWord, stateWord}
 use Rattle.cache.specs.declared.prediction.Forecast.the-variants.{Alternative, Full}
 use Rattle.cache.specs.Predictor.{Predicted, predicted}
 use Rattle.cache.specs.Recording.{Learned, learned, askStart, askStep}
-use Rattle.cache.specs.Predict.{chosen, undecided, at, meaning, meaningOf, follow, predict}
+use Rattle.cache.specs.Predict.{chosen, undecided, at, meaning, meaningOf, predictFrom, predict}
 use Rattle.cache.proofs.LengthLaws.{length-askStart, length-askStep}
 use Rattle.cache.proofs.FollowLaws.{meaning-none, meaning-beyond, meaning-chosen, meaning-state, meaning-is}
 use Rattle.cache.proofs.FollowLaws.{follow-unsure, follow-sure, follow-over, follow-on}
@@ -30,7 +30,7 @@ use Rattle.cache.proofs.FollowLaws.{follow-unsure, follow-sure, follow-
 module _ (g : Grammar) (a : ℕ) (w : List ℕ) where
   -- where a prediction stands: this was said of what lies before position j, and the rest is left
   pub record Asking (end : Predicted (List ℕ)) (j said : ℕ) (c : List ℕ) : Type 0 where
-    pub is : follow g a (drop j (marked w)) (learned said c) ≡ end
+    pub is : predictFrom g a (drop j (marked w)) (learned said c) ≡ end
 
   module _ {end : Predicted (List ℕ)} {j said : ℕ} {c : List ℕ} (x : Asking end j said c) where
     abbrev count : ℕ
@@ -50,9 +50,9 @@ module _ (g : Grammar) (a : ℕ) (w : List ℕ) where
       asking-on {t} h q z =
           rw (add-one j)
           (record {
-            is = ap (follow g a (drop (suc j) (marked w))) z
+            is = ap (predictFrom g a (drop (suc j) (marked w))) z
                 ∙ sym (follow-on g t (drop (suc j) (marked w)) a (r - stateWord 0) (learned said c) (standing h))
-                ∙ ap (λ (ts : List ℕ). follow g a ts (learned said c)) (sym (drop-of-get (marked w) j q)) ∙ x .is;
+                ∙ ap (λ (ts : List ℕ). predictFrom g a ts (learned said c)) (sym (drop-of-get (marked w) j q)) ∙ x .is;
           })
 
       pub asking-beyond : n ≤ r - stateWord 0 → predicted Full c ≡ end
@@ -61,7 +61,7 @@ module _ (g : Grammar) (a : ℕ) (w : List ℕ) where
       pub asking-over : r - stateWord 0 < n → length w < j → predicted Full c ≡ end
       asking-over h m =
           sym (follow-over g a (r - stateWord 0) (learned said c) (standing h))
-          ∙ ap (λ (ts : List ℕ). follow g a ts (learned said c)) (sym (drop-of-length-le (marked w) {i = j} (omega (arith, length-marked w)))) ∙ x .is
+          ∙ ap (λ (ts : List ℕ). predictFrom g a ts (learned said c)) (sym (drop-of-length-le (marked w) {i = j} (omega (arith, length-marked w)))) ∙ x .is
 
     -- no state was said, and r is that as a number
     module _ {r : ℕ} (e : r ≡ said) (l : said ≤ fullWord) where
@@ -75,9 +75,9 @@ module _ (g : Grammar) (a : ℕ) (w : List ℕ) where
           (meaning-is g a (learned said c) ∙ meaning-chosen count (slots (length c)) said (omega arith) (omega arith) l)) ∙ x .is
 
 -- a prediction begins as its decision's start says
-pub predict-starts : (g : Grammar) (c : List ℕ) (a : ℕ) (ts : List ℕ) {l : Learned} → l ≡ askStart g c a → follow g a ts l ≡ predict g c a ts
+pub predict-starts : (g : Grammar) (c : List ℕ) (a : ℕ) (ts : List ℕ) {l : Learned} → l ≡ askStart g c a → predictFrom g a ts l ≡ predict g c a ts
 unfolding predict
-predict-starts g c a ts e = ap (follow g a ts) e
+predict-starts g c a ts e = ap (predictFrom g a ts) e
 
 -- what is asked keeps the cache's length, so the count of its slots
 words-kept : {l m : Learned} {n : ℕ} → l ≡ m → length (m .words) ≡ n → length (l .words) ≡ n

@@ -3,7 +3,7 @@ use mathlib.Core.List.{List, [], _∷_, List·Memᴰ·tail}
 use Prim.Native.Nat.{ℕ, zero, suc, _<_}
 use lib.ListN.{length, drop}
 use Rattle.grammar.specs.Grammar.{Grammar}
-use Rattle.grammar.specs.Ordered.{Ordered}
+use Rattle.grammar.specs.inside.Ordered.{Ordered}
 use Rattle.lookahead.specs.Configs.{In}
 use Rattle.lookahead.proofs.Following.{Valid}
 use Rattle.lookahead.proofs.Agreeing.{Marked}
@@ -14,7 +14,7 @@ use Rattle.cache.proofs.SuitLaws.{Suits}
 use Rattle.cache.proofs.PredictLaws.{Tokens, predict-grows, predict-agrees, predict-again}
 
 -- what is left of a note
-in-drop : {A : Type 0} {t : A} (i : ℕ) (l : List A) → In t (drop i l) → In t l
+pub in-drop : {A : Type 0} {t : A} (i : ℕ) (l : List A) → In t (drop i l) → In t l
 in-drop zero l m = m
 in-drop (suc i) [] m = m
 in-drop (suc i) (x ∷ l) m = List·Memᴰ·tail (in-drop i l m)

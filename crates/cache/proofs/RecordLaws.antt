@@ -14,14 +14,14 @@ use Rattle.lookahead.specs.Outcomes.{Outcome, full, alternative, state, startOu
 use Rattle.words.specs.Layout.{slots, startAt, stepAt, fullWord, stateWord}
 use Rattle.words.specs.Words.{word, held, startOf, stepOf, decision, keptIn, setStart, setStep, addState}
 use Rattle.cache.specs.Recording.{Learned, learned, find, recordNew, recordOutcome, askStart, askStep}
-use Rattle.cache.specs.Predictor.{Decides}
+use Rattle.lookahead.specs.Configs.{Decides}
 use Rattle.cache.specs.Coherent.{Says, Coherent, Extends}
 use Rattle.cache.proofs.FitLaws.{Recordable, start-recordable, step-recordable}
 use Rattle.cache.proofs.SuitLaws.{Suits}
 use Rattle.cache.proofs.ExtendLaws.{extends-refl, extends-trans, says-extends}
 use Rattle.cache.proofs.FieldLaws.{Field, of-start, of-step, field-cell, field-extends, field-says}
 use Rattle.cache.proofs.FindLaws.{find-some, find-none}
-use Rattle.cache.proofs.PutLaws.{put-coherent, put-extends}
+use Rattle.cache.proofs.PutLaws.{put-coherent, put-grows}
 use Rattle.cache.proofs.NewLaws.{Fresh, new-state}
 
 -- what asking for the outcome o of decision a comes to
@@ -71,7 +71,7 @@ module _ (g : Grammar) (bytes : List ℕ) (suits : Suits g bytes) where
   put-asked : {c : List ℕ} → Coherent g bytes c → {i a : ℕ} {o : Outcome} → Field g c i a o → word c i ≡ 0 → (w : ℕ) → Says c a w o
       → Asked g bytes c a o (learned w (set c i w))
   put-asked {c} k {i} {a} {o} f z w y =
-      let x = put-extends g bytes suits k f w z in
+      let x = put-grows g bytes suits k f w z in
       record { coherent = put-coherent g bytes suits k f w z y; extends = x; says = inr (says-extends g x a w o y) }
 
   module _ {c : List ℕ} (k : Coherent g bytes c) {i a : ℕ} where

@@ -12,14 +12,14 @@ use lib.Seq.{sets, length-sets}
 use borrow.Author.Tests.{lt-ltb, le-ltb, eq-eqb, ne-eqb}
 use Rattle.base.specs.Search.{lowestFrom}
 use Rattle.base.proofs.Booleans.{clash, and-none, true→T}
-use Rattle.base.proofs.Lowest.{lowest-begin, lowest-none, lowest-hit, lowest-next}
+use Rattle.base.proofs.Lowest.{lowest-none, lowest-hit, lowest-next}
 use Rattle.lookahead.specs.Closing.{sameList}
 use Rattle.lookahead.proofs.AddLaws.{same-list}
 use Rattle.configurations.specs.Packing.{configWords}
 use Rattle.words.specs.Layout.{slotHead, stateWord, heldAt, maxSlots, slotWords, slots, slotAt, configsAt, fullWord}
 use Rattle.words.specs.Words.{held, decision, keptCount, keptWords, searched}
 use Rattle.cache.specs.Recording.{Learned, learned}
-use Rattle.cache.specs.ByWords.{holdsWords, findWords, foundIn, addWords, sayWord, newWords, onFound, stateWords}
+use Rattle.cache.specs.inside.ByWords.{holdsWords, findWords, foundIn, addWords, sayWord, newWords, onFound, stateWords}
 use Rattle.cache.specs.declared.recording.Found.{Found}
 use Rattle.cache.specs.declared.recording.Found.the-variants.{Slot, Nowhere}
 use Rattle.words.proofs.WordLaws.{slot-within}
@@ -54,29 +54,29 @@ module _ (c : List ℕ) (a : ℕ) (vs : List ℕ) (s : ℕ) {d : ℕ} (e : d ≡
     unfolding holdsWords keptWords
     same-decision h m {at} p q = rw (eq-eqb (decision c s) a (sym e ∙ h), ← f, m, ← p) q
 
--- ---- the search: so many slots are not yet looked at
+-- ---- the search: the slots from s on are not yet looked at
 unfoldable pub Seeking : List ℕ → ℕ → List ℕ → ℕ → ℕ → Type 0
 unfolding lowestFrom findWords holdsWords
-Seeking c a vs count left = lowestFrom (holdsWords c a vs) (count - left) left ≡ findWords c a vs
+Seeking c a vs count s = lowestFrom (holdsWords c a vs) s (count - s) ≡ findWords c a vs
 
 module _ (c : List ℕ) (a : ℕ) (vs : List ℕ) (count : ℕ) where
-  pub seek-begins : count ≡ searched c → Seeking c a vs count count
+  pub seek-begins : count ≡ searched c → Seeking c a vs count 0
   unfolding Seeking findWords
-  seek-begins e = lowest-begin (holdsWords c a vs) count ∙ ap (lowestFrom (holdsWords c a vs) 0) e
+  seek-begins e = let z : count - 0 ≡ searched c = omega arith in ap (lowestFrom (holdsWords c a vs) 0) z
 
-  module _ (left : ℕ) (x : Seeking c a vs count left) where
-    pub seek-ends : left ≤ 0 → Nowhere ≡ foundIn (findWords c a vs)
+  module _ (s : ℕ) (x : Seeking c a vs count s) where
+    pub seek-ends : count ≤ s → Nowhere ≡ foundIn (findWords c a vs)
     unfolding Seeking
-    seek-ends l = ap foundIn (lowest-none (holdsWords c a vs) (count - left) left x (omega arith))
+    seek-ends l = ap foundIn (lowest-none (holdsWords c a vs) s (count - s) x (omega arith))
 
-    module _ (l : 0 < left) {r : Bool} (e : r ≡ holdsWords c a vs (count - left)) where
-      pub seek-hit : r ≡ true → Slot (count - left) ≡ foundIn (findWords c a vs)
+    module _ (l : s < count) {r : Bool} (e : r ≡ holdsWords c a vs s) where
+      pub seek-hit : r ≡ true → Slot s ≡ foundIn (findWords c a vs)
       unfolding Seeking
-      seek-hit h = ap foundIn (lowest-hit (holdsWords c a vs) (count - left) left x l (sym e ∙ h))
+      seek-hit h = ap foundIn (lowest-hit (holdsWords c a vs) s (count - s) x (omega arith) (sym e ∙ h))
 
-      pub seek-next : left ≤ count → r ≡ false → Seeking c a vs count (left - 1)
+      pub seek-next : r ≡ false → Seeking c a vs count (s + 1)
       unfolding Seeking
-      seek-next m h = lowest-next (holdsWords c a vs) count left x l m (sym e ∙ h)
+      seek-next h = lowest-next (holdsWords c a vs) count s x l (sym e ∙ h)
 
 pub searched-low : (c : List ℕ) (s : ℕ) → s < searched c → s < slots (length c)
 unfolding searched

@@ -8,14 +8,15 @@ use lib.ListN.{length}
 use Rattle.grammar.specs.Limits.{maxNonterminals, maxKinds}
 use Rattle.grammar.specs.Decode.{Rules, Mark, got, decode}
 use Rattle.grammar.specs.Grammar.{Grammar, Limited, compile}
+use Rattle.grammar.proofs.ByteLaws.{decode-few}
 use Rattle.grammar.proofs.GrammarLaws.{no-alternatives}
 use Rattle.grammar.proofs.PlaceLaws.{length-startsAll}
 use Rattle.reader.proofs.ReadLaws.{decode-limited}
 use Rattle.lookahead.proofs.Bounds.{Bounded, compile-bounded}
 use Rattle.words.specs.Layout.{fixedWords, bytesAt}
 use Rattle.words.specs.Begin.{packBytes}
-use Rattle.cache.specs.Predictor.{Decides}
-use Rattle.words.proofs.ByteLaws.{packed-few, decode-few}
+use Rattle.lookahead.specs.Configs.{Decides}
+use Rattle.words.proofs.SizeLaws.{packed-few}
 
 pub record Suits (g : Grammar) (bytes : List ℕ) : Type 0 where
   pub bounded : Bounded g
@@ -23,7 +24,7 @@ pub record Suits (g : Grammar) (bytes : List ℕ) : Type 0 where
   pub decisions : (a : ℕ) → Decides g a → a < maxNonterminals
   pub packed : bytesAt + length (packBytes bytes) ≤ fixedWords
 
-compile-decisions : (r : Rules) → Limited r → (a : ℕ) → Decides (compile r) a → a < maxNonterminals
+pub compile-decisions : (r : Rules) → Limited r → (a : ℕ) → Decides (compile r) a → a < maxNonterminals
 unfolding compile
 compile-decisions r limits a d = go (decLt a (length (compile r .starts)))
   where

@@ -16,7 +16,7 @@ use Rattle.lookahead.specs.Rules.{Each}
 use Rattle.words.specs.Layout.{minWords, fixedWords, slots, heldAt, startAt, bytesAt, slotAt, countAt, stepAt, configsAt, fullWord, stateWord}
 use Rattle.configurations.specs.Packing.{packAll}
 use Rattle.words.specs.Words.{word, held, startOf, stepOf, decision, keptWords, keptIn}
-use Rattle.cache.specs.Predictor.{Decides}
+use Rattle.lookahead.specs.Configs.{Decides}
 use Rattle.words.specs.Begin.{packBytes, begun?}
 
 -- the word w says the outcome o of decision a
@@ -26,7 +26,7 @@ Says c a w (alternative b) = (w ≡ b) × (1 ≤ b) × (b ≤ maxProductions)
 Says c a w (state ks) = (s : ℕ) × (w ≡ stateWord s) × (s < held c) × (decision c s ≡ a) × (keptWords c s ≡ packAll ks)
 
 -- a configuration that three words hold
-pub record Fits (k : Config) : Type 0 where
+pub record Storable (k : Config) : Type 0 where
   pub place : k .place ≤ pastEnd
   pub least : 1 ≤ k .alternative
   pub most : k .alternative ≤ maxProductions
@@ -39,7 +39,7 @@ pub record Slot (g : Grammar) (c : List ℕ) (s : ℕ) : Type 0 where
   pub counted : word c (countAt s) ≡ length (keptIn c s)
   pub few : length (keptIn c s) ≤ maxKept
   pub packed : keptWords c s ≡ packAll (keptIn c s)
-  pub fitting : Each Fits (keptIn c s)
+  pub fitting : Each Storable (keptIn c s)
   pub ascending : Ascending (keptIn c s)
 
 -- the words of the documented fields

@@ -1,7 +1,7 @@
 -- The lookahead cache: what is recorded, what it predicts, and which words are coherent.
-pub mod Calls
 pub mod Recording
-pub mod ByWords
 pub mod Predictor
 pub mod Predict
 pub mod Coherent
+pub mod Lessons
+pub mod inside

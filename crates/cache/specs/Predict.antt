@@ -28,17 +28,17 @@ unfolding meaning slots alternatives
 meaningOf g a l = meaning (length (alternatives g a)) (slots (length (l .words))) (l .said)
 
 -- from what was said last, over these tokens, the end mark included: what is predicted, and the cache after it
-unfoldable pub follow : Grammar → ℕ → List ℕ → Learned → Predicted (List ℕ)
+unfoldable pub predictFrom : Grammar → ℕ → List ℕ → Learned → Predicted (List ℕ)
 unfolding meaningOf askStep
-follow g a [] l =
+predictFrom g a [] l =
     elim (meaningOf g a l) [ chosen b ↦ predicted (Alternative b) (l .words) | undecided ↦ predicted Full (l .words) | at s ↦ predicted Full (l .words) ]
-follow g a (t ∷ ts) l =
+predictFrom g a (t ∷ ts) l =
     elim (meaningOf g a l) [
       | chosen b ↦ predicted (Alternative b) (l .words)
       | undecided ↦ predicted Full (l .words)
-      | at s ↦ follow g a ts (askStep g (l .words) a s t)
+      | at s ↦ predictFrom g a ts (askStep g (l .words) a s t)
     ]
 
 unfoldable pub predict : Grammar → List ℕ → ℕ → List ℕ → Predicted (List ℕ)
-unfolding follow askStart
-predict g c a ts = follow g a ts (askStart g c a)
+unfolding predictFrom askStart
+predict g c a ts = predictFrom g a ts (askStart g c a)

@@ -4,12 +4,13 @@ use mathlib.Core.Path.{_≡_}
 use mathlib.Core.Logic.{_⊎_}
 use mathlib.Core.Option.{some}
 use mathlib.Core.List.{List, _∷_}
-use Prim.Native.Nat.{ℕ, _<_}
-use lib.ListN.{length, drop}
-use Rattle.grammar.specs.Grammar.{Grammar, alternatives, first}
+use Prim.Native.Nat.{ℕ}
+use lib.ListN.{drop}
+use Rattle.grammar.specs.Grammar.{Grammar, first}
 use Rattle.derivation.specs.Runs.{Opens}
 use Rattle.cache.specs.declared.prediction.Forecast.{Forecast}
 use Rattle.cache.specs.declared.prediction.Forecast.the-variants.{Alternative, Full}
+use Rattle.lookahead.specs.Configs.{Decides}
 
 -- what is predicted, and the state after it
 pub record Predicted (C : Type 0) : Type 0 where
@@ -22,10 +23,6 @@ predicted x c = record { forecast = x; state = c }
 -- a predictor: from a state, what it says of a decision over the tokens that are left, the end mark included, and the state that it leaves
 abbrev pub Predicts : Type 0 → Type 0
 Predicts C = C → ℕ → List ℕ → Predicted C
-
--- a nonterminal of two or more productions
-abbrev pub Decides : Grammar → ℕ → Type 0
-Decides g a = 1 < length (alternatives g a)
 
 -- FULL, or alternative b
 abbrev pub FullOr : ℕ → Forecast → Type 0

@@ -1,4 +1,4 @@
--- What is recorded: outcomes that are looked up, or else worked out and recorded (document 01, "What the cache learns").
+-- What is recorded: outcomes that are looked up, or else worked out and recorded (the scope, "What the cache learns").
 use mathlib.Core.Bool.{Bool, true, false, _&&_, cond}
 use mathlib.Core.Option.{Option, none, some}
 use mathlib.Core.List.{List}

@@ -1,17 +1,17 @@
 // Outcomes of starts and steps: as recorded, or worked out and recorded. What is recorded costs one word.
 use configurations::CONFIG_WORDS;
-use configurations::KEPT_WORDS;
+use configurations::MEMBER_WORDS;
 use learning::Outcome;
 use words::layout::STARTS_AT;
 ghost use mathlib.Core.Path.{_≡_};
 ghost use Prim.Native.Nat.{_<_, _^_};
 ghost use lib.ListN.{length};
-ghost use Rattle.grammar.specs.Tables.{grammarIn};
+ghost use Rattle.grammar.specs.inside.Tables.{grammarIn};
 ghost use Rattle.lookahead.specs.Outcomes.{stepOutcome};
-ghost use Rattle.configurations.specs.Packing.{keptWords};
-ghost use Rattle.learning.specs.Told.{Tells};
+ghost use Rattle.configurations.specs.inside.Packed.{memberWords};
+ghost use Rattle.learning.specs.inside.Told.{Tells};
 ghost use Rattle.words.specs.Words.{startOf, keptIn};
-ghost use Rattle.cache.specs.Calls.{Askable, Steppable, Unstepped};
+ghost use Rattle.cache.specs.inside.Calls.{Askable, Steppable, Unstepped};
 ghost use Rattle.cache.specs.Recording.{learned, askStart, askStep};
 
 // The outcome of the start of decision a, worked out and recorded.
@@ -19,9 +19,9 @@ fn learn_start(tables: &[u16], cache: &mut [u32], a: usize) -> u32
     requires { ⌜ Askable (now tables) (now cache) a × (startOf (now cache) a ≡ 0) ⌝ }
     ensures { λ r. ⌜ learned r (now (cache .exit)) ≡ askStart (grammarIn (now (tables .entry))) (now (cache .entry)) a ⌝ }
 {
-    let mut kept = [0u32; KEPT_WORDS];
-    let outcome = learning::start(tables, a, &mut kept);
-    crate::recording::record_outcome(cache, STARTS_AT + a, a, outcome, &kept)
+    let mut members = [0u32; MEMBER_WORDS];
+    let outcome = learning::start(tables, a, &mut members);
+    crate::recording::record_outcome(cache, STARTS_AT + a, a, outcome, &members)
 }
 
 // The outcome of the start of decision a.
@@ -37,13 +37,13 @@ pub fn ask_start(tables: &[u16], cache: &mut [u32], a: usize) -> u32
 }
 
 // The outcome of the step of slot s over token t, worked out.
-fn step_outcome(tables: &[u16], cache: &[u32], s: usize, t: usize, kept: &mut [u32]) -> Outcome
-    requires { ⌜ Steppable (now tables) (now cache) s t × (length (now kept) ≡ keptWords) ⌝ }
-    ensures { λ r. ⌜ Tells r (now (kept .exit)) (stepOutcome (grammarIn (now (tables .entry))) t (keptIn (now (cache .entry)) s)) ⌝ }
+fn step_outcome(tables: &[u16], cache: &[u32], s: usize, t: usize, members: &mut [u32]) -> Outcome
+    requires { ⌜ Steppable (now tables) (now cache) s t × (length (now members) ≡ memberWords) ⌝ }
+    ensures { λ r. ⌜ Tells r (now (members .exit)) (stepOutcome (grammarIn (now (tables .entry))) t (keptIn (now (cache .entry)) s)) ⌝ }
 {
     let from = words::slots::configs_at(s);
     let n = words::slots::kept_count(cache, s);
-    learning::step(tables, t, &cache[from..from + CONFIG_WORDS * n], kept)
+    learning::step(tables, t, &cache[from..from + CONFIG_WORDS * n], members)
 }
 
 // The same, recorded.
@@ -51,9 +51,9 @@ fn learn_step(tables: &[u16], cache: &mut [u32], a: usize, s: usize, t: usize) -
     requires { ⌜ Steppable (now tables) (now cache) s t × Unstepped (now cache) a s t ⌝ }
     ensures { λ r. ⌜ learned r (now (cache .exit)) ≡ askStep (grammarIn (now (tables .entry))) (now (cache .entry)) a s t ⌝ }
 {
-    let mut kept = [0u32; KEPT_WORDS];
-    let outcome = step_outcome(tables, cache, s, t, &mut kept);
-    crate::recording::record_outcome(cache, words::slots::step_at(s, t), a, outcome, &kept)
+    let mut members = [0u32; MEMBER_WORDS];
+    let outcome = step_outcome(tables, cache, s, t, &mut members);
+    crate::recording::record_outcome(cache, words::slots::step_at(s, t), a, outcome, &members)
 }
 
 // The outcome of the step of state s of decision a over token t.

@@ -4,9 +4,9 @@ use words::layout::FULL;
 use words::layout::STATES;
 ghost use mathlib.Core.Path.{_≡_};
 ghost use lib.ListN.{drop};
-ghost use Rattle.grammar.specs.Tables.{grammarIn};
+ghost use Rattle.grammar.specs.inside.Tables.{grammarIn};
 ghost use Rattle.derivation.specs.Runs.{marked};
-ghost use Rattle.cache.specs.Calls.{Predictable};
+ghost use Rattle.cache.specs.inside.Calls.{Predictable};
 ghost use Rattle.cache.specs.Predictor.{predicted};
 ghost use Rattle.cache.specs.Predict.{predict};
 

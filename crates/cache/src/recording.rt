@@ -11,9 +11,9 @@ ghost use Prim.Native.Nat.{_*_, _≤_, _<_};
 ghost use lib.ListN.{length, take};
 ghost use Rattle.configurations.specs.Packing.{configWords};
 ghost use Rattle.words.specs.Layout.{minWords, slots};
-ghost use Rattle.cache.specs.Calls.{Kept, Next, Recordable};
+ghost use Rattle.cache.specs.inside.Calls.{KeptConfigs, Next, Recordable};
 ghost use Rattle.cache.specs.Recording.{learned};
-ghost use Rattle.cache.specs.ByWords.{holdsWords, findWords, foundIn, addWords, sayWord, newWords, stateWords, Room, outcomeWords};
+ghost use Rattle.cache.specs.inside.ByWords.{holdsWords, findWords, foundIn, addWords, sayWord, newWords, stateWords, RoomFor, outcomeWords};
 
 // What a search for a state finds.
 pub enum Found {
@@ -23,7 +23,7 @@ pub enum Found {
 
 // Whether slot s holds the n configurations of ws for decision a.
 fn holds(cache: &[u32], a: usize, ws: &[u32], n: usize, s: usize) -> bool
-    requires { ⌜ (s < slots (length (now cache))) × Kept n (now ws) ⌝ }
+    requires { ⌜ (s < slots (length (now cache))) × KeptConfigs n (now ws) ⌝ }
     ensures { λ r. ⌜ r ≡ holdsWords (now (cache .entry)) a (take (configWords * n) (now (ws .entry))) s ⌝ }
 {
     if words::slots::decision(cache, s) != a {
@@ -35,26 +35,25 @@ fn holds(cache: &[u32], a: usize, ws: &[u32], n: usize, s: usize) -> bool
     words::slots::same_words(cache, words::slots::configs_at(s), ws, CONFIG_WORDS * n)
 }
 
-// The slot that holds them, among those that hold states. `left` counts those not yet looked at.
+// The slot that holds them, among those that hold states.
 fn find(cache: &[u32], a: usize, ws: &[u32], n: usize) -> Found
-    requires { ⌜ (minWords ≤ length (now cache)) × Kept n (now ws) ⌝ }
+    requires { ⌜ (minWords ≤ length (now cache)) × KeptConfigs n (now ws) ⌝ }
     ensures { λ r. ⌜ r ≡ foundIn (findWords (now (cache .entry)) a (take (configWords * n) (now (ws .entry)))) ⌝ }
 {
     let count = words::slots::searched(cache);
-    let mut left = count;
-    while 0 < left {
-        let s = count - left;
+    let mut s = 0;
+    while s < count {
         if holds(cache, a, ws, n, s) {
             return Found::Slot(s);
         }
-        left -= 1;
+        s += 1;
     }
     Found::Nowhere
 }
 
 // Stores a state of n configurations in slot s, the next one.
 fn add_state(cache: &mut [u32], s: usize, a: usize, ws: &[u32], n: usize)
-    requires { ⌜ Next (now cache) s a × Kept n (now ws) ⌝ }
+    requires { ⌜ Next (now cache) s a × KeptConfigs n (now ws) ⌝ }
     ensures { λ _. ⌜ now (cache .exit) ≡ addWords (now (cache .entry)) a n (take (configWords * n) (now (ws .entry))) ⌝ }
 {
     let at = words::slots::slot_at(s);
@@ -75,7 +74,7 @@ fn say(cache: &mut [u32], i: usize, w: u32) -> u32
 
 // A state that no slot holds takes the next one; with no slot free nothing is recorded, and the outcome counts as FULL.
 fn new_state(cache: &mut [u32], i: usize, a: usize, ws: &[u32], n: usize) -> u32
-    requires { ⌜ Recordable (now cache) i a × Kept n (now ws) ⌝ }
+    requires { ⌜ Recordable (now cache) i a × KeptConfigs n (now ws) ⌝ }
     ensures { λ r. ⌜ learned r (now (cache .exit)) ≡ newWords i (now (cache .entry)) a n (take (configWords * n) (now (ws .entry))) ⌝ }
 {
     let s = words::slots::held(cache);
@@ -88,7 +87,7 @@ fn new_state(cache: &mut [u32], i: usize, a: usize, ws: &[u32], n: usize) -> u32
 
 // A state of n configurations.
 fn record_state(cache: &mut [u32], i: usize, a: usize, ws: &[u32], n: usize) -> u32
-    requires { ⌜ Recordable (now cache) i a × Kept n (now ws) ⌝ }
+    requires { ⌜ Recordable (now cache) i a × KeptConfigs n (now ws) ⌝ }
     ensures { λ r. ⌜ learned r (now (cache .exit)) ≡ stateWords i (now (cache .entry)) a n (take (configWords * n) (now (ws .entry))) ⌝ }
 {
     let found = find(cache, a, ws, n);
@@ -98,14 +97,20 @@ fn record_state(cache: &mut [u32], i: usize, a: usize, ws: &[u32], n: usize) -> 
     }
 }
 
-// Records an outcome of decision a, which lookahead told, in word i.
-pub fn record_outcome(cache: &mut [u32], i: usize, a: usize, outcome: Outcome, kept: &[u32]) -> u32
-    requires { ⌜ Recordable (now cache) i a × Room outcome (now kept) ⌝ }
-    ensures { λ r. ⌜ learned r (now (cache .exit)) ≡ outcomeWords i (now (cache .entry)) a outcome (now (kept .entry)) ⌝ }
+// Records an outcome of decision a, which lookahead told with these members, in word i.
+pub fn record_outcome(
+    cache: &mut [u32],
+    i: usize,
+    a: usize,
+    outcome: Outcome,
+    members: &[u32],
+) -> u32
+    requires { ⌜ Recordable (now cache) i a × RoomFor outcome (now members) ⌝ }
+    ensures { λ r. ⌜ learned r (now (cache .exit)) ≡ outcomeWords i (now (cache .entry)) a outcome (now (members .entry)) ⌝ }
 {
     match outcome {
         Outcome::Full => say(cache, i, FULL),
         Outcome::Alternative(b) => say(cache, i, b),
-        Outcome::State(n) => record_state(cache, i, a, kept, n),
+        Outcome::State(first, n) => record_state(cache, i, a, &members[CONFIG_WORDS * first..], n),
     }
 }

@@ -10,12 +10,12 @@ use lib.Seq.{slice, slice-cons}
 use Rattle.base.specs.Rounds.{anyOf}
 use Rattle.base.proofs.Booleans.{or-assoc, or-none}
 use Rattle.grammar.specs.Grammar.{alternatives}
-use Rattle.grammar.specs.Tables.{grammarIn, nonterminalsIn, ruleAt}
-use Rattle.positions.specs.Positions.{positionCount, emptySet, member, unionOf}
+use Rattle.grammar.specs.inside.Tables.{grammarIn, nonterminalsIn, ruleAt}
+use Rattle.positions.specs.inside.Positions.{positionCount, emptySet, member, unionOf}
 use Rattle.positions.proofs.SetLaws.{member-empty, member-union}
-use Rattle.derivation.specs.Ready.{Ready}
+use Rattle.derivation.specs.inside.Ready.{Ready}
 use Rattle.derivation.proofs.FirstLaws.{rules-are}
-use Rattle.cells.specs.Chart.{cellHas, EndsOf}
+use Rattle.cells.specs.inside.Chart.{cellHas, EndsOf}
 
 -- ---- X says for each production, by its first place, which positions are members
 module _ (t : List ℕ) (a : ℕ) (X : ℕ → ℕ → Bool) where

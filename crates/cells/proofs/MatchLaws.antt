@@ -12,7 +12,7 @@ use Rattle.base.proofs.Booleans.{true→T}
 use Rattle.grammar.specs.Grammar.{Grammar, admits}
 use Rattle.derivation.proofs.FirstLaws.{get-some}
 use Rattle.derivation.proofs.Notes.{get-lt}
-use Rattle.cells.specs.Matches.{admitted, matchesAt}
+use Rattle.cells.specs.inside.Matches.{admitted, matchesAt}
 
 get-none : (l : List ℕ) (k : ℕ) → length l ≤ k → getElem? l k ≡ none
 get-none [] k h = refl

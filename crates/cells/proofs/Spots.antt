@@ -7,10 +7,10 @@ use native.Mathlib.Nat.{mul-le-mul-right, suc-mul, mul-comm}
 use native.Mathlib.Omega.{arith}
 use native.Mathlib.Decide.{decLt}
 use lib.ListN.{length}
-use Rattle.positions.specs.Positions.{positionCount, setWords, member}
-use Rattle.positions.specs.Words.{setAt, putAt}
+use Rattle.positions.specs.inside.Positions.{positionCount, setWords, member}
+use Rattle.positions.specs.inside.Words.{setAt, putAt}
 use Rattle.positions.proofs.WordLaws.{member-set, put-word, put-same, put-other}
-use Rattle.cells.specs.Chart.{spot, cellsEnd, cellHas, Lent, KeptBehind}
+use Rattle.cells.specs.inside.Chart.{spot, cellsEnd, cellHas, Lent, KeptBehind}
 
 -- a cell of the note and the grammar is among the cells, and these are in the space
 pub spot-below : (P n p i : ℕ) → p < P → i ≤ n → spot P p i + setWords ≤ cellsEnd P n

@@ -13,11 +13,11 @@ use lib.ListN.{getElem?}
 use Rattle.base.specs.Rounds.{anyOf, upFrom}
 use Rattle.base.proofs.Booleans.{false→¬T, true→T, same, and-T, T-and, or-assoc, or-none, or-T, T-or-l}
 use Rattle.base.proofs.Lists.{anyOf-T, T-anyOf, get-upFrom, upFrom-get}
-use Rattle.positions.specs.Positions.{positionCount, emptySet, member, unionOf, NextOf, Full}
-use Rattle.positions.specs.Words.{setAt}
+use Rattle.positions.specs.inside.Positions.{positionCount, emptySet, member, unionOf, NextOf, Full}
+use Rattle.positions.specs.inside.Words.{setAt}
 use Rattle.positions.proofs.SetLaws.{member-empty, member-union}
-use Rattle.cells.specs.Chart.{spot, cellHas}
-use Rattle.cells.specs.Through.{throughOf, Through, Onward, Ahead}
+use Rattle.cells.specs.inside.Chart.{spot, cellHas}
+use Rattle.cells.specs.inside.Through.{throughOf, Through, Onward, Ahead}
 use Rattle.cells.proofs.Spots.{cell-member}
 
 -- ---- from the members of a set on by a place
@@ -75,11 +75,11 @@ module _ (P : ℕ) (ws : List ℕ) (n : ℕ) (s : List ℕ) (q : ℕ) where
   on j m = throughOf (member s) (cellHas P ws) q j m n
 
   -- r is the set `begun` and what the members before m lead to
-  pub Going : List ℕ → ℕ → ℕ → List ℕ → Type 0
-  Going begun from m r = (j : ℕ) → j < positionCount → (member r j || on j m) ≡ (member begun j || on j from)
+  pub GoingThrough : List ℕ → ℕ → ℕ → List ℕ → Type 0
+  GoingThrough begun from m r = (j : ℕ) → j < positionCount → (member r j || on j m) ≡ (member begun j || on j from)
 
-  pub going-ends : (begun : List ℕ) (from m : ℕ) (r : List ℕ) → Going begun from m r → n < m → Onward P ws n s begun from q r
-  unfolding Going Onward
+  pub going-ends : (begun : List ℕ) (from m : ℕ) (r : List ℕ) → GoingThrough begun from m r → n < m → Onward P ws n s begun from q r
+  unfolding GoingThrough Onward
   going-ends begun from m r inv h j l = rw (through-none (member s) (cellHas P ws) q j m n h, or-none) at (inv j l)
 
   module _ (short : n < positionCount) where
@@ -102,14 +102,14 @@ module _ (P : ℕ) (ws : List ℕ) (n : ℕ) (s : List ℕ) (q : ℕ) where
             let l = x .above (omega arith) in
             through-in (member s) (cellHas P ws) q j from n k (omega arith) b y z
 
-    pub going-begins : (begun : List ℕ) (from m : ℕ) → NextOf s from m → Going begun from m begun
-    unfolding Going
+    pub going-begins : (begun : List ℕ) (from m : ℕ) → NextOf s from m → GoingThrough begun from m begun
+    unfolding GoingThrough
     going-begins begun from m x j l = ap (λ (b : Bool). member begun j || b) (sym (skip from m j x))
 
-    pub going-on : (begun : List ℕ) (from m m′ : ℕ) (r u : List ℕ) {r′ : List ℕ} → Going begun from m r → m ≤ n → member s m ≡ true
+    pub going-on : (begun : List ℕ) (from m m′ : ℕ) (r u : List ℕ) {r′ : List ℕ} → GoingThrough begun from m r → m ≤ n → member s m ≡ true
         → u ≡ setAt ws (spot P q m) → r′ ≡ unionOf r u
-        → NextOf s (m + 1) m′ → Going begun from m′ r′
-    unfolding Going
+        → NextOf s (m + 1) m′ → GoingThrough begun from m′ r′
+    unfolding GoingThrough
     going-on begun from m m′ r u {r′} inv h f e d x j l =
         let a : on j m ≡ (cellHas P ws q m j || on j (suc m)) = rw f at (through-first (member s) (cellHas P ws) q j m n h) in
         let b : on j (suc m) ≡ on j m′ = skip (suc m) m′ j (rw add-one at x) in

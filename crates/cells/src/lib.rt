@@ -5,12 +5,12 @@ use positions::Positions;
 ghost use mathlib.Core.Path.{_≡_};
 ghost use Prim.Native.Nat.{_+_, _≤_, _<_};
 ghost use lib.ListN.{length};
-ghost use Rattle.grammar.specs.Tables.{grammarIn};
-ghost use Rattle.positions.specs.Positions.{setWords};
-ghost use Rattle.positions.specs.Words.{setAt, putAt};
-ghost use Rattle.cells.specs.Chart.{spot, Lent, Awaits, EndsOf};
-ghost use Rattle.cells.specs.Matches.{matchesAt};
-ghost use Rattle.cells.specs.Through.{Through, Onward, Follows};
+ghost use Rattle.grammar.specs.inside.Tables.{grammarIn};
+ghost use Rattle.positions.specs.inside.Positions.{setWords};
+ghost use Rattle.positions.specs.inside.Words.{setAt, putAt};
+ghost use Rattle.cells.specs.inside.Chart.{spot, Lent, Awaits, EndsOf};
+ghost use Rattle.cells.specs.inside.Matches.{matchesAt};
+ghost use Rattle.cells.specs.inside.Through.{Through, Onward, Follows};
 
 // The cell of place p at position i, of `places` places.
 pub fn cell(ws: &[u32], places: usize, p: usize, i: usize) -> Positions

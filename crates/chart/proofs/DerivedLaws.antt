@@ -8,19 +8,19 @@ use lib.ListN.{length}
 use borrow.Author.Tests.{not-true, not-false}
 use Rattle.grammar.specs.declared.Symbol.the-variants.{Token, Nonterminal, End}
 use Rattle.grammar.specs.Grammar.{facing}
-use Rattle.grammar.specs.Tables.{grammarIn}
-use Rattle.positions.specs.Positions.{positionCount, setWords, emptySet, withOf}
-use Rattle.positions.specs.Words.{setAt}
+use Rattle.grammar.specs.inside.Tables.{grammarIn}
+use Rattle.positions.specs.inside.Positions.{positionCount, setWords, emptySet, withOf}
+use Rattle.positions.specs.inside.Words.{setAt}
 use Rattle.positions.proofs.SetLaws.{member-empty, member-with}
-use Rattle.cells.specs.Chart.{spot}
-use Rattle.cells.specs.Matches.{matchesAt}
-use Rattle.cells.specs.Through.{throughOf, Through}
+use Rattle.cells.specs.inside.Chart.{spot}
+use Rattle.cells.specs.inside.Matches.{matchesAt}
+use Rattle.cells.specs.inside.Through.{throughOf, Through}
 use Rattle.cells.proofs.Spots.{cell-member}
 use Rattle.cells.proofs.ThroughLaws.{through-first}
-use Rattle.ends.specs.Ends.{endHas}
-use Rattle.ends.specs.Row.{cellsIn}
+use Rattle.ends.specs.inside.Ends.{endHas}
+use Rattle.ends.specs.inside.Row.{cellsIn}
 use Rattle.ends.proofs.PlaceLaws.{eqb-comm, by-end, by-other, by-token, by-call, end-through}
-use Rattle.chart.specs.Derived.{Derived}
+use Rattle.chart.specs.inside.Derived.{Derived}
 
 or-comm : (a b : Bool) → (a || b) ≡ (b || a)
 or-comm true true = refl

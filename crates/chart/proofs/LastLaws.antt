@@ -1,7 +1,7 @@
 -- A nonterminal that stands last in its production leads where it ends: no cell has to be asked.
 use mathlib.Core.Path.{_≡_, refl, sym, ap, _∙_, subst}
 use mathlib.Core.Logic.{⊎-elim}
-use mathlib.Core.Bool.{Bool, true, _&&_, _||_}
+use mathlib.Core.Bool.{Bool, true, false≢true, _&&_, _||_}
 use mathlib.Core.List.{List}
 use Prim.Native.Nat.{ℕ, suc, _+_, _*_, _≤_, _<_}
 use native.Mathlib.Numerals.{add-one}
@@ -11,23 +11,24 @@ use lib.Dec.{T}
 use lib.ListN.{length}
 use Rattle.base.proofs.Booleans.{clash, and-T, T-and, or-T, T-or-l, T-or-r, same}
 use Rattle.base.proofs.Lists.{anyOf-T}
-use Rattle.grammar.specs.declared.Symbol.the-variants.{Nonterminal, End}
+use Rattle.grammar.specs.declared.Symbol.{Symbol}
+use Rattle.grammar.specs.declared.Symbol.the-variants.{Token, Nonterminal, End}
 use Rattle.grammar.specs.Grammar.{Grammar, facing, alternatives}
-use Rattle.grammar.specs.Tables.{grammarIn}
-use Rattle.positions.specs.Positions.{positionCount, setWords, member}
-use Rattle.positions.specs.Words.{setAt}
+use Rattle.grammar.specs.inside.Tables.{grammarIn}
+use Rattle.positions.specs.inside.Positions.{positionCount, setWords, member}
+use Rattle.positions.specs.inside.Words.{setAt}
 use Rattle.positions.proofs.WordLaws.{member-set}
-use Rattle.derivation.specs.Runs.{Der}
+use Rattle.derivation.specs.inside.BigSteps.{Der}
 use Rattle.derivation.specs.Cells.{derives?}
 use Rattle.derivation.proofs.CellLaws.{derives-sound, derives-complete}
 use Rattle.derivation.proofs.RunLaws.{der-le, der-in}
-use Rattle.cells.specs.Chart.{ChartedFrom}
-use Rattle.cells.specs.Through.{throughOf}
+use Rattle.cells.specs.inside.Chart.{ChartedFrom}
+use Rattle.cells.specs.inside.Through.{throughOf}
 use Rattle.cells.proofs.ThroughLaws.{through-in, through-out}
-use Rattle.ends.specs.Ends.{endHas, endsAt, leadBy, RightEnds}
-use Rattle.ends.specs.Row.{Row, Ended, cellsIn}
+use Rattle.ends.specs.inside.Ends.{endHas, endsAt, leadBy, RightEnds}
+use Rattle.ends.specs.inside.Row.{Row, EndsRight, cellsIn}
 use Rattle.ends.proofs.InRange.{row-short, row-call}
-use Rattle.chart.specs.Derived.{EndIs, Behind, Derived}
+use Rattle.chart.specs.inside.Derived.{isEnd, Behind, Derived}
 
 end-only : {g : Grammar} {w : List ℕ} {q m j : ℕ} {r : List ℕ} → Der g w q m j r → facing g q ≡ End → m ≡ j
 end-only (Der.finish e l) f = refl
@@ -100,9 +101,15 @@ module _ {t w : List ℕ} {i : ℕ} {ws : List ℕ} (row : Row t w i ws) (ends :
               let z = and-T (endHas ends b i) (cellsIn t ws (suc p) i j) v in
               rw (← cell-only i j (omega arith) (row .here) l (z .1)) (z .0)
 
+end-is : (s : Symbol) → isEnd s ≡ true → s ≡ End
+end-is End e = refl
+end-is (Token k) e = absurd (false≢true e)
+end-is (Nonterminal b) e = absurd (false≢true e)
+
 -- as the code has it
-pub derived-behind : {t w : List ℕ} {i : ℕ} {ws ends : List ℕ} → Ended t w i ws ends → (p b : ℕ) → p < grammarIn t .size
+pub derived-behind : {t w : List ℕ} {i : ℕ} {ws ends : List ℕ} → EndsRight t w i ws ends → (p b : ℕ) → p < grammarIn t .size
     → facing (grammarIn t) p ≡ Nonterminal b
-    → Behind t w ws i p → {r : Bool} → EndIs t (p + 1) r → r ≡ true → {s : List ℕ} → s ≡ setAt ends (setWords * b)
+    → Behind t w ws i p → {r : Bool} → r ≡ isEnd (facing (grammarIn t) (p + 1)) → r ≡ true → {s : List ℕ} → s ≡ setAt ends (setWords * b)
     → Derived t w ws i ends p s
-derived-behind {ends = ends} x p b h e behind y z = derived-last (x .row) ends (x .right) p b h e (rw add-one at (y z)) behind
+derived-behind {t} {ends = ends} x p b h e behind y z =
+    derived-last (x .row) ends (x .right) p b h e (rw add-one at (end-is (facing (grammarIn t) (p + 1)) (sym y ∙ z))) behind

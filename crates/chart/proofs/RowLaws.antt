@@ -11,20 +11,20 @@ use Rattle.base.proofs.Booleans.{clash}
 use Rattle.grammar.specs.declared.Symbol.{Symbol}
 use Rattle.grammar.specs.declared.Symbol.the-variants.{Token, Nonterminal, End}
 use Rattle.grammar.specs.Grammar.{facing}
-use Rattle.grammar.specs.Tables.{grammarIn, nonterminalsIn}
-use Rattle.positions.specs.Positions.{positionCount}
-use Rattle.positions.specs.Words.{putAt}
+use Rattle.grammar.specs.inside.Tables.{grammarIn, nonterminalsIn}
+use Rattle.positions.specs.inside.Positions.{positionCount}
+use Rattle.positions.specs.inside.Words.{putAt}
 use Rattle.positions.proofs.WordLaws.{length-put}
 use Rattle.derivation.specs.Cells.{derives?}
-use Rattle.derivation.specs.Ready.{Ready}
+use Rattle.derivation.specs.inside.Ready.{Ready}
 use Rattle.derivation.proofs.ReadyLaws.{ready-next}
-use Rattle.cells.specs.Chart.{spot, Lent, ChartedFrom, KeptBehind, Filled}
+use Rattle.cells.specs.inside.Chart.{spot, Lent, ChartedFrom, KeptBehind, Filled}
 use Rattle.cells.proofs.Spots.{spot-in, lent-kept, put-here, put-beside, put-before}
-use Rattle.ends.specs.Ends.{endWords, endHas, leadBy, RightEnds}
-use Rattle.ends.specs.Row.{Row, Ended, cellsIn}
+use Rattle.ends.specs.inside.Ends.{endWords, endHas, leadBy, RightEnds}
+use Rattle.ends.specs.inside.Row.{Row, EndsRight, cellsIn}
 use Rattle.ends.proofs.LeadLaws.{cell-exact}
 use Rattle.ends.proofs.LookLaws.{row-known}
-use Rattle.chart.specs.Derived.{Settled, Derived, Behind}
+use Rattle.chart.specs.inside.Derived.{CellsSettled, Derived, Behind}
 
 -- the cells of position i are right from place p on, and so are those of the later positions
 pub record Written (t w : List ℕ) (i p : ℕ) (ws : List ℕ) : Type 0 where
@@ -95,7 +95,7 @@ module _ (t w : List ℕ) (i : ℕ) where
       let q : suc (p - 1) ≡ p = omega arith in
       rw (e, size) (written-more (p - 1) ws ends s (rw q inv) (omega arith) exact derived)
 
-  pub written-ended : (p : ℕ) (ws ends : List ℕ) → length ends ≡ endWords → RightEnds t w i ends → Written t w i p ws → Ended t w i ws ends
+  pub written-ended : (p : ℕ) (ws ends : List ℕ) → length ends ≡ endWords → RightEnds t w i ends → Written t w i p ws → EndsRight t w i ws ends
   written-ended p ws ends e x inv = record { row = inv .row; long = e; right = x }
 
   -- the cell behind the next one to be written is right
@@ -115,7 +115,7 @@ module _ (t w : List ℕ) (i : ℕ) where
 
   pub written-all : (p : ℕ) (ws₀ ws : List ℕ) {P : ℕ} → P ≡ grammarIn t .size → p ≡ 0 → Written t w i p ws
       → KeptBehind P (length w) ws₀ ws
-      → Settled t w i ws₀ ws
+      → CellsSettled t w i ws₀ ws
   written-all p ws₀ ws size z inv b = record { charted = charted-now p ws z inv; behind = rw size at b }
 
 -- behind the note's end there is no cell

@@ -1,2 +1,2 @@
 -- What the functions on the cells of one position give.
-pub mod Derived
+pub mod inside

@@ -4,17 +4,18 @@ use grammar::Symbol;
 use positions::Positions;
 ghost use mathlib.Core.Path.{_≡_};
 ghost use lib.ListN.{length};
-ghost use Rattle.grammar.specs.Tables.{grammarIn, tableWords};
-ghost use Rattle.derivation.specs.Ready.{Ready};
-ghost use Rattle.order.specs.Order.{InOrder};
-ghost use Rattle.cells.specs.Chart.{Lent, Filled};
-ghost use Rattle.ends.specs.Row.{Row, Ended};
-ghost use Rattle.chart.specs.Derived.{EndIs, Settled, Derived, Deriving};
+ghost use Rattle.grammar.specs.Grammar.{facing};
+ghost use Rattle.grammar.specs.inside.Tables.{grammarIn, tableWords};
+ghost use Rattle.derivation.specs.inside.Ready.{Ready};
+ghost use Rattle.order.specs.inside.Order.{InOrder};
+ghost use Rattle.cells.specs.inside.Chart.{Lent, Filled};
+ghost use Rattle.ends.specs.inside.Row.{Row, EndsRight};
+ghost use Rattle.chart.specs.inside.Derived.{isEnd, CellsSettled, Derived, Deriving};
 
 // Whether place q is a production's end.
 fn is_end(tables: &[u16], q: usize) -> bool
     requires { ⌜ length (now tables) ≡ tableWords ⌝ }
-    ensures { λ r. ⌜ EndIs (now (tables .entry)) q r ⌝ }
+    ensures { λ r. ⌜ r ≡ isEnd (facing (grammarIn (now (tables .entry))) q) ⌝ }
 {
     let place = grammar::place_at(tables, q);
     let symbol = place.symbol;
@@ -53,8 +54,8 @@ fn derived(tables: &[u16], note: &[u16], ws: &[u32], ends: &[u32], i: usize, p: 
 
 // Every cell of position i, the last place first.
 fn write_row(tables: &[u16], note: &[u16], ws: &mut [u32], ends: &[u32], i: usize)
-    requires { ⌜ Ended (now tables) (now note) i (now ws) (now ends) ⌝ }
-    ensures { λ _. ⌜ Settled (now (tables .entry)) (now (note .entry)) i (now (ws .entry)) (now (ws .exit)) ⌝ }
+    requires { ⌜ EndsRight (now tables) (now note) i (now ws) (now ends) ⌝ }
+    ensures { λ _. ⌜ CellsSettled (now (tables .entry)) (now (note .entry)) i (now (ws .entry)) (now (ws .exit)) ⌝ }
 {
     let places = grammar::size(tables);
     let mut p = places;
@@ -68,7 +69,7 @@ fn write_row(tables: &[u16], note: &[u16], ws: &mut [u32], ends: &[u32], i: usiz
 // The cells of position i.
 fn settle(tables: &[u16], note: &[u16], ws: &mut [u32], order: &[usize], i: usize)
     requires { ⌜ Row (now tables) (now note) i (now ws) × InOrder (now tables) (now order) ⌝ }
-    ensures { λ _. ⌜ Settled (now (tables .entry)) (now (note .entry)) i (now (ws .entry)) (now (ws .exit)) ⌝ }
+    ensures { λ _. ⌜ CellsSettled (now (tables .entry)) (now (note .entry)) i (now (ws .entry)) (now (ws .exit)) ⌝ }
 {
     let mut ends = [0u32; ends::END_WORDS];
     ends::settle(tables, note, ws, &mut ends, order, i);

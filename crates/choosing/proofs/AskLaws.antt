@@ -8,15 +8,15 @@ use lib.Dec.{T}
 use lib.ListN.{length}
 use Rattle.base.proofs.Bits.{same?}
 use Rattle.base.proofs.Booleans.{T-or-r}
-use Rattle.positions.specs.Positions.{positionCount, member}
-use Rattle.positions.specs.Words.{putAt}
-use Rattle.derivation.specs.Space.{frameWords}
-use Rattle.cells.specs.Chart.{cellsEnd, cellHas}
-use Rattle.cells.specs.Through.{throughOf}
-use Rattle.cells.specs.Through.{Onward}
+use Rattle.positions.specs.inside.Positions.{positionCount, member}
+use Rattle.positions.specs.inside.Words.{putAt}
+use Rattle.derivation.specs.inside.Frames.{frameWords}
+use Rattle.cells.specs.inside.Chart.{cellsEnd, cellHas}
+use Rattle.cells.specs.inside.Through.{throughOf}
+use Rattle.cells.specs.inside.Through.{Onward}
 use Rattle.cells.proofs.ThroughLaws.{through-in}
-use Rattle.machine.specs.Frames.{frameHas}
-use Rattle.choosing.specs.Sets.{returnAt, SetsOnly, Framed, AskedDown}
+use Rattle.machine.specs.inside.Frames.{frameHas}
+use Rattle.choosing.specs.inside.Sets.{returnAt, SetsOnly, Framed, AskedDown}
 use Rattle.choosing.proofs.RestLaws.{rest-put, rest-other, only-none, only-put, only-has}
 
 module _ (P n base d : ℕ) (start ws : List ℕ) where

@@ -10,36 +10,36 @@ use borrow.Author.Tests.{lt-ltb, le-ltb}
 use Rattle.base.proofs.Booleans.{clash}
 use Rattle.grammar.specs.Limits.{endPlace}
 use Rattle.grammar.specs.Grammar.{Grammar, alternatives, first}
-use Rattle.grammar.specs.Tables.{grammarIn, nonterminalsIn}
+use Rattle.grammar.specs.inside.Tables.{grammarIn, nonterminalsIn}
 use Rattle.derivation.specs.Runs.{marked}
 use Rattle.derivation.specs.Machine.{Choice, choice, lowest}
-use Rattle.derivation.specs.Space.{frameWords, returnsOf, Pushed}
+use Rattle.derivation.specs.inside.Frames.{frameWords, returnsOf, Pushed}
 use Rattle.derivation.proofs.CountLaws.{one-at-least, first-within}
-use Rattle.derivation.proofs.Entries.{Open}
+use Rattle.derivation.specs.inside.Entries.{Open}
 use Rattle.derivation.proofs.FrameWords.{pushed-returns}
 use Rattle.derivation.proofs.ReadyLaws.{ready-call}
 use Rattle.cache.specs.declared.prediction.Forecast.{Forecast}
 use Rattle.cache.specs.declared.prediction.Forecast.the-variants.{Alternative, Full}
 use Rattle.cache.specs.Predictor.{Predicted, predicted}
-use Rattle.cache.specs.Calls.{Predictable}
+use Rattle.cache.specs.inside.Calls.{Predictable}
 use Rattle.cache.specs.Predict.{predict}
 use Rattle.cache.proofs.ForecastLaws.{predict-named, predict-length}
 use Rattle.adaptive.specs.Chooser.{settle}
 use Rattle.adaptive.proofs.ChoiceLaws.{choice-decided, choice-single}
-use Rattle.cells.specs.Chart.{Charted, Filled}
+use Rattle.cells.specs.inside.Chart.{Charted, Filled}
 use Rattle.cells.proofs.Spots.{lent-kept}
-use Rattle.machine.specs.Frames.{EveryFrame, FramesBelow}
-use Rattle.machine.specs.Choice.{orZero}
-use Rattle.machine.specs.Space.{Named, ground, opened}
-use Rattle.machine.specs.Waits.{Waits, begins, called, Calling, Called}
+use Rattle.machine.specs.inside.Frames.{EveryFrame, FramesBelow}
+use Rattle.machine.specs.inside.Choice.{orZero}
+use Rattle.machine.specs.inside.Space.{Named, ground, opened}
+use Rattle.machine.specs.inside.Waits.{Waits, begins, called, Calling, Called}
 use Rattle.machine.specs.declared.steps.At.{At}
 use Rattle.machine.specs.declared.steps.Space.{Space}
 use Rattle.machine.proofs.AlternativeLaws.{some-of, none-of, named-of}
 use Rattle.machine.proofs.GoodLaws.{good-fewer}
 use Rattle.machine.proofs.PushLaws.{low-charted}
 use Rattle.machine.proofs.WaitLaws.{waits-fewer, waits-position, waits-named, waits-first, waits-frames, waits-room, waits-held, waits-good}
-use Rattle.choosing.specs.Sets.{Standing, Tabled, Settled}
-use Rattle.choosing.specs.Deciding.{Waiting, Deciding, Entering, Found, choiceAt, Chose}
+use Rattle.choosing.specs.inside.Sets.{Standing, Tabled, SetsSettled}
+use Rattle.choosing.specs.inside.Deciding.{Waiting, Deciding, Entering, Found, choiceAt, Chose}
 use Rattle.choosing.proofs.FloorLaws.{held-floored}
 
 -- ---- the definition, by what a prediction said
@@ -229,7 +229,7 @@ module _ (t w ws : List ℕ) {s : Space} {known : ℕ} {at : At} {a : ℕ} (x : 
             }
 
     module _ {us vs : List ℕ} {r : ℕ} (y : Tabled t w ws us (at .depth) (at .place - 1) (at .position) r)
-        (z : Settled t w us vs r (at .depth) (at .place - 1) (at .position)) where
+        (z : SetsSettled t w us vs r (at .depth) (at .place - 1) (at .position)) where
       table-same : (k : ℕ) → returnsOf us (ground t w) k ≡ returnsOf ws (ground t w) k
       unfolding returnsOf
       table-same zero = refl

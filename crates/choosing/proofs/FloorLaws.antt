@@ -10,18 +10,18 @@ use Rattle.base.proofs.Booleans.{clash}
 use Rattle.grammar.specs.declared.Symbol.the-variants.{Nonterminal}
 use Rattle.grammar.specs.Limits.{endPlace}
 use Rattle.grammar.specs.Grammar.{facing}
-use Rattle.grammar.specs.Tables.{grammarIn}
+use Rattle.grammar.specs.inside.Tables.{grammarIn}
 use Rattle.derivation.specs.Runs.{marked}
 use Rattle.derivation.specs.Cells.{runs?}
-use Rattle.derivation.specs.Space.{returnsOf}
-use Rattle.derivation.specs.Ready.{Ready}
-use Rattle.derivation.proofs.Entries.{Entry, Below, ground, wait, Open, inside, quiet}
-use Rattle.derivation.proofs.FrameWords.{Held}
+use Rattle.derivation.specs.inside.Frames.{returnsOf}
+use Rattle.derivation.specs.inside.Ready.{Ready}
+use Rattle.derivation.specs.inside.Entries.{Entry, Below, ground, wait, Open, inside, quiet}
+use Rattle.derivation.specs.inside.Entries.{FramesOpen}
 use Rattle.derivation.proofs.ReadyLaws.{ready-call, ready-next}
 use Rattle.derivation.proofs.MarkedCells.{derives-inside}
-use Rattle.machine.specs.Frames.{FramesBelow, frameHas, Good}
+use Rattle.machine.specs.inside.Frames.{FramesBelow, frameHas, Good}
 use Rattle.machine.proofs.MoveLaws.{quiet-calls}
-use Rattle.choosing.specs.Sets.{returnAt, Floored}
+use Rattle.choosing.specs.inside.Sets.{returnAt, Floored}
 
 module _ (t : List ℕ) (h : Ready t) (ws : List ℕ) (base : ℕ) where
   below-floored : {S : List ℕ} {E : List Entry} {c i : ℕ} → Below (grammarIn t) (endPlace ∷ []) S E c i → (d : ℕ) → returnsOf ws base d ≡ S
@@ -43,7 +43,7 @@ module _ (t : List ℕ) (h : Ready t) (ws : List ℕ) (base : ℕ) where
       pick k l m top next rec (no q) = let u : k ≡ d = omega arith in rw (u, top) next
 
   -- of a place that calls
-  pub held-floored : {n p a i d : ℕ} → Held (grammarIn t) (endPlace ∷ []) n ws base d p i → facing (grammarIn t) p ≡ Nonterminal a
+  pub held-floored : {n p a i d : ℕ} → FramesOpen (grammarIn t) (endPlace ∷ []) n ws base d p i → facing (grammarIn t) p ≡ Nonterminal a
       → Floored (grammarIn t .size) ws base d
   held-floored {n} {p} {a} {i} {d} x e = go x refl
     where

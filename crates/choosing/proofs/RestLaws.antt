@@ -7,16 +7,16 @@ use native.Mathlib.Omega.{arith}
 use native.Mathlib.Decide.{decLt}
 use lib.ListN.{length, getD}
 use Rattle.base.specs.Bits.{testBit}
-use Rattle.grammar.specs.Tables.{grammarIn}
-use Rattle.positions.specs.Positions.{positionCount, setWords, member}
-use Rattle.positions.specs.Words.{memberAt, setAt, putAt}
+use Rattle.grammar.specs.inside.Tables.{grammarIn}
+use Rattle.positions.specs.inside.Positions.{positionCount, setWords, member}
+use Rattle.positions.specs.inside.Words.{memberAt, setAt, putAt}
 use Rattle.positions.proofs.WordLaws.{length-put, put-word, put-same, put-other}
-use Rattle.derivation.specs.Space.{frameWords, returnsOf}
-use Rattle.cells.specs.Chart.{spot, cellsEnd, cellHas, Charted}
+use Rattle.derivation.specs.inside.Frames.{frameWords, returnsOf}
+use Rattle.cells.specs.inside.Chart.{spot, cellsEnd, cellHas, Charted}
 use Rattle.cells.proofs.Spots.{spot-below, lent-kept}
-use Rattle.machine.specs.Frames.{frameHas}
+use Rattle.machine.specs.inside.Frames.{frameHas}
 use Rattle.machine.proofs.PushLaws.{low-charted}
-use Rattle.choosing.specs.Sets.{SetsOnly, Framed}
+use Rattle.choosing.specs.inside.Sets.{SetsOnly, Framed}
 
 -- words that agree where a set stands
 set-same : (ws vs : List ℕ) (at : ℕ) → ((j : ℕ) → at ≤ j → j < at + setWords → getD vs j 0 ≡ getD ws j 0) → setAt vs at ≡ setAt ws at

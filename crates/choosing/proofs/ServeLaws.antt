@@ -8,14 +8,14 @@ use native.Mathlib.Omega.{arith}
 use native.Mathlib.Numerals.{add-one}
 use lib.ListN.{length}
 use Rattle.base.proofs.Bits.{same?}
-use Rattle.positions.specs.Positions.{positionCount, member, meetsOf}
-use Rattle.positions.specs.Words.{setAt, putAt}
+use Rattle.positions.specs.inside.Positions.{positionCount, member, meetsOf}
+use Rattle.positions.specs.inside.Words.{setAt, putAt}
 use Rattle.positions.proofs.WordLaws.{member-set}
-use Rattle.derivation.specs.Space.{frameWords}
-use Rattle.cells.specs.Chart.{spot, cellsEnd}
-use Rattle.machine.specs.Frames.{frameHas}
-use Rattle.machine.specs.Choice.{Leading}
-use Rattle.choosing.specs.Sets.{returnAt, Framed, ServedUp}
+use Rattle.derivation.specs.inside.Frames.{frameWords}
+use Rattle.cells.specs.inside.Chart.{spot, cellsEnd}
+use Rattle.machine.specs.inside.Frames.{frameHas}
+use Rattle.machine.specs.inside.Choice.{Leading}
+use Rattle.choosing.specs.inside.Sets.{returnAt, Framed, ServedUp}
 use Rattle.choosing.proofs.RestLaws.{rest-put, rest-other, rest-below, only-none, only-put, only-cell, only-high}
 
 module _ (P n base known : ℕ) (ws : List ℕ) (e : base ≡ cellsEnd P n) (short : n < positionCount) where

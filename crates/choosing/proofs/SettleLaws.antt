@@ -8,25 +8,26 @@ use lib.Dec.{T}
 use lib.ListN.{length}
 use Rattle.base.proofs.Booleans.{T→true}
 use Rattle.grammar.specs.Grammar.{Grammar}
-use Rattle.grammar.specs.Tables.{grammarIn}
-use Rattle.positions.specs.Positions.{positionCount}
-use Rattle.positions.specs.Words.{setAt}
+use Rattle.grammar.specs.inside.Tables.{grammarIn}
+use Rattle.positions.specs.inside.Positions.{positionCount}
+use Rattle.positions.specs.inside.Words.{setAt}
 use Rattle.positions.proofs.SetLaws.{Fit}
 use Rattle.positions.proofs.WordLaws.{member-set}
 use Rattle.derivation.specs.Runs.{marked}
 use Rattle.derivation.specs.Cells.{derives?, runs?}
-use Rattle.derivation.specs.Space.{maxTokens, frameWords, returnsOf}
-use Rattle.derivation.specs.Ready.{Ready}
+use Rattle.derivation.specs.Space.{maxTokens}
+use Rattle.derivation.specs.inside.Frames.{frameWords, returnsOf}
+use Rattle.derivation.specs.inside.Ready.{Ready}
 use Rattle.derivation.proofs.CellLaws.{derives-sound}
 use Rattle.derivation.proofs.RunLaws.{der-in}
 use Rattle.derivation.proofs.MarkedCells.{length-marked, derives-inside}
-use Rattle.machine.specs.Frames.{frameHas, EveryFrame, FramesBelow, Good}
-use Rattle.cells.specs.Chart.{spot}
+use Rattle.machine.specs.inside.Frames.{frameHas, EveryFrame, FramesBelow, Good}
+use Rattle.cells.specs.inside.Chart.{spot}
 use Rattle.cells.proofs.Spots.{cell-member}
-use Rattle.machine.specs.Space.{ground, Spaced}
+use Rattle.machine.specs.inside.Space.{ground, Spaced}
 use Rattle.machine.specs.declared.steps.Space.{Space}
 use Rattle.machine.proofs.ServingLaws.{cell-holds, meets-runs}
-use Rattle.choosing.specs.Sets.{returnAt, SetsOnly, Framed, AskedDown, ServedUp, Unsettled, Settled}
+use Rattle.choosing.specs.inside.Sets.{returnAt, SetsOnly, Framed, AskedDown, ServedUp, Unsettled, SetsSettled}
 use Rattle.choosing.proofs.RestLaws.{only-on, only-returns, only-cell, only-charted, only-low}
 
 -- ---- where a frame can be asked
@@ -41,10 +42,10 @@ module _ (g : Grammar) (w ws : List ℕ) (base : ℕ) where
   asks-in (Asks.under a x) = let h = asks-in a in omega arith
 
   -- a frame's set is right exactly if it is right wherever the frame can be asked
-  abbrev Right : (ℕ → Type 0) → ℕ → ℕ → Type 0
-  Right K k m = K k → frameHas ws base k m ≡ runs? g w (returnsOf ws base (suc k)) m
+  abbrev RightSets : (ℕ → Type 0) → ℕ → ℕ → Type 0
+  RightSets K k m = K k → frameHas ws base k m ≡ runs? g w (returnsOf ws base (suc k)) m
 
-  good-at : (K : ℕ → Type 0) {d p i k m : ℕ} → Good g w ws base K d p i → Asks d p i k m → Right K k m
+  good-at : (K : ℕ → Type 0) {d p i k m : ℕ} → Good g w ws base K d p i → Asks d p i k m → RightSets K k m
       × Good g w ws base K k (returnAt ws base k) m
   unfolding Good
   good-at K {m = m} h (Asks.top e x) = (rw (sym e) at h) m x
@@ -55,7 +56,7 @@ module _ (g : Grammar) (w ws : List ℕ) (base : ℕ) where
   asks-lift {d} {p} {i} {m} {k} {j} x (Asks.top e y) = Asks.under {m = m} {j = j} (Asks.top (ap suc e) x) (rw e y)
   asks-lift x (Asks.under a y) = Asks.under (asks-lift x a) y
 
-  right-good : (K : ℕ → Type 0) (d p i : ℕ) → ((k m : ℕ) → Asks d p i k m → Right K k m) → Good g w ws base K d p i
+  right-good : (K : ℕ → Type 0) (d p i : ℕ) → ((k m : ℕ) → Asks d p i k m → RightSets K k m) → Good g w ws base K d p i
   unfolding Good
   right-good K zero p i h = tt
   right-good K (suc d) p i h = λ m x. (h d m (Asks.top refl x), right-good K d (returnAt ws base d) m (λ k j a. h k j (asks-lift x a)))
@@ -135,7 +136,7 @@ module _ (t : List ℕ) (h : Ready t) (w ws : List ℕ) (fit : Fit ws) (known d 
     right zero m y = right-known 0 m (x .framed .some) y
     right (suc k) m y = elim (decLt (suc k) known) [ yes l ↦ right-known (suc k) m l y | no l ↦ right-next k m (omega arith) y (right k) ]
 
-    pub settled : Settled t w ws after known d p i
+    pub settled : SetsSettled t w ws after known d p i
     settled =
         record {
           kept = kept;
@@ -150,7 +151,7 @@ module _ (t : List ℕ) (h : Ready t) (w ws : List ℕ) (fit : Fit ws) (known d 
 pub settle-leaves : (t : List ℕ) → Ready t → (w ws : List ℕ) → Fit ws → (known d p i : ℕ) → Unsettled t w ws known d p i → {s : Space}
     → Spaced t w s
     → {asked mid after : List ℕ} → asked ≡ setAt ws (spot (s .places) p i) → AskedDown (s .places) (length w) (s .base) known d asked ws mid
-    → ServedUp (s .places) (length w) (s .base) known d mid after → Settled t w ws after known d p i
+    → ServedUp (s .places) (length w) (s .base) known d mid after → SetsSettled t w ws after known d p i
 settle-leaves t h w ws fit known d p i x e {asked} {mid} {after} begun down up =
     settled t h w ws fit known d p i x (rw (e .places) at begun) mid after (rw (e .places, e .base) at down) (rw (e .places, e .base) at up)
 

@@ -4,20 +4,20 @@ use mathlib.Core.List.{List, [], _∷_}
 use Prim.Native.Nat.{ℕ, _+_, _*_, _≤_, _<_, min}
 use native.Mathlib.Omega.{arith}
 use lib.ListN.{length}
-use Rattle.grammar.specs.Tables.{grammarIn}
-use Rattle.positions.specs.Positions.{emptySet, withOf}
-use Rattle.positions.specs.Words.{putAt}
+use Rattle.grammar.specs.inside.Tables.{grammarIn}
+use Rattle.positions.specs.inside.Positions.{emptySet, withOf}
+use Rattle.positions.specs.inside.Words.{putAt}
 use Rattle.derivation.specs.Runs.{marked}
 use Rattle.derivation.specs.Cells.{runs?}
-use Rattle.derivation.specs.Space.{frameWords, returnsOf}
-use Rattle.derivation.specs.Ready.{Ready}
-use Rattle.cells.specs.Chart.{Filled}
+use Rattle.derivation.specs.inside.Frames.{frameWords, returnsOf}
+use Rattle.derivation.specs.inside.Ready.{Ready}
+use Rattle.cells.specs.inside.Chart.{Filled}
 use Rattle.cells.proofs.Spots.{lent-kept}
-use Rattle.machine.specs.Frames.{FramesBelow, frameHas}
-use Rattle.machine.specs.Space.{ground}
+use Rattle.machine.specs.inside.Frames.{FramesBelow, frameHas}
+use Rattle.machine.specs.inside.Space.{ground}
 use Rattle.machine.proofs.GoodLaws.{good-fewer}
 use Rattle.machine.proofs.ServingLaws.{end-runs}
-use Rattle.choosing.specs.Sets.{returnAt, SetsOnly, Standing, Tabled}
+use Rattle.choosing.specs.inside.Sets.{returnAt, SetsOnly, Standing, Tabled}
 use Rattle.choosing.proofs.FloorLaws.{good-floor}
 use Rattle.choosing.proofs.RestLaws.{rest-put, only-none, only-put, only-charted}
 

@@ -1,3 +1,2 @@
 -- How the quick reading chooses: the frames' sets, made right when they are first needed, and what a choice leaves.
-pub mod Sets
-pub mod Deciding
+pub mod inside

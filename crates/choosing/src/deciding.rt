@@ -7,9 +7,9 @@ use positions::Positions;
 ghost use mathlib.Core.Path.{_≡_};
 ghost use Prim.Native.Nat.{suc, _+_, _*_, _≤_, _<_, min};
 ghost use lib.ListN.{length, set};
-ghost use Rattle.derivation.specs.Space.{frameWords};
-ghost use Rattle.choosing.specs.Sets.{Tabling, Tabled};
-ghost use Rattle.choosing.specs.Deciding.{Waiting, Deciding, Found, Chose};
+ghost use Rattle.derivation.specs.inside.Frames.{frameWords};
+ghost use Rattle.choosing.specs.inside.Sets.{Tabling, Tabled};
+ghost use Rattle.choosing.specs.inside.Deciding.{Waiting, Deciding, Found, Chose};
 
 // An alternative, 0 for none, and of how many open frames the sets stand after it: 0 where no cell was worked out.
 pub struct Pick {

@@ -2,7 +2,7 @@
 use machine::At;
 use machine::Space;
 use positions::Positions;
-ghost use Rattle.choosing.specs.Sets.{Framed, AskedDown, ServedUp, Settling, Settled};
+ghost use Rattle.choosing.specs.inside.Sets.{Framed, AskedDown, ServedUp, Settling, SetsSettled};
 
 // From the topmost of `depth` frames down to frame `known`: into its set the positions at which it can be asked, where the topmost is asked at `asked`.
 fn ask_down(ws: &mut [u32], space: Space, n: usize, known: usize, depth: usize, asked: Positions)
@@ -38,7 +38,7 @@ fn serve_up(ws: &mut [u32], space: Space, n: usize, known: usize, depth: usize)
 // The sets of the lowest `known` frames are right where they can be asked from where the machine stands, and now all are.
 pub fn settle(tables: &[u16], note: &[u16], ws: &mut [u32], space: Space, known: usize, at: At)
     requires { ⌜ Settling (now tables) (now note) (now ws) space known at ⌝ }
-    ensures { λ _. ⌜ Settled (now (tables .entry)) (now (note .entry)) (now (ws .entry)) (now (ws .exit)) known (at .depth) (at .place) (at .position) ⌝ }
+    ensures { λ _. ⌜ SetsSettled (now (tables .entry)) (now (note .entry)) (now (ws .entry)) (now (ws .exit)) known (at .depth) (at .place) (at .position) ⌝ }
 {
     let n = note.len();
     let asked = cells::cell(ws, space.places, at.place, at.position);

@@ -1,7 +1,7 @@
 -- The code's moves: productions by their words in the tables, occurrences by the codes of places.
 use mathlib.Core.Path.{_≡_, refl, sym, ap, _∙_}
 use mathlib.Core.Logic.{_⊎_, inl, inr}
-use mathlib.Core.Bool.{Bool, true, false, cond}
+use mathlib.Core.Bool.{Bool, true, false, _||_, cond}
 use mathlib.Core.List.{List, [], _∷_, map}
 use Prim.Native.Nat.{ℕ, zero, suc, _+_, _-_, _*_, _/_, _%_, _≤_, _<_}
 use native.Mathlib.Numerals.{add-one}
@@ -12,19 +12,21 @@ use lib.ListN.{length, getD, take, drop, length-take, length-map, drop-of-length
 use lib.Seq.{slice, slice-cons, drop-cons}
 use borrow.Author.Tests.{ne-eqb}
 use Rattle.base.proofs.Bits.{same?, eqb-iff}
+use Rattle.base.proofs.Booleans.{clash}
 use Rattle.grammar.specs.declared.Symbol.{Symbol}
 use Rattle.grammar.specs.declared.Symbol.the-variants.{Token, Nonterminal, End}
 use Rattle.grammar.specs.declared.Place.{Place}
 use Rattle.grammar.specs.Limits.{endPlace}
-use Rattle.grammar.specs.Grammar.{nowhere, placeAt, facing, owner}
-use Rattle.grammar.specs.Tables.{placeWords, symbolOf, placeOf, ruleAt, grammarIn, nonterminalsIn, codes}
+use Rattle.grammar.specs.Grammar.{Grammar, nowhere, placeAt, facing, owner}
+use Rattle.grammar.specs.inside.Tables.{placeWords, symbolOf, placeOf, ruleAt, grammarIn, nonterminalsIn, codes}
 use Rattle.grammar.proofs.WordLaws.{code-end, code-token, code-nonterminal, place-in, place-past}
-use Rattle.derivation.specs.Ready.{Ready}
+use Rattle.derivation.specs.inside.Ready.{Ready}
 use Rattle.derivation.proofs.FirstLaws.{rules-are, first-in}
 use Rattle.derivation.proofs.ReadyLaws.{ready-size, ready-call}
 use Rattle.configurations.specs.declared.config.Packed.{Packed}
-use Rattle.configurations.specs.Packing.{configOf, Packs}
+use Rattle.configurations.specs.inside.Packed.{configOf, Packs}
 use Rattle.lookahead.specs.Configs.{Config, config, into, calls?, behindFrom, entered}
+use Rattle.closing.specs.inside.Moving.{blockPlaces, Uncalled, Sought}
 
 -- ---- the productions of a nonterminal
 -- into the productions whose words stand from k up to e in the tables
@@ -52,10 +54,6 @@ pub first-small : (t : List ℕ) (ready : Ready t) (a : ℕ) (h : a < nontermina
 first-small t ready a h p q k m l d = omega (arith, first-in t ready a h p q k m l d, ready-size t ready)
 
 -- ---- occurrences
--- a place of the grammar is one of the tables'
-pub within : (t : List ℕ) (ready : Ready t) {n p : ℕ} → n ≡ grammarIn t .size → p < n → p < endPlace
-within t ready e l = omega (arith, e, ready-size t ready)
-
 -- on an empty stack, at place p
 pub at-empty : (c : Packed) {d : Packed} {p : ℕ} → configOf c .stack ≡ [] → Packs d (config p (configOf c .alternative) (configOf c .stack))
     → Packs d (config p (configOf c .alternative) [])
@@ -131,3 +129,41 @@ module _ (t : List ℕ) (ready : Ready t) (b a : ℕ) where
   pub behinds-none : (p : ℕ) → p ≤ placeWords → grammarIn t .size ≤ p → behinds t b a p ≡ []
   unfolding behinds
   behinds-none p l h = rw (none-behind (placeWords - p) p (omega arith) h)
+
+-- ---- occurrences sought
+-- no place of a block was found to face a
+pub uncalled-is : {g : Grammar} {a p : ℕ} {r s t u : Bool} → r ≡ calls? a (facing g p) → s ≡ calls? a (facing g (p + 1))
+    → t ≡ calls? a (facing g (p + 2)) → u ≡ calls? a (facing g (p + 3)) → (((r || s) || t) || u) ≡ false → Uncalled g a p
+uncalled-is {g} {a} {p} {r} {s} {t} {u} d e f h z = go r s t u d e f h z
+  where
+    go : (r s t u : Bool) → r ≡ calls? a (facing g p) → s ≡ calls? a (facing g (p + 1)) → t ≡ calls? a (facing g (p + 2))
+        → u ≡ calls? a (facing g (p + 3)) → (((r || s) || t) || u) ≡ false → Uncalled g a p
+    go false false false false d e f h z = record { first = sym d; second = sym e; third = sym f; fourth = sym h }
+    go false false false true d e f h z = clash (cc)
+    go false false true u d e f h z = clash (cc)
+    go false true t u d e f h z = clash (cc)
+    go true s t u d e f h z = clash (cc)
+
+module _ (t : List ℕ) (ready : Ready t) (a : ℕ) where
+  -- a block that does not face a is passed over
+  uncalled-past : (p : ℕ) → p + blockPlaces ≤ placeWords → Uncalled (grammarIn t) a p
+      → behindFrom a p (drop p (grammarIn t .places)) ≡ behindFrom a (p + blockPlaces) (drop (p + blockPlaces) (grammarIn t .places))
+  uncalled-past p h u =
+      past p (p + 1) (omega arith) (omega arith) (u .first) ∙ past (p + 1) (p + 2) (omega arith) (omega arith) (u .second)
+      ∙ past (p + 2) (p + 3) (omega arith) (omega arith) (u .third) ∙ past (p + 3) (p + blockPlaces) (omega arith) (omega arith) (u .fourth)
+    where
+      past : (i j : ℕ) → suc i ≡ j → i < placeWords → calls? a (facing (grammarIn t) i) ≡ false
+          → behindFrom a i (drop i (grammarIn t .places)) ≡ behindFrom a j (drop j (grammarIn t .places))
+      past i j e l f = behind-cons t ready 0 a i l ∙ rw (f, ← e)
+
+  pub sought-on : (p n q : ℕ) → n ≤ endPlace → q + blockPlaces ≤ n → Sought (grammarIn t) a p n q → Uncalled (grammarIn t) a q
+      → Sought (grammarIn t) a p n (q + blockPlaces)
+  sought-on p n q few l s u = record { from = omega (arith, s .from); to = l; same = s .same ∙ uncalled-past q (omega arith) u }
+
+pub behinds-sought : (t : List ℕ) (b a p n q : ℕ) → Sought (grammarIn t) a p n q → behinds t b a p ≡ behinds t b a q
+unfolding behinds
+behinds-sought t b a p n q s = ap (map (λ (q : ℕ). config q b [])) (s .same)
+
+-- what was found is a place of the grammar, and one of the tables'
+pub sought-within : (t : List ℕ) (ready : Ready t) {a p n q : ℕ} → n ≡ grammarIn t .size → Sought (grammarIn t) a p n q → (q ≡ n → ⊥) → q < endPlace
+sought-within t ready e s h = omega (arith, e, ready-size t ready, s .to, h)

@@ -14,19 +14,19 @@ use Rattle.grammar.specs.declared.Symbol.the-variants.{Token, Nonterminal, End}
 use Rattle.grammar.specs.declared.Place.{Place}
 use Rattle.grammar.specs.Limits.{endPlace}
 use Rattle.grammar.specs.Grammar.{Grammar, placeAt, owner}
-use Rattle.grammar.specs.Tables.{grammarIn}
+use Rattle.grammar.specs.inside.Tables.{grammarIn}
 use Rattle.closing.proofs.FollowLaws.{owner-small}
 use Rattle.configurations.proofs.FacingLaws.{place-faces}
-use Rattle.derivation.specs.Ready.{Ready}
+use Rattle.derivation.specs.inside.Ready.{Ready}
 use Rattle.derivation.proofs.ReadyLaws.{ready-size, ready-call}
 use Rattle.configurations.specs.declared.members.Added.{Added}
 use Rattle.configurations.specs.declared.members.Added.the-variants.{Count, Full}
 use Rattle.lookahead.specs.Configs.{Config, config, behindFrom, follows, entered, returned, movesAt, moves}
 use Rattle.lookahead.specs.Closing.{maxMembers, add, addAll, closeFrom}
 use Rattle.configurations.specs.declared.config.Packed.{Packed}
-use Rattle.configurations.specs.Packing.{configOf, packedAt, Pops}
-use Rattle.closing.specs.Moving.{Movable, Calling, Unknown}
-use Rattle.configurations.specs.Held.{heldAt, held, Room, Grows}
+use Rattle.configurations.specs.inside.Packed.{configOf, packedAt, Pops}
+use Rattle.closing.specs.inside.Moving.{Movable, BeforeCall, Unknown}
+use Rattle.configurations.specs.inside.Held.{configAt, configsFrom, Room, Grows}
 use Rattle.lookahead.proofs.ListLaws.{get-below}
 use Rattle.configurations.proofs.HeldLaws.{length-held, get-held, said-at, exact-at}
 use Rattle.configurations.proofs.GrowSteps.{then, grow-room, grow-count, then-on, then-stop, addAll-none, addAll-one, addAll-append}
@@ -67,20 +67,21 @@ module _ (g : Grammar) (c : Config) (ms : List Config) where
       back-full e = then-stop A (λ m. addAll m (ends a)) back-empty e
 
       module _ (k : ℕ) (e : r ≡ Count k) where
-        pub back-start : a ≡ 0 → {d : Config} → d ≡ config endPlace (c .alternative) (c .stack) → add (held ws 0 k) d
+        pub back-start : a ≡ 0 → {d : Config} → d ≡ config endPlace (c .alternative) (c .stack) → add (configsFrom ws 0 k) d
             ≡ addAll ms (returned g c (c .stack))
         unfolding ends
         back-start z q =
             let w : ends a ≡ config endPlace (c .alternative) [] ∷ [] = rw (eq-eqb a 0 z) in
-            ap (add (held ws 0 k)) (q ∙ ap (config endPlace (c .alternative)) empty) ∙ sym (addAll-one (held ws 0 k) (config endPlace (c .alternative) []))
-            ∙ ap (addAll (held ws 0 k)) (sym w) ∙ then-on A (λ m. addAll m (ends a)) back-empty k e
+            ap (add (configsFrom ws 0 k)) (q ∙ ap (config endPlace (c .alternative)) empty)
+            ∙ sym (addAll-one (configsFrom ws 0 k) (config endPlace (c .alternative) []))
+            ∙ ap (addAll (configsFrom ws 0 k)) (sym w) ∙ then-on A (λ m. addAll m (ends a)) back-empty k e
 
         pub back-other : (a ≡ 0 → ⊥) → Grows (Count k) ws (addAll ms (returned g c (c .stack)))
         unfolding ends
         back-other n =
             let w : ends a ≡ [] = rw (ne-eqb a 0 n) in
             grow-count ws k (grow-room A k e)
-            (sym (addAll-none (held ws 0 k)) ∙ ap (addAll (held ws 0 k)) (sym w) ∙ then-on A (λ m. addAll m (ends a)) back-empty k e)
+            (sym (addAll-none (configsFrom ws 0 k)) ∙ ap (addAll (configsFrom ws 0 k)) (sym w) ∙ then-on A (λ m. addAll m (ends a)) back-empty k e)
 
 pub back-pop : (g : Grammar) (ms : List Config) {c d : Packed} → Pops c d → add ms (configOf d) ≡ addAll ms (returned g (configOf c) (configOf c .stack))
 back-pop g ms {c} {d} p = pop-is g (configOf c) ms (configOf d) (p .stack) (p .alternative)
@@ -91,9 +92,9 @@ module _ (g : Grammar) (c : Config) {p : ℕ} {x : Place} (at : p ≡ c .place) 
   unfolding moves
   moves-at s e = ap (movesAt g c) (place-faces g (c .place) at is s e)
 
-  pub at-token : (ws : List ℕ) (n k : ℕ) → Room ws n → x .symbol ≡ Token k → Grows (Count n) ws (addAll (held ws 0 n) (moves g c))
+  pub at-token : (ws : List ℕ) (n k : ℕ) → Room ws n → x .symbol ≡ Token k → Grows (Count n) ws (addAll (configsFrom ws 0 n) (moves g c))
   unfolding movesAt
-  at-token ws n k room e = grow-count ws n room (sym (addAll-none (held ws 0 n)) ∙ ap (addAll (held ws 0 n)) (sym (moves-at (Token k) e)))
+  at-token ws n k room e = grow-count ws n room (sym (addAll-none (configsFrom ws 0 n)) ∙ ap (addAll (configsFrom ws 0 n)) (sym (moves-at (Token k) e)))
 
   pub at-call : (a : ℕ) (ms : List Config) → x .symbol ≡ Nonterminal a → addAll ms (entered g c a) ≡ addAll ms (moves g c)
   unfolding movesAt
@@ -105,7 +106,7 @@ module _ (g : Grammar) (c : Config) {p : ℕ} {x : Place} (at : p ≡ c .place) 
 
 -- a place before a nonterminal has one behind it, and the nonterminal has productions in the tables
 pub at-called : (t : List ℕ) (ready : Ready t) (c : Packed) {p : ℕ} {x : Place} → p ≡ configOf c .place → x ≡ placeAt (grammarIn t) p
-    → (a : ℕ) → x .symbol ≡ Nonterminal a → Calling t c a
+    → (a : ℕ) → x .symbol ≡ Nonterminal a → BeforeCall t c a
 at-called t ready c at is a e =
     let f = place-faces (grammarIn t) (configOf c .place) at is (Nonterminal a) e in
     record { before = omega (arith, ready-size t ready, ready-call t ready (configOf c .place) a f); named = ready .fits .named (configOf c .place) a f }
@@ -136,24 +137,24 @@ module _ (g : Grammar) where
       go none = refl
       go (some m) = refl
 
-  module _ (ws : List ℕ) (k n : ℕ) {end : Option (List Config)} (h : closeFrom g (maxMembers - k) k (held ws 0 n) ≡ end) where
+  module _ (ws : List ℕ) (k n : ℕ) {end : Option (List Config)} (h : closeFrom g (maxMembers - k) k (configsFrom ws 0 n) ≡ end) where
     module _ (l : k < n) (few : n ≤ maxMembers) {c : Packed} (is : c ≡ packedAt ws k)
-        {r : Added} {ws′ : List ℕ} (A : Grows r ws′ (addAll (held ws 0 n) (moves g (configOf c)))) where
-      opened : then (addAll (held ws 0 n) (moves g (configOf c))) (λ m. closeFrom g (maxMembers - (k + 1)) (k + 1) m) ≡ end
+        {r : Added} {ws′ : List ℕ} (A : Grows r ws′ (addAll (configsFrom ws 0 n) (moves g (configOf c)))) where
+      opened : then (addAll (configsFrom ws 0 n) (moves g (configOf c))) (λ m. closeFrom g (maxMembers - (k + 1)) (k + 1) m) ≡ end
       opened =
           let z : maxMembers - k ≡ suc (maxMembers - suc k) = omega arith in
           let y : 0 + k ≡ k = omega arith in
-          let q : getElem? (held ws 0 n) k ≡ some (configOf c) = get-held ws 0 n k l ∙ ap some (ap (heldAt ws) y ∙ sym (said-at ws k is)) in
-          rw add-one (sym (ap (λ (f : ℕ). closeFrom g f k (held ws 0 n)) z ∙ close-some k (maxMembers - suc k) (held ws 0 n) (configOf c) q) ∙ h)
+          let q : getElem? (configsFrom ws 0 n) k ≡ some (configOf c) = get-held ws 0 n k l ∙ ap some (ap (configAt ws) y ∙ sym (said-at ws k is)) in
+          rw add-one (sym (ap (λ (f : ℕ). closeFrom g f k (configsFrom ws 0 n)) z ∙ close-some k (maxMembers - suc k) (configsFrom ws 0 n) (configOf c) q) ∙ h)
 
-      pub close-on : (m : ℕ) → r ≡ Count m → closeFrom g (maxMembers - (k + 1)) (k + 1) (held ws′ 0 m) ≡ end
+      pub close-on : (m : ℕ) → r ≡ Count m → closeFrom g (maxMembers - (k + 1)) (k + 1) (configsFrom ws′ 0 m) ≡ end
       close-on m u = then-on A (λ m. closeFrom g (maxMembers - (k + 1)) (k + 1) m) opened m u
 
       pub close-stop : r ≡ Full → {ws″ : List ℕ} → Grows Full ws″ end
       close-stop u = then-stop A (λ m. closeFrom g (maxMembers - (k + 1)) (k + 1) m) opened u
 
     pub close-end : n ≤ k → Room ws n → Grows (Count n) ws end
-    close-end l room = grow-count ws n room (sym (close-none k (maxMembers - k) (held ws 0 n) (omega (arith, length-held ws 0 n))) ∙ h)
+    close-end l room = grow-count ws n room (sym (close-none k (maxMembers - k) (configsFrom ws 0 n) (omega (arith, length-held ws 0 n))) ∙ h)
 
 -- the next member may move
 pub next-movable : {t ws : List ℕ} {n k : ℕ} → Ready t → Room ws n → k < n → {c : Packed} → c ≡ packedAt ws k → Movable t ws n c

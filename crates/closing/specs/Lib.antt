@@ -1,2 +1,2 @@
 -- What the code's moves rely on.
-pub mod Moving
+pub mod inside

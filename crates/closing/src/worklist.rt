@@ -3,21 +3,25 @@ use configurations::Added;
 use configurations::Packed;
 use grammar::Symbol;
 ghost use mathlib.Core.Path.{_≡_};
+ghost use mathlib.Core.Bool.{false};
 ghost use mathlib.Core.List.{[], map};
-ghost use Prim.Native.Nat.{ℕ, _<_};
+ghost use Prim.Native.Nat.{ℕ, _+_};
 ghost use Rattle.grammar.specs.Grammar.{facing, owner};
-ghost use Rattle.grammar.specs.Tables.{grammarIn};
-ghost use Rattle.derivation.specs.Ready.{Ready};
+ghost use Rattle.grammar.specs.inside.Tables.{grammarIn};
+ghost use Rattle.derivation.specs.inside.Ready.{Ready};
 ghost use Rattle.lookahead.specs.Configs.{config, into, calls?, behindFrom, entered, returned, moves};
 ghost use Rattle.lookahead.specs.Closing.{maxMembers, add, addAll, closeFrom};
-ghost use Rattle.configurations.specs.Packing.{configOf, Enters};
-ghost use Rattle.configurations.specs.Held.{held, Room, Grows};
-ghost use Rattle.closing.specs.Moving.{Movable, Calling, Unknown, Looks};
+ghost use Rattle.configurations.specs.inside.Packed.{configOf, MayPush};
+ghost use Rattle.configurations.specs.inside.Held.{configsFrom, Room, Grows};
+ghost use Rattle.closing.specs.inside.Moving.{Movable, BeforeCall, Unknown, Uncalled, Seeks, Sought, LooksAt};
+
+// The places that are passed over at once.
+const BLOCK: usize = 4;
 
 // Into the production with first place f, over the return place.
 fn push(members: &mut [u32], n: usize, c: Packed, f: usize) -> Added
-    requires { ⌜ Room (now members) n × Enters c f ⌝ }
-    ensures { λ r. ⌜ Grows r (now (members .exit)) (add (held (now (members .entry)) 0 n) (into (configOf c) f)) ⌝ }
+    requires { ⌜ Room (now members) n × MayPush c f ⌝ }
+    ensures { λ r. ⌜ Grows r (now (members .exit)) (add (configsFrom (now (members .entry)) 0 n) (into (configOf c) f)) ⌝ }
 {
     if c.entries() == configurations::ENTRIES {
         return Added::Full;
@@ -27,9 +31,9 @@ fn push(members: &mut [u32], n: usize, c: Packed, f: usize) -> Added
 
 // Before nonterminal a: into all its productions.
 fn enter(tables: &[u16], members: &mut [u32], from: usize, c: Packed, a: usize) -> Added
-    requires { ⌜ Movable (now tables) (now members) from c × Calling (now tables) c a ⌝ }
+    requires { ⌜ Movable (now tables) (now members) from c × BeforeCall (now tables) c a ⌝ }
     ensures { λ r. ⌜ Grows r (now (members .exit))
-        (addAll (held (now (members .entry)) 0 from) (entered (grammarIn (now (tables .entry))) (configOf c) a)) ⌝ }
+        (addAll (configsFrom (now (members .entry)) 0 from) (entered (grammarIn (now (tables .entry))) (configOf c) a)) ⌝ }
 {
     let start = grammar::rule_at(tables, a);
     let end = grammar::rule_at(tables, a + 1);
@@ -48,24 +52,58 @@ fn enter(tables: &[u16], members: &mut [u32], from: usize, c: Packed, a: usize) 
 
 // Whether place p faces nonterminal a: one look at the symbol's code, since a whole grammar is searched so.
 fn calls(tables: &[u16], p: usize, a: usize) -> bool
-    requires { ⌜ Looks (now tables) p a ⌝ }
+    requires { ⌜ LooksAt (now tables) p a ⌝ }
     ensures { λ r. ⌜ r ≡ calls? a (facing (grammarIn (now (tables .entry))) p) ⌝ }
 {
     base::index(tables[p]) % grammar::CODES == 2 * a + 2
 }
 
+// Whether one of a block of places, from p on, faces nonterminal a. All are looked at, so that it is one test.
+fn any_calls(tables: &[u16], p: usize, a: usize) -> bool
+    requires { ⌜ LooksAt (now tables) (p + 3) a ⌝ }
+    ensures { λ r. ⌜ (r ≡ false → Uncalled (grammarIn (now (tables .entry))) a p) ⌝ }
+{
+    let first = calls(tables, p, a);
+    let second = calls(tables, p + 1, a);
+    let third = calls(tables, p + 2, a);
+    let fourth = calls(tables, p + 3, a);
+    first | second | third | fourth
+}
+
+// A place from p on, and not past n, before which nonterminal a does not occur: blocks that do not face it are passed over. A block is tested once,
+// where it begins: behind its first place p is answered.
+fn seek(tables: &[u16], p: usize, n: usize, a: usize) -> usize
+    requires { ⌜ Seeks (now tables) p n a ⌝ }
+    ensures { λ r. ⌜ Sought (grammarIn (now (tables .entry))) a p n r ⌝ }
+{
+    if p % BLOCK != 0 {
+        return p;
+    }
+    let mut q = p;
+    while q + BLOCK <= n {
+        if any_calls(tables, q, a) {
+            return q;
+        }
+        q += BLOCK;
+    }
+    q
+}
+
 // On an empty stack, behind a production of nonterminal a: behind every occurrence of it.
 fn behind(tables: &[u16], members: &mut [u32], from: usize, c: Packed, a: usize) -> Added
     requires { ⌜ Movable (now tables) (now members) from c × Unknown c a ⌝ }
-    ensures { λ r. ⌜ Grows r (now (members .exit)) (addAll (held (now (members .entry)) 0 from)
+    ensures { λ r. ⌜ Grows r (now (members .exit)) (addAll (configsFrom (now (members .entry)) 0 from)
         (map (λ (q : ℕ). config q (configOf c .alternative) []) (behindFrom a 0 (grammarIn (now (tables .entry)) .places)))) ⌝ }
 {
     let size = grammar::size(tables);
     let mut n = from;
     let mut p = 0;
     while p < size {
-        let here = p;
-        p += 1;
+        let here = seek(tables, p, size, a);
+        if here == size {
+            return Added::Count(n);
+        }
+        p = here + 1;
         if calls(tables, here, a) {
             let Added::Count(m) = configurations::add(members, n, c.at(p)) else {
                 return Added::Full;
@@ -80,7 +118,7 @@ fn behind(tables: &[u16], members: &mut [u32], from: usize, c: Packed, a: usize)
 // place.
 fn back(tables: &[u16], members: &mut [u32], n: usize, c: Packed, a: usize) -> Added
     requires { ⌜ Movable (now tables) (now members) n c × (a ≡ owner (grammarIn (now tables)) (configOf c .place)) ⌝ }
-    ensures { λ r. ⌜ Grows r (now (members .exit)) (addAll (held (now (members .entry)) 0 n)
+    ensures { λ r. ⌜ Grows r (now (members .exit)) (addAll (configsFrom (now (members .entry)) 0 n)
         (returned (grammarIn (now (tables .entry))) (configOf c) (configOf c .stack))) ⌝ }
 {
     if c.entries() != 0 {
@@ -99,7 +137,7 @@ fn back(tables: &[u16], members: &mut [u32], n: usize, c: Packed, a: usize) -> A
 fn follow(tables: &[u16], members: &mut [u32], n: usize, c: Packed) -> Added
     requires { ⌜ Movable (now tables) (now members) n c ⌝ }
     ensures { λ r. ⌜ Grows r (now (members .exit))
-        (addAll (held (now (members .entry)) 0 n) (moves (grammarIn (now (tables .entry))) (configOf c))) ⌝ }
+        (addAll (configsFrom (now (members .entry)) 0 n) (moves (grammarIn (now (tables .entry))) (configOf c))) ⌝ }
 {
     let place = grammar::place_at(tables, c.place());
     let owner = place.owner;
@@ -115,7 +153,7 @@ fn follow(tables: &[u16], members: &mut [u32], n: usize, c: Packed) -> Added
 pub fn close(tables: &[u16], members: &mut [u32], from: usize) -> Added
     requires { ⌜ Ready (now tables) × Room (now members) from ⌝ }
     ensures { λ r. ⌜ Grows r (now (members .exit))
-        (closeFrom (grammarIn (now (tables .entry))) maxMembers 0 (held (now (members .entry)) 0 from)) ⌝ }
+        (closeFrom (grammarIn (now (tables .entry))) maxMembers 0 (configsFrom (now (members .entry)) 0 from)) ⌝ }
 {
     let mut n = from;
     let mut k = 0;

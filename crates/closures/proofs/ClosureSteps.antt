@@ -18,10 +18,10 @@ use Rattle.base.proofs.Bits.{test-set, test-none, test-below, set-ge}
 use Rattle.grammar.specs.declared.Symbol.{Symbol}
 use Rattle.grammar.specs.declared.Symbol.the-variants.{Token, Nonterminal, End}
 use Rattle.grammar.specs.Grammar.{Grammar, suffix, facing}
-use Rattle.grammar.specs.Tables.{placeWords, cornersAt, grammarIn, nonterminalsIn, ruleAt, Fits}
+use Rattle.grammar.specs.inside.Tables.{placeWords, cornersAt, grammarIn, nonterminalsIn, ruleAt, TablesFit}
 use Rattle.grammar.proofs.WordLaws.{facing-past, alternatives-in}
 use Rattle.closures.specs.Closures.{passes, passesBy, derivingRound, deriving?}
-use Rattle.closures.specs.Steps.{stepOf, passOf, Derivers, DerivingIs}
+use Rattle.closures.specs.inside.Steps.{judgedStep, passOf, Derivers, DerivingIs}
 use Rattle.closures.proofs.Deriving.{passes-place, round-within, deriving-exact}
 
 -- ---- along a production
@@ -80,26 +80,26 @@ pub round-in : (t : List ℕ) (tokens : Bool) (x a : ℕ) {f e : ℕ} → a < no
 unfolding derivingRound
 round-in t tokens x a h p q = rw (p, q, add-one, alternatives-in t a h)
 
-pub rule-within : (t : List ℕ) → Fits t → (a : ℕ) {e : ℕ} → a < nonterminalsIn t → e ≡ ruleAt t (a + 1) → e ≤ cornersAt
+pub rule-within : (t : List ℕ) → TablesFit t → (a : ℕ) {e : ℕ} → a < nonterminalsIn t → e ≡ ruleAt t (a + 1) → e ≤ cornersAt
 rule-within t h a l q = rw (q, add-one) (h .within a l)
 
 -- ---- a step
 module _ (tokens : Bool) (g : Grammar) (a x : ℕ) {b : Bool} (e : b ≡ testBit x a) where
-  pub step-has : b ≡ true → x ≡ stepOf tokens g a x
-  unfolding stepOf
+  pub step-has : b ≡ true → x ≡ judgedStep tokens g a x
+  unfolding judgedStep
   step-has h = rw (sym e ∙ h)
 
   module _ (h : b ≡ false) {d : Bool} (f : d ≡ derivingRound tokens g (testBit x) a) where
-    pub step-adds : {r : ℕ} → d ≡ true → r ≡ setBit x a → r ≡ stepOf tokens g a x
-    unfolding stepOf
+    pub step-adds : {r : ℕ} → d ≡ true → r ≡ setBit x a → r ≡ judgedStep tokens g a x
+    unfolding judgedStep
     step-adds l q = rw (sym e ∙ h, sym f ∙ l) q
 
-    pub step-stays : d ≡ false → x ≡ stepOf tokens g a x
-    unfolding stepOf
+    pub step-stays : d ≡ false → x ≡ judgedStep tokens g a x
+    unfolding judgedStep
     step-stays l = rw (sym e ∙ h, sym f ∙ l)
 
 -- ---- a pass, from the last nonterminal to the first
-pub pass-more : (tokens : Bool) (g : Grammar) (a x : ℕ) {y r : ℕ} → 0 < a → passOf tokens g a x ≡ y → r ≡ stepOf tokens g (a - 1) x
+pub pass-more : (tokens : Bool) (g : Grammar) (a x : ℕ) {y r : ℕ} → 0 < a → passOf tokens g a x ≡ y → r ≡ judgedStep tokens g (a - 1) x
     → passOf tokens g (a - 1) r ≡ y
 unfolding passOf
 pass-more tokens g zero x h i e = absurd (omega arith)
@@ -111,8 +111,8 @@ pass-done tokens g a x e i = rw e at i
 
 -- ---- steps and passes only add, and only what derives
 module _ (tokens : Bool) (g : Grammar) where
-  step-ge : (a x : ℕ) → x ≤ stepOf tokens g a x
-  unfolding stepOf
+  step-ge : (a x : ℕ) → x ≤ judgedStep tokens g a x
+  unfolding judgedStep
   step-ge a x = go (testBit x a) (derivingRound tokens g (testBit x) a)
     where
       go : (b d : Bool) → x ≤ cond b x (cond d (setBit x a) x)
@@ -123,10 +123,10 @@ module _ (tokens : Bool) (g : Grammar) where
   pass-ge : (n x : ℕ) → x ≤ passOf tokens g n x
   unfolding passOf
   pass-ge zero x = omega arith
-  pass-ge (suc n) x = omega (arith, step-ge n x, pass-ge n (stepOf tokens g n x))
+  pass-ge (suc n) x = omega (arith, step-ge n x, pass-ge n (judgedStep tokens g n x))
 
-  step-derives : (a x : ℕ) → Derivers tokens g x → Derivers tokens g (stepOf tokens g a x)
-  unfolding stepOf Derivers
+  step-derives : (a x : ℕ) → Derivers tokens g x → Derivers tokens g (judgedStep tokens g a x)
+  unfolding judgedStep Derivers
   step-derives a x s = go (testBit x a) (derivingRound tokens g (testBit x) a) refl
     where
       go : (b d : Bool) → derivingRound tokens g (testBit x) a ≡ d → (c : ℕ) → T (testBit (cond b x (cond d (setBit x a) x)) c)
@@ -139,7 +139,7 @@ module _ (tokens : Bool) (g : Grammar) where
   pass-derives : (n x : ℕ) → Derivers tokens g x → Derivers tokens g (passOf tokens g n x)
   unfolding passOf
   pass-derives zero x s = s
-  pass-derives (suc n) x s = pass-derives n (stepOf tokens g n x) (step-derives n x s)
+  pass-derives (suc n) x s = pass-derives n (judgedStep tokens g n x) (step-derives n x s)
 
   pub pass-keeps : (n x : ℕ) {r : ℕ} → r ≡ passOf tokens g n x → Derivers tokens g x → Derivers tokens g r
   pass-keeps n x e s = rw e (pass-derives n x s)
@@ -149,16 +149,16 @@ module _ (tokens : Bool) (g : Grammar) where
   derivers-none a t = absurd (rw test-none at t)
 
   -- a pass that adds nothing leaves nothing to add
-  step-same : (n x : ℕ) → passOf tokens g n x ≡ x → (a : ℕ) → a < n → stepOf tokens g a x ≡ x
+  step-same : (n x : ℕ) → passOf tokens g n x ≡ x → (a : ℕ) → a < n → judgedStep tokens g a x ≡ x
   unfolding passOf
   step-same zero x e a l = absurd (omega arith)
   step-same (suc n) x e a l =
-      let s : stepOf tokens g n x ≡ x = omega (arith, e, step-ge n x, pass-ge n (stepOf tokens g n x)) in
+      let s : judgedStep tokens g n x ≡ x = omega (arith, e, step-ge n x, pass-ge n (judgedStep tokens g n x)) in
       let p : passOf tokens g n x ≡ x = rw s at e in
       elim (decLt a n) [ yes h ↦ step-same n x p a h | no h ↦ (let q : a ≡ n = omega arith in rw q s) ]
 
-  step-held : (a x : ℕ) → stepOf tokens g a x ≡ x → T (derivingRound tokens g (testBit x) a) → T (testBit x a)
-  unfolding stepOf
+  step-held : (a x : ℕ) → judgedStep tokens g a x ≡ x → T (derivingRound tokens g (testBit x) a) → T (testBit x a)
+  unfolding judgedStep
   step-held a x e t = go (testBit x a) refl
     where
       go : (b : Bool) → testBit x a ≡ b → T (testBit x a)

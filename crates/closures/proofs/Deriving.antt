@@ -15,7 +15,7 @@ use Rattle.base.proofs.Lists.{anyOf-T, T-anyOf}
 use Rattle.base.proofs.Fixpoint.{Within, least}
 use Rattle.grammar.specs.declared.Symbol.{Symbol}
 use Rattle.grammar.specs.declared.Symbol.the-variants.{Token, Nonterminal, End}
-use Rattle.grammar.specs.Grammar.{Grammar, facing, before, alternatives, suffix}
+use Rattle.grammar.specs.Grammar.{Grammar, facing, before, alternatives, suffix, ofPlaces}
 use Rattle.grammar.specs.Derivation.{Leftmost, Derives}
 use Rattle.grammar.proofs.GrammarLaws.{suffix-is, production-is, production-from, first-pos, no-alternatives, leftmost-append, admits-self}
 use Rattle.closures.specs.Textbook.{Productive, Vanishing, nil, also}
@@ -28,7 +28,7 @@ Wanted true w = Unit {0}
 Wanted false w = w ≡ []
 
 abbrev pub DerivesFor : Bool → Grammar → List Symbol → Type 0
-DerivesFor tokens g α = (w : List ℕ) × Wanted tokens w × Derives g α w
+DerivesFor tokens g α = (w : List ℕ) × Wanted tokens w × Derives (ofPlaces g) α w
 
 wanted-nil : (tokens : Bool) → Wanted tokens []
 wanted-nil true = tt
@@ -124,7 +124,7 @@ module _ (tokens : Bool) (g : Grammar) where
   deriving-adds X h a t =
       let (n, f, e, s) = anyOf-T (λ f. passes tokens X (suffix g f)) (alternatives g a) t in
       let (w, z, (r, x)) = passes-derives X h (suffix g f) s in
-      let y : Leftmost g (suffix g f ++ []) r w = rw append-nil x in
+      let y : Leftmost (ofPlaces g) (suffix g f ++ []) r w = rw append-nil x in
       (w, z, (suc n ∷ r, Leftmost.expand (production-is g a (suc n) e) y))
 
   rounds-sound : (k : ℕ) → AllDerive (rounds (derivingRound tokens g) k)
@@ -137,7 +137,7 @@ module _ (tokens : Bool) (g : Grammar) where
   unfolding deriving?
   closed a t = rounds-closed (derivingRound tokens g) round-mono (length (g .starts)) round-below a t
 
-  passes-all : {α : List Symbol} {r w : List ℕ} → Leftmost g α r w → Wanted tokens w → T (passes tokens (deriving? tokens g) α)
+  passes-all : {α : List Symbol} {r w : List ℕ} → Leftmost (ofPlaces g) α r w → Wanted tokens w → T (passes tokens (deriving? tokens g) α)
   unfolding passes derivingRound
   passes-all Leftmost.done z = tt
   passes-all (Leftmost.match {t = t} {α = α} {w = w} c x) z = go tokens z (passes-all x)
@@ -171,27 +171,27 @@ module _ (tokens : Bool) (g : Grammar) where
       (suc (length (g .starts))) a)
 
 -- ---- in the textbook's words
-pub productive-iff : (g : Grammar) (a : ℕ) → T (productive? g a) ↔ Productive g a
+pub productive-iff : (g : Grammar) (a : ℕ) → T (productive? g a) ↔ Productive (ofPlaces g) a
 productive-iff g a = (λ t. let h = deriving-iff true g a .0 t in (h .0, h .2), λ h. deriving-iff true g a .1 (h .0, tt, h .1))
 
-empty-row : (g : Grammar) {α : List Symbol} → DerivesFor false g α → Derives g α []
+empty-row : (g : Grammar) {α : List Symbol} → DerivesFor false g α → Derives (ofPlaces g) α []
 empty-row g (w, z, (r, x)) = (r, rw z at x)
 
-pub nullable-iff : (g : Grammar) (a : ℕ) → T (nullable? g a) ↔ Derives g (Nonterminal a ∷ []) []
+pub nullable-iff : (g : Grammar) (a : ℕ) → T (nullable? g a) ↔ Derives (ofPlaces g) (Nonterminal a ∷ []) []
 nullable-iff g a = (λ t. empty-row g (deriving-iff false g a .0 t), λ h. deriving-iff false g a .1 ([], refl, h))
 
 module _ (g : Grammar) where
-  to-vanishing : (α : List Symbol) → T (passes false (nullable? g) α) → Vanishing g α
+  to-vanishing : (α : List Symbol) → T (passes false (nullable? g) α) → Vanishing (ofPlaces g) α
   to-vanishing [] t = nil
   to-vanishing (x ∷ α) t =
       let s = passes-append false (nullable? g) (x ∷ []) α t in
       also (empty-row g (passes-derives false g (nullable? g) (λ a. deriving-iff false g a .0) (x ∷ []) (s .0))) (to-vanishing α (s .1))
 
-  from-vanishing : {α : List Symbol} → Vanishing g α → T (passes false (nullable? g) α)
+  from-vanishing : {α : List Symbol} → Vanishing (ofPlaces g) α → T (passes false (nullable? g) α)
   unfolding passes
   from-vanishing nil = tt
   from-vanishing (also {x = x} {α = α} e h) = passes-cons false (nullable? g) x α (passes-all false g (e .1) refl) (from-vanishing h)
 
   -- a list passes if each of its symbols derives the empty row
-  pub vanish-iff : (α : List Symbol) → T (passes false (nullable? g) α) ↔ Vanishing g α
+  pub vanish-iff : (α : List Symbol) → T (passes false (nullable? g) α) ↔ Vanishing (ofPlaces g) α
   vanish-iff α = (to-vanishing α, from-vanishing)

@@ -18,10 +18,10 @@ use Rattle.grammar.specs.declared.Symbol.{Symbol}
 use Rattle.grammar.specs.declared.Symbol.the-variants.{Token, Nonterminal, End}
 use Rattle.grammar.specs.Limits.{maxNonterminals}
 use Rattle.grammar.specs.Grammar.{suffix, facing}
-use Rattle.grammar.specs.Tables.{placeWords, firstsAt, grammarIn, nonterminalsIn, ruleAt}
+use Rattle.grammar.specs.inside.Tables.{placeWords, firstsAt, grammarIn, nonterminalsIn, ruleAt}
 use Rattle.grammar.proofs.WordLaws.{facing-past}
 use Rattle.closures.specs.Closures.{passes, passesBy}
-use Rattle.closures.specs.Steps.{NeedIs, Owns, Noted}
+use Rattle.closures.specs.inside.Steps.{NeedIs, Owns, Noted}
 use Rattle.closures.proofs.Deriving.{passes-place}
 
 -- ---- along a production

@@ -16,10 +16,10 @@ use Rattle.base.proofs.Bits.{same?, test-or, test-none, or-ge}
 use Rattle.base.proofs.Fixpoint.{Within}
 use Rattle.base.proofs.Lists.{Found, anyOf-T, T-anyOf, slice-get, slice-from}
 use Rattle.grammar.specs.Grammar.{suffix}
-use Rattle.grammar.specs.Tables.{firstsAt, grammarIn, nonterminalsIn, ruleAt, Fits}
+use Rattle.grammar.specs.inside.Tables.{firstsAt, grammarIn, nonterminalsIn, ruleAt, TablesFit}
 use Rattle.grammar.proofs.WordLaws.{alternatives-in, length-starts-in}
 use Rattle.closures.specs.Closures.{passes, derivingRound, deriving?}
-use Rattle.closures.specs.Steps.{Derivers, DerivingIs, NeedIs, Owns, Noted, roundOf}
+use Rattle.closures.specs.inside.Steps.{Derivers, DerivingIs, NeedIs, Owns, Noted, roundOf}
 use Rattle.closures.proofs.Deriving.{round-within, deriving-exact}
 use Rattle.closures.proofs.NoteSteps.{rule-from}
 
@@ -98,7 +98,7 @@ pub round-holds : (needs owners : List ℕ) (from x k : ℕ) {r : ℕ} → r ≡
     → Within (testBit from) (testBit r)
 round-holds needs owners from x k e h a t = rw e (round-held needs owners x a k (h a t))
 
-module _ (tokens : Bool) (t : List ℕ) (f : Fits t) (from count : ℕ) (needs owners : List ℕ)
+module _ (tokens : Bool) (t : List ℕ) (f : TablesFit t) (from count : ℕ) (needs owners : List ℕ)
     (h : Noted tokens t from count (nonterminalsIn t) 0 needs owners) where
   -- a production of a that passes, as the rows have it
   passes-in : (x a : ℕ) → a < nonterminalsIn t → (j : ℕ) → Owns t a j

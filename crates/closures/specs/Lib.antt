@@ -1,4 +1,4 @@
 -- What makes a grammar sound, in the textbook's words, and which nonterminals derive, worked out by rounds.
 pub mod Textbook
 pub mod Closures
-pub mod Steps
+pub mod inside

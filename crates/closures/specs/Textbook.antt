@@ -5,31 +5,30 @@ use mathlib.Core.List.{List, [], _∷_, _++_}
 use Prim.Native.Nat.{ℕ}
 use Rattle.grammar.specs.declared.Symbol.{Symbol}
 use Rattle.grammar.specs.declared.Symbol.the-variants.{Nonterminal}
-use Rattle.grammar.specs.Grammar.{Grammar, production}
-use Rattle.grammar.specs.Derivation.{Derives}
+use Rattle.grammar.specs.Derivation.{Syntax, Derives}
 
 -- nonterminal a derives some row of tokens
-abbrev pub Productive : Grammar → ℕ → Type 0
+abbrev pub Productive : Syntax → ℕ → Type 0
 Productive g a = (w : List ℕ) × Derives g (Nonterminal a ∷ []) w
 
 -- every symbol of the list derives the empty row
-pub data Vanishing (g : Grammar) : List Symbol → Type 0 where
+pub data Vanishing (g : Syntax) : List Symbol → Type 0 where
   nil : Vanishing g []
   also : {x : Symbol} {α : List Symbol} → Derives g (x ∷ []) [] → Vanishing g α → Vanishing g (x ∷ α)
 
 -- nonterminal c stands in a production of a behind only symbols that derive the empty row
-pub record Move (g : Grammar) (a c : ℕ) : Type 0 where
+pub record Move (g : Syntax) (a c : ℕ) : Type 0 where
   pub alternative : ℕ
   pub ahead : List Symbol
   pub behind : List Symbol
-  pub stands : production g a alternative ≡ some (ahead ++ (Nonterminal c ∷ behind))
+  pub stands : g .production a alternative ≡ some (ahead ++ (Nonterminal c ∷ behind))
   pub empty : Vanishing g ahead
 
 -- one or more moves lead from a to c
-pub data Reaches (g : Grammar) : ℕ → ℕ → Type 0 where
+pub data Reaches (g : Syntax) : ℕ → ℕ → Type 0 where
   one : {a c : ℕ} → Move g a c → Reaches g a c
   more : {a b c : ℕ} → Move g a b → Reaches g b c → Reaches g a c
 
 -- moves lead from a back to a
-abbrev pub LeftRecursive : Grammar → ℕ → Type 0
+abbrev pub LeftRecursive : Syntax → ℕ → Type 0
 LeftRecursive g a = Reaches g a a

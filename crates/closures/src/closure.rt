@@ -6,13 +6,13 @@ ghost use mathlib.Core.Path.{_≡_};
 ghost use Prim.Native.Nat.{_<_};
 ghost use Rattle.base.specs.Bits.{testBit};
 ghost use Rattle.grammar.specs.Grammar.{suffix};
-ghost use Rattle.grammar.specs.Tables.{grammarIn, nonterminalsIn, Fits};
+ghost use Rattle.grammar.specs.inside.Tables.{grammarIn, nonterminalsIn, TablesFit};
 ghost use Rattle.closures.specs.Closures.{passes, derivingRound};
-ghost use Rattle.closures.specs.Steps.{stepOf, passOf, DerivingIs};
+ghost use Rattle.closures.specs.inside.Steps.{judgedStep, passOf, DerivingIs};
 
 // Whether every symbol from place `first` to its production's end passes: a token if `tokens` says so, a nonterminal if it is in the set.
 fn all_pass(tables: &[u16], tokens: bool, set: u32, first: usize) -> bool
-    requires { ⌜ Fits (now tables) ⌝ }
+    requires { ⌜ TablesFit (now tables) ⌝ }
     ensures { λ r. ⌜ r ≡ passes tokens (testBit set) (suffix (grammarIn (now (tables .entry))) first) ⌝ }
 {
     let mut p = first;
@@ -39,7 +39,7 @@ fn all_pass(tables: &[u16], tokens: bool, set: u32, first: usize) -> bool
 
 // Whether some production of nonterminal a passes.
 fn some_passes(tables: &[u16], tokens: bool, set: u32, a: usize) -> bool
-    requires { ⌜ Fits (now tables) × (a < nonterminalsIn (now tables)) ⌝ }
+    requires { ⌜ TablesFit (now tables) × (a < nonterminalsIn (now tables)) ⌝ }
     ensures { λ r. ⌜ r ≡ derivingRound tokens (grammarIn (now (tables .entry))) (testBit set) a ⌝ }
 {
     let start = grammar::rule_at(tables, a);
@@ -57,8 +57,8 @@ fn some_passes(tables: &[u16], tokens: bool, set: u32, a: usize) -> bool
 
 // Nonterminal a judged by the set so far.
 fn step(tables: &[u16], tokens: bool, set: u32, a: usize) -> u32
-    requires { ⌜ Fits (now tables) × (a < nonterminalsIn (now tables)) ⌝ }
-    ensures { λ r. ⌜ r ≡ stepOf tokens (grammarIn (now (tables .entry))) a set ⌝ }
+    requires { ⌜ TablesFit (now tables) × (a < nonterminalsIn (now tables)) ⌝ }
+    ensures { λ r. ⌜ r ≡ judgedStep tokens (grammarIn (now (tables .entry))) a set ⌝ }
 {
     if base::has(set, a) {
         return set;
@@ -71,7 +71,7 @@ fn step(tables: &[u16], tokens: bool, set: u32, a: usize) -> u32
 
 // Every nonterminal once, the last first.
 fn pass(tables: &[u16], tokens: bool, from: u32) -> u32
-    requires { ⌜ Fits (now tables) ⌝ }
+    requires { ⌜ TablesFit (now tables) ⌝ }
     ensures { λ r. ⌜ r ≡ passOf tokens (grammarIn (now (tables .entry))) (nonterminalsIn (now (tables .entry))) from ⌝ }
 {
     let mut set = from;
@@ -88,7 +88,7 @@ const PASSES: usize = 2;
 
 // The nonterminals that derive some row of tokens if `tokens`, the empty row if not. Once all are found, no pass has to confirm it.
 pub fn derivers(tables: &[u16], tokens: bool) -> u32
-    requires { ⌜ Fits (now tables) ⌝ }
+    requires { ⌜ TablesFit (now tables) ⌝ }
     ensures { λ r. ⌜ DerivingIs tokens (grammarIn (now (tables .entry))) r ⌝ }
 {
     let n = grammar::nonterminals(tables);

@@ -6,8 +6,8 @@ ghost use mathlib.Core.Bool.{cond};
 ghost use Prim.Native.Nat.{_+_, _≤_};
 ghost use Rattle.base.specs.Bits.{isSubset};
 ghost use Rattle.grammar.specs.Grammar.{suffix};
-ghost use Rattle.grammar.specs.Tables.{grammarIn, nonterminalsIn, Fits};
-ghost use Rattle.closures.specs.Steps.{Derivers, DerivingIs, NeedIs, Noted, Noting, Unnoted, Rows, rowWords, roundOf};
+ghost use Rattle.grammar.specs.inside.Tables.{grammarIn, nonterminalsIn, TablesFit};
+ghost use Rattle.closures.specs.inside.Steps.{Derivers, DerivingIs, NeedIs, Noted, Noting, Unnoted, Rows, rowWords, roundOf};
 
 // Rows have a word for each production, at its place in the tables counted from grammar::FIRSTS; so long are the tables from there to the corners.
 // specs/Steps has the same.
@@ -19,7 +19,7 @@ const ALL: u32 = u32::MAX;
 // The nonterminals that a set must hold for every symbol from place `first` on to pass. If a token does not pass, no set will do: then ALL, since a set
 // that holds even the owner cannot gain it.
 fn need_from(tables: &[u16], tokens: bool, first: usize) -> u32
-    requires { ⌜ Fits (now tables) ⌝ }
+    requires { ⌜ TablesFit (now tables) ⌝ }
     ensures { λ r. ⌜ NeedIs tokens (suffix (grammarIn (now (tables .entry))) first) r ⌝ }
 {
     let mut need = 0;
@@ -120,7 +120,7 @@ fn round(needs: &[u32], owners: &[u32], count: usize, set: u32) -> u32
 
 // The nonterminals that derive some row of tokens if `tokens`, the empty row if not; those of `from` are known to.
 pub fn by_rounds(tables: &[u16], tokens: bool, from: u32) -> u32
-    requires { ⌜ Fits (now tables) × Derivers tokens (grammarIn (now tables)) from ⌝ }
+    requires { ⌜ TablesFit (now tables) × Derivers tokens (grammarIn (now tables)) from ⌝ }
     ensures { λ r. ⌜ DerivingIs tokens (grammarIn (now (tables .entry))) r ⌝ }
 {
     let mut needs = [0u32; ROW_WORDS];

@@ -15,7 +15,8 @@ use Rattle.lookahead.specs.Closing.{maxEntries}
 use Rattle.lookahead.specs.Order.{placeRadix, alternativeRadix, entriesRadix, returnRadix, headRadix, stackKey, headKey, Packable}
 use Rattle.lookahead.specs.Outcomes.{onward}
 use Rattle.configurations.specs.declared.config.Packed.{Packed}
-use Rattle.configurations.specs.Packing.{returnBits, digits, unpack, configOf, Exact, Packs, Enters, Pops}
+use Rattle.configurations.specs.Packing.{digits, unpack}
+use Rattle.configurations.specs.inside.Packed.{returnBits, configOf, Exact, Packs, MayPush, Pops}
 use Rattle.configurations.proofs.PackLaws.{unpack-key}
 
 -- ---- digits
@@ -124,7 +125,7 @@ module _ (c : Packed) (e : Exact c) where
       (omega (arith, q, exact-rest))
       (s ∙ sym (e .stack))
 
-  pub entered-is : (f : ℕ) → Enters c f → length (k .stack) < maxEntries → {d : Packed} → d .head
+  pub entered-is : (f : ℕ) → MayPush c f → length (k .stack) < maxEntries → {d : Packed} → d .head
       ≡ (c .head / placeRadix + alternativeRadix) * placeRadix + f
       → d .stack ≡ c .stack * returnRadix + (c .head % placeRadix + 1) → Packs d (into k f)
   unfolding headKey stackKey

@@ -15,13 +15,13 @@ use Rattle.lookahead.proofs.ListLaws.{in-get, get-below}
 use Rattle.lookahead.proofs.AddLaws.{member-in}
 use Rattle.configurations.specs.declared.config.Packed.{Packed}
 use Rattle.configurations.specs.declared.members.Added.the-variants.{Count, Full}
-use Rattle.configurations.specs.Packing.{configOf, Exact, putAt}
-use Rattle.configurations.specs.Held.{heldAt, held, Room, heldAfter, RoomAfter, Grows}
+use Rattle.configurations.specs.inside.Packed.{configOf, Exact, putConfig}
+use Rattle.configurations.specs.inside.Held.{configAt, configsFrom, Room, heldAfter, RoomAfter, Grows}
 use Rattle.configurations.proofs.HeldLaws.{length-held, held-add, held-one, get-held, room-has, stored, held-below, room-put}
 
 module _ (ws : List ℕ) (n : ℕ) (room : Room ws n) where
   abbrev ms : List Config
-  ms = held ws 0 n
+  ms = configsFrom ws 0 n
 
   -- one that is a member
   pub add-member : (d : Config) {r : Bool} → r ≡ member? d ms → r ≡ true → Grows (Count n) ws (add ms d)
@@ -40,7 +40,7 @@ module _ (ws : List ℕ) (n : ℕ) (room : Room ws n) where
     unfolding add heldAfter RoomAfter
     add-full q = record { is = rw (sym e ∙ f, shallow-is, le-ltb (length ms) maxMembers (omega (arith, length-held ws 0 n))); room = tt }
 
-    pub add-new : (n ≡ maxMembers → ⊥) → {ws′ : List ℕ} → ws′ ≡ putAt ws n c → Grows (Count (n + 1)) ws′ (add ms d)
+    pub add-new : (n ≡ maxMembers → ⊥) → {ws′ : List ℕ} → ws′ ≡ putConfig ws n c → Grows (Count (n + 1)) ws′ (add ms d)
     unfolding add heldAfter RoomAfter
     add-new q p =
         rw p (record {
@@ -51,17 +51,17 @@ module _ (ws : List ℕ) (n : ℕ) (room : Room ws n) where
         here : n < maxMembers
         here = omega (arith, room .few)
 
-        snoc : held (putAt ws n c) 0 (n + 1) ≡ ms ++ (d ∷ [])
+        snoc : configsFrom (putConfig ws n c) 0 (n + 1) ≡ ms ++ (d ∷ [])
         snoc =
             let z : 0 + n ≡ n = omega arith in
             let a = held-below ws n c 0 n (omega arith) in
-            let b : held (putAt ws n c) (0 + n) 1 ≡ d ∷ []
-            = rw z (held-one (putAt ws n c) n ∙ ap (λ (k : Config). k ∷ []) (stored ws n c (room-has room n here))) in
-            held-add (putAt ws n c) 0 n 1 ∙ (λ i. a i ++ b i)
+            let b : configsFrom (putConfig ws n c) (0 + n) 1 ≡ d ∷ []
+            = rw z (held-one (putConfig ws n c) n ∙ ap (λ (k : Config). k ∷ []) (stored ws n c (room-has room n here))) in
+            held-add (putConfig ws n c) 0 n 1 ∙ (λ i. a i ++ b i)
 
   -- one that is too deep is no member
   pub add-deep : (d : Config) → maxEntries < length (d .stack) → {ws′ : List ℕ} → Grows Full ws′ (add ms d)
-  unfolding add shallow heldAfter RoomAfter heldAt
+  unfolding add shallow heldAfter RoomAfter configAt
   add-deep d h = record { is = go (member? d ms) refl; room = tt }
     where
       shallow-in : In d ms → ⊥
@@ -69,8 +69,8 @@ module _ (ws : List ℕ) (n : ℕ) (room : Room ws n) where
           let (j, e) = in-get m in
           let l : j < n = omega (arith, get-below ms j e, length-held ws 0 n) in
           let z : 0 + j ≡ j = omega arith in
-          let q : d ≡ heldAt ws j = let y = get-held ws 0 n j l in let w = rw z at y in cc in
-          let k : length (d .stack) ≡ length (heldAt ws j .stack) = ap (λ (c : Config). length (c .stack)) q in
+          let q : d ≡ configAt ws j = let y = get-held ws 0 n j l in let w = rw z at y in cc in
+          let k : length (d .stack) ≡ length (configAt ws j .stack) = ap (λ (c : Config). length (c .stack)) q in
           omega (arith, k, room .exact j l .shallow)
 
       go : (b : Bool) → member? d ms ≡ b

@@ -8,8 +8,8 @@ use Rattle.configurations.specs.declared.members.Added.{Added}
 use Rattle.configurations.specs.declared.members.Added.the-variants.{Count, Full}
 use Rattle.lookahead.specs.Configs.{Config}
 use Rattle.lookahead.specs.Closing.{add, addAll}
-use Rattle.configurations.specs.Packing.{configOf, Packs}
-use Rattle.configurations.specs.Held.{held, Room, heldAfter, RoomAfter, Grows}
+use Rattle.configurations.specs.inside.Packed.{configOf, Packs}
+use Rattle.configurations.specs.inside.Held.{configsFrom, Room, heldAfter, RoomAfter, Grows}
 
 -- what follows an answer
 abbrev pub then : Option (List Config) → (List Config → Option (List Config)) → Option (List Config)
@@ -24,17 +24,17 @@ grow-room {r} {ws} g m e = subst (λ (y : Added). RoomAfter y ws) e (g .room)
 pub grow-cast : {r : Added} {ws : List ℕ} {o p : Option (List Config)} → o ≡ p → Grows r ws o → Grows r ws p
 grow-cast e g = record { is = g .is ∙ e; room = g .room }
 
-pub grow-count : (ws : List ℕ) (n : ℕ) {o : Option (List Config)} → Room ws n → some (held ws 0 n) ≡ o → Grows (Count n) ws o
+pub grow-count : (ws : List ℕ) (n : ℕ) {o : Option (List Config)} → Room ws n → some (configsFrom ws 0 n) ≡ o → Grows (Count n) ws o
 unfolding heldAfter RoomAfter
 grow-count ws n room e = record { is = e; room = room }
 
 -- the answer is taken, and k follows
 module _ {r : Added} {ws : List ℕ} {o : Option (List Config)} (g : Grows r ws o)
     (k : List Config → Option (List Config)) {end : Option (List Config)} (h : then o k ≡ end) where
-  pub then-on : (m : ℕ) → r ≡ Count m → k (held ws 0 m) ≡ end
+  pub then-on : (m : ℕ) → r ≡ Count m → k (configsFrom ws 0 m) ≡ end
   unfolding heldAfter
   then-on m e =
-      let q : some (held ws 0 m) ≡ o = subst (λ (y : Added). heldAfter y ws ≡ o) e (g .is) in
+      let q : some (configsFrom ws 0 m) ≡ o = subst (λ (y : Added). heldAfter y ws ≡ o) e (g .is) in
       ap (λ (x : Option (List Config)). then x k) q ∙ h
 
   pub then-stop : r ≡ Full → {ws′ : List ℕ} → Grows Full ws′ end
@@ -82,19 +82,19 @@ grow-packs ms p g = grow-cast (ap (add ms) (p .is)) g
 -- with the first n members, those that are left give the same end
 pub record Left (ws : List ℕ) (n : ℕ) (l : List Config) (end : Option (List Config)) : Type 0 where
   pub room : Room ws n
-  pub same : addAll (held ws 0 n) l ≡ end
+  pub same : addAll (configsFrom ws 0 n) l ≡ end
 
 module _ {ws : List ℕ} {n : ℕ} {l : List Config} {end : Option (List Config)} (h : Left ws n l end) where
   pub left-by : {m : List Config} → l ≡ m → Left ws n m end
-  left-by e = record { room = h .room; same = ap (addAll (held ws 0 n)) (sym e) ∙ h .same }
+  left-by e = record { room = h .room; same = ap (addAll (configsFrom ws 0 n)) (sym e) ∙ h .same }
 
   pub left-none : l ≡ [] → Grows (Count n) ws end
-  left-none e = grow-count ws n (h .room) (sym (addAll-none (held ws 0 n)) ∙ ap (addAll (held ws 0 n)) (sym e) ∙ h .same)
+  left-none e = grow-count ws n (h .room) (sym (addAll-none (configsFrom ws 0 n)) ∙ ap (addAll (configsFrom ws 0 n)) (sym e) ∙ h .same)
 
   -- the first of them is added
-  module _ {d : Config} {ds : List Config} (e : l ≡ d ∷ ds) {r : Added} {ws′ : List ℕ} (g : Grows r ws′ (add (held ws 0 n) d)) where
-    opened : then (add (held ws 0 n) d) (λ m. addAll m ds) ≡ end
-    opened = sym (addAll-cons (held ws 0 n) d ds) ∙ ap (addAll (held ws 0 n)) (sym e) ∙ h .same
+  module _ {d : Config} {ds : List Config} (e : l ≡ d ∷ ds) {r : Added} {ws′ : List ℕ} (g : Grows r ws′ (add (configsFrom ws 0 n) d)) where
+    opened : then (add (configsFrom ws 0 n) d) (λ m. addAll m ds) ≡ end
+    opened = sym (addAll-cons (configsFrom ws 0 n) d ds) ∙ ap (addAll (configsFrom ws 0 n)) (sym e) ∙ h .same
 
     pub left-on : (m : ℕ) → r ≡ Count m → Left ws′ m ds end
     left-on m q = record { room = grow-room g m q; same = then-on g (λ m. addAll m ds) opened m q }

@@ -1,3 +1,3 @@
 -- Configurations in words, and what the code's arrays hold of them.
 pub mod Packing
-pub mod Held
+pub mod inside

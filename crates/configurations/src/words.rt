@@ -1,10 +1,7 @@
 // Configurations in a row of words, as a state keeps them and as the members of a closed set stand: the head in one word, the stack in two.
 use crate::config::Packed;
 ghost use mathlib.Core.Path.{_≡_};
-ghost use Prim.Native.Nat.{_+_, _*_, _≤_};
-ghost use lib.ListN.{length, take};
-ghost use Rattle.configurations.specs.Packing.{configWords, Has, packedAt, putAt, packAll};
-ghost use Rattle.configurations.specs.Held.{held, Room};
+ghost use Rattle.configurations.specs.inside.Packed.{Has, packedAt, putConfig};
 
 // The words of a configuration.
 pub const CONFIG_WORDS: usize = 3;
@@ -32,22 +29,10 @@ pub fn member(words: &[u32], k: usize) -> Packed
 // Configuration k is c.
 pub fn put(words: &mut [u32], k: usize, c: Packed)
     requires { ⌜ Has (now words) k ⌝ }
-    ensures { λ _. ⌜ now (words .exit) ≡ putAt (now (words .entry)) k c ⌝ }
+    ensures { λ _. ⌜ now (words .exit) ≡ putConfig (now (words .entry)) k c ⌝ }
 {
     let at = CONFIG_WORDS * k;
     words[at] = c.head;
     words[at + 1] = crate::config::low(c.stack);
     words[at + 2] = crate::config::high(c.stack);
-}
-
-// The m members from `first` on as the words of a state.
-pub fn write(members: &[u32], first: usize, m: usize, kept: &mut [u32])
-    requires { ⌜ Room (now members) (first + m) × (configWords * m ≤ length (now kept)) ⌝ }
-    ensures { λ _. ⌜ take (configWords * m) (now (kept .exit)) ≡ packAll (held (now (members .entry)) first m) ⌝ }
-{
-    let mut j = 0;
-    while j < m {
-        put(kept, j, member(members, first + j));
-        j += 1;
-    }
 }

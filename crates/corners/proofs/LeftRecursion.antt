@@ -15,11 +15,12 @@ use Rattle.base.proofs.Lists.{anyOf-T, T-anyOf, get-upFrom, upFrom-get}
 use Rattle.base.proofs.Fixpoint.{Within}
 use Rattle.grammar.specs.declared.Symbol.{Symbol}
 use Rattle.grammar.specs.declared.Symbol.the-variants.{Token, Nonterminal, End}
-use Rattle.grammar.specs.Grammar.{Grammar, facing, before, alternatives, suffix}
+use Rattle.grammar.specs.Grammar.{Grammar, facing, before, alternatives, suffix, ofPlaces}
+use Rattle.grammar.specs.Derivation.{Syntax}
 use Rattle.grammar.proofs.GrammarLaws.{suffix-is, production-is, production-from, first-pos, no-alternatives}
 use Rattle.closures.specs.Textbook.{Move, Reaches, one, more, LeftRecursive}
 use Rattle.closures.specs.Closures.{passes, nullable?}
-use Rattle.corners.specs.Corners.{leads, leadsBy, move?, reachRound, reaches?, leftRecursive?}
+use Rattle.corners.specs.Corners.{leads, leadsBy, move?, reachesRound, reaches?, leftRecursive?}
 use Rattle.closures.proofs.Below.{rounds-closed}
 use Rattle.closures.proofs.Deriving.{vanish-iff}
 
@@ -65,17 +66,17 @@ module _ (X : ℕ → Bool) (c : ℕ) where
 
 module _ (g : Grammar) where
   -- the test is right
-  pub move-iff : (a c : ℕ) → T (move? g a c) ↔ Move g a c
+  pub move-iff : (a c : ℕ) → T (move? g a c) ↔ Move (ofPlaces g) a c
   unfolding move?
   move-iff a c = (to, from)
     where
-      to : T (anyOf (λ f. leads (nullable? g) c (suffix g f)) (alternatives g a)) → Move g a c
+      to : T (anyOf (λ f. leads (nullable? g) c (suffix g f)) (alternatives g a)) → Move (ofPlaces g) a c
       to t =
           let (n, f, e, s) = anyOf-T (λ f. leads (nullable? g) c (suffix g f)) (alternatives g a) t in
           let (α, γ, q, v) = leads-split (nullable? g) c (suffix g f) s in
           record { alternative = suc n; ahead = α; behind = γ; stands = production-is g a (suc n) e ∙ ap some q; empty = vanish-iff g α .0 v }
 
-      from : Move g a c → T (anyOf (λ f. leads (nullable? g) c (suffix g f)) (alternatives g a))
+      from : Move (ofPlaces g) a c → T (anyOf (λ f. leads (nullable? g) c (suffix g f)) (alternatives g a))
       from m =
           let (f, d, q) = production-from g a (m .alternative) (m .stands) in
           let (n, d′) = first-pos g a (m .alternative) f d in
@@ -83,7 +84,7 @@ module _ (g : Grammar) where
           (rw q (split-leads (nullable? g) c (m .ahead) (m .behind) (vanish-iff g (m .ahead) .1 (m .empty))))
 
   -- a move begins at a nonterminal of the grammar
-  pub move-from : {a c : ℕ} → Move g a c → a < length (g .starts)
+  pub move-from : {a c : ℕ} → Move (ofPlaces g) a c → a < length (g .starts)
   unfolding move? anyOf
   move-from {a} {c} m = go (decLt a (length (g .starts)))
     where
@@ -107,34 +108,34 @@ module _ (g : Grammar) where
       go End d rec = let z = suffix-is g p in clash (cc)
 
   -- a move ends at what some place faces
-  pub move-to : {a c : ℕ} → Move g a c → (p : ℕ) × (facing g p ≡ Nonterminal c)
+  pub move-to : {a c : ℕ} → Move (ofPlaces g) a c → (p : ℕ) × (facing g p ≡ Nonterminal c)
   move-to {a} {c} m = let (f, d, q) = production-from g a (m .alternative) (m .stands) in faced c (m .ahead) (m .behind) f q
 
 -- ---- what moves lead to
 -- what a round says, in facts
 data Way (g : Grammar) (c : ℕ) (X : ℕ → Bool) (a : ℕ) : Type 0 where
-  last : Move g a c → Way g c X a
-  next : (b : ℕ) → b < length (g .starts) → Move g a b → T (X b) → Way g c X a
+  last : Move (ofPlaces g) a c → Way g c X a
+  next : (b : ℕ) → b < length (g .starts) → Move (ofPlaces g) a b → T (X b) → Way g c X a
 
 -- moves behind moves
-pub reaches-trans : {g : Grammar} {a b c : ℕ} → Reaches g a b → Reaches g b c → Reaches g a c
+pub reaches-trans : {g : Syntax} {a b c : ℕ} → Reaches g a b → Reaches g b c → Reaches g a c
 reaches-trans (one m) s = more m s
 reaches-trans (more m r) s = more m (reaches-trans r s)
 
 -- moves begin at a nonterminal of the grammar
-pub reaches-from : (g : Grammar) {a c : ℕ} → Reaches g a c → a < length (g .starts)
+pub reaches-from : (g : Grammar) {a c : ℕ} → Reaches (ofPlaces g) a c → a < length (g .starts)
 reaches-from g (one m) = move-from g m
 reaches-from g (more m r) = move-from g m
 
 module _ (g : Grammar) (c : ℕ) where
-  abbrev onward : (ℕ → Bool) → ℕ → Bool
-  onward X a = anyOf (λ b. move? g a b && X b) (upFrom 0 (length (g .starts)))
+  abbrev further : (ℕ → Bool) → ℕ → Bool
+  further X a = anyOf (λ b. move? g a b && X b) (upFrom 0 (length (g .starts)))
 
-  way-out : (X : ℕ → Bool) (a : ℕ) → T (reachRound g c X a) → Way g c X a
-  unfolding reachRound
-  way-out X a t = go (or-T (move? g a c) (onward X a) t)
+  way-out : (X : ℕ → Bool) (a : ℕ) → T (reachesRound g c X a) → Way g c X a
+  unfolding reachesRound
+  way-out X a t = go (or-T (move? g a c) (further X a) t)
     where
-      go : T (move? g a c) ⊎ T (onward X a) → Way g c X a
+      go : T (move? g a c) ⊎ T (further X a) → Way g c X a
       go (inl t) = last (move-iff g a c .0 t)
       go (inr t) =
           let (n, b, e, s) = anyOf-T (λ b. move? g a b && X b) (upFrom 0 (length (g .starts))) t in
@@ -142,65 +143,65 @@ module _ (g : Grammar) (c : ℕ) where
           let l = get-upFrom (length (g .starts)) 0 n e in
           next b (omega arith) (move-iff g a b .0 (h .0)) (h .1)
 
-  way-in : (X : ℕ → Bool) (a : ℕ) → Way g c X a → T (reachRound g c X a)
-  unfolding reachRound
-  way-in X a (last m) = T-or-l (move? g a c) (onward X a) (move-iff g a c .1 m)
+  way-in : (X : ℕ → Bool) (a : ℕ) → Way g c X a → T (reachesRound g c X a)
+  unfolding reachesRound
+  way-in X a (last m) = T-or-l (move? g a c) (further X a) (move-iff g a c .1 m)
   way-in X a (next b l m x) =
-      T-or-r (move? g a c) (onward X a)
+      T-or-r (move? g a c) (further X a)
       (T-anyOf (λ b. move? g a b && X b) (upFrom 0 (length (g .starts))) (b - 0) (upFrom-get (length (g .starts)) 0 b (omega arith) (omega arith))
       (T-and (move? g a b) (X b) (move-iff g a b .1 m) x))
 
-  reach-mono : (X Y : ℕ → Bool) → Within X Y → Within (reachRound g c X) (reachRound g c Y)
+  reach-mono : (X Y : ℕ → Bool) → Within X Y → Within (reachesRound g c X) (reachesRound g c Y)
   reach-mono X Y h a t = go (way-out X a t)
     where
-      go : Way g c X a → T (reachRound g c Y a)
+      go : Way g c X a → T (reachesRound g c Y a)
       go (last m) = way-in Y a (last m)
       go (next b l m x) = way-in Y a (next b l m (h b x))
 
-  reach-below : (X : ℕ → Bool) (a : ℕ) → T (reachRound g c X a) → a < length (g .starts)
+  reach-below : (X : ℕ → Bool) (a : ℕ) → T (reachesRound g c X a) → a < length (g .starts)
   reach-below X a t = go (way-out X a t)
     where
       go : Way g c X a → a < length (g .starts)
       go (last m) = move-from g m
       go (next b l m x) = move-from g m
 
-  reach-sound : (k a : ℕ) → T (rounds (reachRound g c) k a) → Reaches g a c
+  reach-sound : (k a : ℕ) → T (rounds (reachesRound g c) k a) → Reaches (ofPlaces g) a c
   unfolding rounds
   reach-sound zero a t = absurd t
-  reach-sound (suc k) a t = go (way-out (rounds (reachRound g c) k) a t) (reach-sound k)
+  reach-sound (suc k) a t = go (way-out (rounds (reachesRound g c) k) a t) (reach-sound k)
     where
-      go : Way g c (rounds (reachRound g c) k) a → ((a : ℕ) → T (rounds (reachRound g c) k a) → Reaches g a c) → Reaches g a c
+      go : Way g c (rounds (reachesRound g c) k) a → ((a : ℕ) → T (rounds (reachesRound g c) k a) → Reaches (ofPlaces g) a c) → Reaches (ofPlaces g) a c
       go (last m) rec = one m
       go (next b l m x) rec = more m (rec b x)
 
   reach-closed : (a : ℕ) → Way g c (λ b. reaches? g b c) a → T (reaches? g a c)
   unfolding reaches?
-  reach-closed a x = rounds-closed (reachRound g c) reach-mono (length (g .starts)) reach-below a (way-in (λ b. reaches? g b c) a x)
+  reach-closed a x = rounds-closed (reachesRound g c) reach-mono (length (g .starts)) reach-below a (way-in (λ b. reaches? g b c) a x)
 
-  reach-complete : {a : ℕ} → Reaches g a c → T (reaches? g a c)
+  reach-complete : {a : ℕ} → Reaches (ofPlaces g) a c → T (reaches? g a c)
   reach-complete {a} (one m) = reach-closed a (last m)
   reach-complete {a} (more {b = b} m r) = reach-closed a (next b (reaches-from g r) m (reach-complete r))
 
-pub reaches-iff : (g : Grammar) (a c : ℕ) → T (reaches? g a c) ↔ Reaches g a c
+pub reaches-iff : (g : Grammar) (a c : ℕ) → T (reaches? g a c) ↔ Reaches (ofPlaces g) a c
 unfolding reaches?
 reaches-iff g a c = (reach-sound g c (suc (length (g .starts))) a, reach-complete g c)
 
-pub leftRecursive-iff : (g : Grammar) (a : ℕ) → T (leftRecursive? g a) ↔ LeftRecursive g a
+pub leftRecursive-iff : (g : Grammar) (a : ℕ) → T (leftRecursive? g a) ↔ LeftRecursive (ofPlaces g) a
 unfolding leftRecursive?
 leftRecursive-iff g a = reaches-iff g a a
 
 -- ---- for the code, which keeps one set of reached nonterminals for each nonterminal: rows that are sound and closed are what moves lead to
 module _ (g : Grammar) (R : ℕ → ℕ → Bool) where
   -- the rows and columns that count: those `Inside`, where every move ends
-  module _ (Inside : ℕ → Type 0) (named : (a c : ℕ) → Move g a c → Inside c)
+  module _ (Inside : ℕ → Type 0) (named : (a c : ℕ) → Move (ofPlaces g) a c → Inside c)
       (begun : (a c : ℕ) → Inside a → Inside c → T (move? g a c) → T (R a c))
       (closed : (a b c : ℕ) → Inside a → Inside b → Inside c → T (R a b) → T (R b c) → T (R a c))
-      (sound : (a c : ℕ) → Inside a → T (R a c) → Reaches g a c) where
-    ends : {a c : ℕ} → Reaches g a c → Inside c
+      (sound : (a c : ℕ) → Inside a → T (R a c) → Reaches (ofPlaces g) a c) where
+    ends : {a c : ℕ} → Reaches (ofPlaces g) a c → Inside c
     ends {a} {c} (one m) = named a c m
     ends (more m r) = ends r
 
-    rows-complete : {a c : ℕ} → Inside a → Reaches g a c → T (R a c)
+    rows-complete : {a c : ℕ} → Inside a → Reaches (ofPlaces g) a c → T (R a c)
     rows-complete {a} {c} i (one m) = begun a c i (named a c m) (move-iff g a c .1 m)
     rows-complete {a} {c} i (more {b = b} m r) =
         let j = named a b m in closed a b c i j (ends r) (begun a b i j (move-iff g a b .1 m)) (rows-complete j r)
@@ -209,15 +210,15 @@ module _ (g : Grammar) (R : ℕ → ℕ → Bool) where
     rows-inside a i c = same (R a c) (reaches? g a c) (λ t. reaches-iff g a c .1 (sound a c i t)) (λ t. rows-complete i (reaches-iff g a c .0 t))
 
   pub rows-exact : ((a c : ℕ) → T (move? g a c) → T (R a c)) → ((a b c : ℕ) → T (R a b) → T (R b c) → T (R a c))
-      → ((a c : ℕ) → T (R a c) → Reaches g a c) → (a c : ℕ) → R a c ≡ reaches? g a c
+      → ((a c : ℕ) → T (R a c) → Reaches (ofPlaces g) a c) → (a c : ℕ) → R a c ≡ reaches? g a c
   rows-exact begun closed sound a c =
       rows-inside (λ x. Unit {0}) (λ a c m. tt) (λ a c i k. begun a c) (λ a b c i j k. closed a b c) (λ a c i. sound a c) a tt c
 
   -- only rows and columns of the grammar's nonterminals are asked for, where every nonterminal that stands in a production is one of them
-  pub rows-exact-below : ((a c : ℕ) → Move g a c → c < length (g .starts))
+  pub rows-exact-below : ((a c : ℕ) → Move (ofPlaces g) a c → c < length (g .starts))
       → ((a c : ℕ) → a < length (g .starts) → c < length (g .starts) → T (move? g a c) → T (R a c))
       → ((a b c : ℕ) → a < length (g .starts) → b < length (g .starts) → c < length (g .starts) → T (R a b) → T (R b c) → T (R a c))
-      → ((a c : ℕ) → a < length (g .starts) → T (R a c) → Reaches g a c)
+      → ((a c : ℕ) → a < length (g .starts) → T (R a c) → Reaches (ofPlaces g) a c)
       → (a : ℕ) → a < length (g .starts) → (c : ℕ) → R a c ≡ reaches? g a c
   rows-exact-below = rows-inside (λ a. a < length (g .starts))
 

@@ -18,10 +18,10 @@ use Rattle.base.proofs.Bits.{test-set, test-none, same?}
 use Rattle.grammar.specs.declared.Symbol.{Symbol}
 use Rattle.grammar.specs.declared.Symbol.the-variants.{Token, Nonterminal, End}
 use Rattle.grammar.specs.Grammar.{Grammar, suffix, facing, alternatives}
-use Rattle.grammar.specs.Tables.{placeWords, grammarIn, nonterminalsIn, ruleAt}
+use Rattle.grammar.specs.inside.Tables.{placeWords, grammarIn, nonterminalsIn, ruleAt}
 use Rattle.grammar.proofs.WordLaws.{facing-past, alternatives-in}
 use Rattle.corners.specs.Corners.{leads, leadsBy}
-use Rattle.corners.specs.Steps.{Leads, Moves, Rows, joinOf, throughOf, pivotOf, reachOf}
+use Rattle.corners.specs.inside.Steps.{LeadsTo, MovesFrom, MoveRows, joinOf, pivotBelow, pivotOf, reachOf}
 use Rattle.corners.proofs.LeftRecursion.{leads-place}
 
 -- ---- Booleans
@@ -40,15 +40,15 @@ module _ (t : List ℕ) (nullable first from x p : ℕ) (i : Onward t nullable f
       ≡ (testBit from c || leads (testBit nullable) c (suffix (grammarIn t) first))
   along e c = rw (← e) (ap (λ (b : Bool). testBit x c || b) (sym (leads-place (testBit nullable) c (grammarIn t) p)) ∙ i c)
 
-  pub left-end : facing (grammarIn t) p ≡ End → Leads nullable from (suffix (grammarIn t) first) x
-  unfolding Leads
+  pub left-end : facing (grammarIn t) p ≡ End → LeadsTo nullable from (suffix (grammarIn t) first) x
+  unfolding LeadsTo
   left-end e c = sym (or-none (testBit x c)) ∙ along e c
 
-  pub left-token : {k : ℕ} → facing (grammarIn t) p ≡ Token k → Leads nullable from (suffix (grammarIn t) first) x
-  unfolding Leads
+  pub left-token : {k : ℕ} → facing (grammarIn t) p ≡ Token k → LeadsTo nullable from (suffix (grammarIn t) first) x
+  unfolding LeadsTo
   left-token e c = sym (or-none (testBit x c)) ∙ along e c
 
-  pub left-past : placeWords ≤ p → Leads nullable from (suffix (grammarIn t) first) x
+  pub left-past : placeWords ≤ p → LeadsTo nullable from (suffix (grammarIn t) first) x
   left-past h = left-end (facing-past t p h)
 
   module _ {b : ℕ} (e : facing (grammarIn t) p ≡ Nonterminal b) {y : ℕ} (q : y ≡ setBit x b) {d : Bool} (h : d ≡ testBit nullable b) where
@@ -59,8 +59,8 @@ module _ (t : List ℕ) (nullable first from x p : ℕ) (i : Onward t nullable f
         rw (q, h, test-set, eqb-sym c b)
         (or-assoc (testBit x c) (eqb b c) (testBit nullable b && leads (testBit nullable) c (suffix (grammarIn t) (suc p))) ∙ along e c)
 
-    pub left-stops : not d ≡ true → Leads nullable from (suffix (grammarIn t) first) y
-    unfolding Leads
+    pub left-stops : not d ≡ true → LeadsTo nullable from (suffix (grammarIn t) first) y
+    unfolding LeadsTo
     left-stops n c =
         let z : d ≡ false = not-true d n in
         sym (or-none (testBit y c)) ∙ ap (λ (v : Bool). testBit y c || (v && leads (testBit nullable) c (suffix (grammarIn t) (suc p)))) (sym z) ∙ joined c
@@ -82,16 +82,16 @@ module _ (t : List ℕ) (nullable a e : ℕ) where
   moves-begin h p q c = rw (test-none, p, q, add-one, alternatives-in t a h)
 
   module _ (x k : ℕ) (i : Rest t nullable a e x k) where
-    pub moves-next : (f y : ℕ) → k < e → e ≤ length t → f ≡ getD t k 0 → Leads nullable x (suffix (grammarIn t) f) y
+    pub moves-next : (f y : ℕ) → k < e → e ≤ length t → f ≡ getD t k 0 → LeadsTo nullable x (suffix (grammarIn t) f) y
         → Rest t nullable a e y (k + 1)
-    unfolding anyOf Leads
+    unfolding anyOf LeadsTo
     moves-next f y l h q z c =
         rw (z c, add-one) (or-assoc (testBit x c) (leads (testBit nullable) c (suffix (grammarIn t) f))
         (anyOf (λ f. leads (testBit nullable) c (suffix (grammarIn t) f)) (slice (suc k) e t))
         ∙ (rw (slice-cons k e t 0 l h, ← q) at (i c)))
 
-    pub moves-done : e ≤ k → Moves nullable (grammarIn t) a x
-    unfolding anyOf Moves
+    pub moves-done : e ≤ k → MovesFrom nullable (grammarIn t) a x
+    unfolding anyOf MovesFrom
     moves-done h c =
         sym (or-none (testBit x c))
         ∙ ap (λ (l : List ℕ). testBit x c || anyOf (λ f. leads (testBit nullable) c (suffix (grammarIn t) f)) l)
@@ -99,35 +99,35 @@ module _ (t : List ℕ) (nullable a e : ℕ) where
         ∙ i c
 
 -- ---- the rows to begin with
-pub rows-more : (nullable : ℕ) (g : Grammar) (rows : List ℕ) (a : ℕ) (v : ℕ) → a < length rows → Rows nullable g a rows → Moves nullable g a v
-    → Rows nullable g (a + 1) (set rows a v)
-unfolding Rows
+pub rows-more : (nullable : ℕ) (g : Grammar) (rows : List ℕ) (a : ℕ) (v : ℕ) → a < length rows → MoveRows nullable g a rows → MovesFrom nullable g a v
+    → MoveRows nullable g (a + 1) (set rows a v)
+unfolding MoveRows
 rows-more nullable g rows a v l h m b k = go (same? b a)
   where
-    go : (b ≡ a) ⊎ (b ≡ a → ⊥) → Moves nullable g b (getD (set rows a v) b 0)
+    go : (b ≡ a) ⊎ (b ≡ a → ⊥) → MovesFrom nullable g b (getD (set rows a v) b 0)
     go (inl e) = rw (e, getD-set-same rows a v 0 l) m
     go (inr e) = rw (getD-set-other rows a b v 0 e) (h b (omega (arith, add-one a)))
 
-pub rows-none : (nullable : ℕ) (g : Grammar) (rows : List ℕ) → Rows nullable g 0 rows
-unfolding Rows
+pub rows-none : (nullable : ℕ) (g : Grammar) (rows : List ℕ) → MoveRows nullable g 0 rows
+unfolding MoveRows
 rows-none nullable g rows b h = absurd (omega arith)
 
 -- ---- the code's ways through a turn
-pub through-more : (row b a : ℕ) (rows₀ rows : List ℕ) → rows ≡ throughOf row b a rows₀ → {x : ℕ} → x
+pub through-more : (row b a : ℕ) (rows₀ rows : List ℕ) → rows ≡ pivotBelow row b a rows₀ → {x : ℕ} → x
     ≡ cond (testBit (getD rows a 0) b) (bitOr (getD rows a 0) row) (getD rows a 0)
-    → set rows a x ≡ throughOf row b (a + 1) rows₀
-unfolding throughOf joinOf
+    → set rows a x ≡ pivotBelow row b (a + 1) rows₀
+unfolding pivotBelow joinOf
 through-more row b a rows₀ rows i e = rw (e, add-one, ← i) (go (testBit (getD rows a 0) b))
   where
     go : (d : Bool) → set rows a (cond d (bitOr (getD rows a 0) row) (getD rows a 0)) ≡ cond d (set rows a (bitOr (getD rows a 0) row)) rows
     go true = refl
     go false = set-getD rows a 0
 
-pub rows-upto : (nullable : ℕ) (g : Grammar) (rows : List ℕ) (a n : ℕ) → Rows nullable g a rows → a ≡ n → Rows nullable g n rows
+pub rows-upto : (nullable : ℕ) (g : Grammar) (rows : List ℕ) (a n : ℕ) → MoveRows nullable g a rows → a ≡ n → MoveRows nullable g n rows
 rows-upto nullable g rows a n h e = rw e at h
 
 module _ (n b : ℕ) (rows₀ rows : List ℕ) (i : rows ≡ reachOf n b rows₀) {row : ℕ} (e : row ≡ getD rows b 0) where
-  pub reach-pivot : {after : List ℕ} → (row ≡ 0 → ⊥) → after ≡ throughOf row b n rows → after ≡ reachOf n (b + 1) rows₀
+  pub reach-pivot : {after : List ℕ} → (row ≡ 0 → ⊥) → after ≡ pivotBelow row b n rows → after ≡ reachOf n (b + 1) rows₀
   unfolding reachOf pivotOf
   reach-pivot h q = rw (q, add-one, ← i, ← e, ne-eqb row 0 h)
 

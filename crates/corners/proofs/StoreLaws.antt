@@ -8,12 +8,12 @@ use lib.ListN.{getD}
 use Rattle.base.specs.Bits.{testBit}
 use Rattle.base.proofs.Bits.{same?}
 use Rattle.grammar.specs.Limits.{maxNonterminals}
-use Rattle.grammar.specs.Tables.{grammarIn, nonterminalsIn, withCorners, Fits}
+use Rattle.grammar.specs.inside.Tables.{grammarIn, nonterminalsIn, withCorners, TablesFit}
 use Rattle.grammar.proofs.CornerLaws.{put-kept, put-here, put-other, kept-none, kept-on}
 use Rattle.corners.specs.Corners.{Corners, Cornered}
-use Rattle.corners.specs.Steps.{Stored}
+use Rattle.corners.specs.inside.Steps.{Stored}
 
-pub stored-none : (t rows : List ℕ) → Fits t → Stored t rows 0 t
+pub stored-none : (t rows : List ℕ) → TablesFit t → Stored t rows 0 t
 stored-none t rows f = record { kept = kept-none f; same = λ a h. absurd (omega arith) }
 
 pub stored-more : (t₀ rows t : List ℕ) (a : ℕ) {t′ : List ℕ} → a < maxNonterminals → Stored t₀ rows a t → t′

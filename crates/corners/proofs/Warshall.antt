@@ -15,11 +15,11 @@ use Rattle.base.specs.Bits.{testBit}
 use Rattle.base.specs.Rounds.{anyOf}
 use Rattle.base.proofs.Booleans.{or-T, T-or-l, T-or-r, and-T, T-and, or-none, and-none}
 use Rattle.base.proofs.Bits.{test-none, test-or, same?}
-use Rattle.grammar.specs.Grammar.{Grammar, suffix, alternatives}
+use Rattle.grammar.specs.Grammar.{Grammar, suffix, alternatives, ofPlaces}
 use Rattle.closures.specs.Textbook.{Move, Reaches, one}
 use Rattle.corners.specs.Corners.{leads, move?, Corners, leftRecursive?}
-use Rattle.closures.specs.Steps.{DerivingIs}
-use Rattle.corners.specs.Steps.{Moves, Rows, joinOf, throughOf, pivotOf, reachOf}
+use Rattle.closures.specs.inside.Steps.{DerivingIs}
+use Rattle.corners.specs.inside.Steps.{MovesFrom, MoveRows, joinOf, pivotBelow, pivotOf, reachOf}
 use Rattle.corners.proofs.LeftRecursion.{move-iff, reaches-trans, rows-exact-below, rows-recursive}
 
 -- row a holds c
@@ -53,25 +53,25 @@ module _ (row b : ℕ) where
       go true = ap (λ (x : ℕ). testBit x c) (getD-set-same rows a (bitOr (getD rows a 0) row) 0 l) ∙ test-or (getD rows a 0) row c
       go false = sym (or-none (testBit (getD rows a 0) c))
 
-  through-length : (n : ℕ) (rows : List ℕ) → length (throughOf row b n rows) ≡ length rows
-  unfolding throughOf
+  through-length : (n : ℕ) (rows : List ℕ) → length (pivotBelow row b n rows) ≡ length rows
+  unfolding pivotBelow
   through-length zero rows = refl
-  through-length (suc n) rows = join-length n (throughOf row b n rows) ∙ through-length n rows
+  through-length (suc n) rows = join-length n (pivotBelow row b n rows) ∙ through-length n rows
 
-  through-above : (n a : ℕ) (rows : List ℕ) → n ≤ a → getD (throughOf row b n rows) a 0 ≡ getD rows a 0
-  unfolding throughOf
+  through-above : (n a : ℕ) (rows : List ℕ) → n ≤ a → getD (pivotBelow row b n rows) a 0 ≡ getD rows a 0
+  unfolding pivotBelow
   through-above zero a rows h = refl
-  through-above (suc n) a rows h = join-other n a (throughOf row b n rows) (λ e. omega arith) ∙ through-above n a rows (omega arith)
+  through-above (suc n) a rows h = join-other n a (pivotBelow row b n rows) (λ e. omega arith) ∙ through-above n a rows (omega arith)
 
-  through-at : (n a : ℕ) (rows : List ℕ) → a < n → a < length rows → (c : ℕ) → holds (throughOf row b n rows) a c
+  through-at : (n a : ℕ) (rows : List ℕ) → a < n → a < length rows → (c : ℕ) → holds (pivotBelow row b n rows) a c
       ≡ (holds rows a c || (holds rows a b && testBit row c))
-  unfolding throughOf
+  unfolding pivotBelow
   through-at zero a rows h l c = absurd (omega arith)
   through-at (suc n) a rows h l c = elim (decLt a n) [
-    | yes k ↦ ap (λ (x : ℕ). testBit x c) (join-other n a (throughOf row b n rows) (λ e. omega arith)) ∙ through-at n a rows k l c
+    | yes k ↦ ap (λ (x : ℕ). testBit x c) (join-other n a (pivotBelow row b n rows) (λ e. omega arith)) ∙ through-at n a rows k l c
     | no k ↦
         (let e : n ≡ a = omega arith in
-        rw e (join-same a (throughOf row b a rows) (omega (arith, through-length a rows)) c
+        rw e (join-same a (pivotBelow row b a rows) (omega (arith, through-length a rows)) c
         ∙ ap (λ (x : ℕ). testBit x c || (testBit x b && testBit row c)) (through-above a a rows (omega arith))))
   ]
 
@@ -81,7 +81,7 @@ pivot-at : (n b a : ℕ) (rows : List ℕ) → a < n → a < length rows → (c 
 unfolding pivotOf
 pivot-at n b a rows h l c = go (eqb (getD rows b 0) 0) refl
   where
-    go : (d : Bool) → eqb (getD rows b 0) 0 ≡ d → holds (cond d rows (throughOf (getD rows b 0) b n rows)) a c
+    go : (d : Bool) → eqb (getD rows b 0) 0 ≡ d → holds (cond d rows (pivotBelow (getD rows b 0) b n rows)) a c
         ≡ (holds rows a c || (holds rows a b && holds rows b c))
     go true e =
         let z : holds rows b c ≡ false = ap (λ (x : ℕ). testBit x c) (eqb-true (getD rows b 0) 0 e) ∙ test-none c in
@@ -93,7 +93,7 @@ pivot-length : (n b : ℕ) (rows : List ℕ) → length (pivotOf n b rows) ≡ l
 unfolding pivotOf
 pivot-length n b rows = go (eqb (getD rows b 0) 0)
   where
-    go : (d : Bool) → length (cond d rows (throughOf (getD rows b 0) b n rows)) ≡ length rows
+    go : (d : Bool) → length (cond d rows (pivotBelow (getD rows b 0) b n rows)) ≡ length rows
     go true = refl
     go false = through-length (getD rows b 0) b n rows
 
@@ -154,7 +154,7 @@ module _ (n : ℕ) where
   reach-keeps (suc b) rows few a c l t = pivot-keeps b (reachOf n b rows) (omega (arith, reach-length n b rows)) a c l (reach-keeps b rows few a c l t)
 
   abbrev Sound : Grammar → List ℕ → Type 0
-  Sound g rows = (a c : ℕ) → a < n → T (holds rows a c) → Reaches g a c
+  Sound g rows = (a c : ℕ) → a < n → T (holds rows a c) → Reaches (ofPlaces g) a c
 
   pub reach-sound : (g : Grammar) (b : ℕ) (rows : List ℕ) → n ≤ length rows → b ≤ n → Sound g rows → Sound g (reachOf n b rows)
   unfolding reachOf
@@ -163,21 +163,21 @@ module _ (n : ℕ) where
       λ a c l t. go a c l (reach-sound g b rows few (omega arith) h) (pivot-from b (reachOf n b rows) (omega (arith, reach-length n b rows)) a c l t)
     where
       go : (a c : ℕ) → a < n → Sound g (reachOf n b rows)
-          → T (holds (reachOf n b rows) a c) ⊎ (T (holds (reachOf n b rows) a b) × T (holds (reachOf n b rows) b c)) → Reaches g a c
+          → T (holds (reachOf n b rows) a c) ⊎ (T (holds (reachOf n b rows) a b) × T (holds (reachOf n b rows) b c)) → Reaches (ofPlaces g) a c
       go a c l s (inl t) = s a c l t
       go a c l s (inr t) = reaches-trans (s a b l (t .0)) (s b c (omega arith) (t .1))
 
 -- ---- the rows to begin with
-moves-are : (nullable : ℕ) (g : Grammar) (a x : ℕ) → DerivingIs false g nullable → Moves nullable g a x → (c : ℕ) → testBit x c ≡ move? g a c
-unfolding Moves DerivingIs move?
+moves-are : (nullable : ℕ) (g : Grammar) (a x : ℕ) → DerivingIs false g nullable → MovesFrom nullable g a x → (c : ℕ) → testBit x c ≡ move? g a c
+unfolding MovesFrom DerivingIs move?
 moves-are nullable g a x d m c = m c ∙ ap (λ (X : ℕ → Bool). anyOf (λ f. leads X c (suffix g f)) (alternatives g a)) (fun-ext d)
 
-pub corners-are : (nullable : ℕ) (g : Grammar) (n : ℕ) (rows : List ℕ) → DerivingIs false g nullable → Rows nullable g n rows → Corners g n rows
-unfolding Rows Corners
+pub corners-are : (nullable : ℕ) (g : Grammar) (n : ℕ) (rows : List ℕ) → DerivingIs false g nullable → MoveRows nullable g n rows → Corners g n rows
+unfolding MoveRows Corners
 corners-are nullable g n rows d h a c l = moves-are nullable g a (getD rows a 0) d (h a l) c
 
 -- ---- so the rows are right
-module _ (g : Grammar) (n : ℕ) (rows : List ℕ) (e : n ≡ length (g .starts)) (named : (a c : ℕ) → Move g a c → c < n) (few : n ≤ length rows)
+module _ (g : Grammar) (n : ℕ) (rows : List ℕ) (e : n ≡ length (g .starts)) (named : (a c : ℕ) → Move (ofPlaces g) a c → c < n) (few : n ≤ length rows)
     (h : Corners g n rows) where
   row-is : (a : ℕ) → a < n → (c : ℕ) → holds rows a c ≡ move? g a c
   unfolding Corners

@@ -11,7 +11,7 @@ use Rattle.base.specs.Rounds.{rounds, anyOf, upFrom}
 use Rattle.grammar.specs.declared.Symbol.{Symbol}
 use Rattle.grammar.specs.declared.Symbol.the-variants.{Token, Nonterminal, End}
 use Rattle.grammar.specs.Grammar.{Grammar, alternatives, suffix}
-use Rattle.grammar.specs.Tables.{grammarIn, nonterminalsIn, cornerRow}
+use Rattle.grammar.specs.inside.Tables.{grammarIn, nonterminalsIn, cornerRow}
 use Rattle.closures.specs.Closures.{deriving?, nullable?}
 
 -- c stands in a list behind only nonterminals that X holds
@@ -43,14 +43,14 @@ unfolding move?
 Cornered t = (a c : ℕ) → a < nonterminalsIn t → testBit (cornerRow t a) c ≡ move? (grammarIn t) a c
 
 -- one round: a move leads from a to c, or to a nonterminal that X holds
-unfoldable pub reachRound : Grammar → ℕ → (ℕ → Bool) → ℕ → Bool
+unfoldable pub reachesRound : Grammar → ℕ → (ℕ → Bool) → ℕ → Bool
 unfolding move? anyOf upFrom
-reachRound g c X a = let rest = anyOf (λ b. move? g a b && X b) (upFrom 0 (length (g .starts))) in move? g a c || rest
+reachesRound g c X a = let rest = anyOf (λ b. move? g a b && X b) (upFrom 0 (length (g .starts))) in move? g a c || rest
 
 -- one or more moves lead from a to c
 unfoldable pub reaches? : Grammar → ℕ → ℕ → Bool
-unfolding rounds reachRound
-reaches? g a c = rounds (reachRound g c) (suc (length (g .starts))) a
+unfolding rounds reachesRound
+reaches? g a c = rounds (reachesRound g c) (suc (length (g .starts))) a
 
 -- moves lead from a back to a
 unfoldable pub leftRecursive? : Grammar → ℕ → Bool

@@ -1,3 +1,3 @@
 -- Where moves lead, worked out by rounds.
 pub mod Corners
-pub mod Steps
+pub mod inside

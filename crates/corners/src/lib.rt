@@ -8,14 +8,14 @@ ghost use lib.ListN.{length};
 ghost use Rattle.base.specs.Bits.{testBit};
 ghost use Rattle.grammar.specs.Grammar.{suffix};
 ghost use Rattle.grammar.specs.Limits.{maxNonterminals};
-ghost use Rattle.grammar.specs.Tables.{grammarIn, nonterminalsIn, Fits};
+ghost use Rattle.grammar.specs.inside.Tables.{grammarIn, nonterminalsIn, TablesFit};
 ghost use Rattle.corners.specs.Corners.{Corners};
-ghost use Rattle.corners.specs.Steps.{Leads, Moves, Rows, Storing, Stored, Joining, throughOf, reachOf};
+ghost use Rattle.corners.specs.inside.Steps.{LeadsTo, MovesFrom, MoveRows, Storing, Stored, Joining, pivotBelow, reachOf};
 
 // The set `from` with every nonterminal that stands from place `first` on behind only nullable ones.
 fn left_from(tables: &[u16], nullable: u32, first: usize, from: u32) -> u32
-    requires { ⌜ Fits (now tables) ⌝ }
-    ensures { λ r. ⌜ Leads nullable from (suffix (grammarIn (now (tables .entry))) first) r ⌝ }
+    requires { ⌜ TablesFit (now tables) ⌝ }
+    ensures { λ r. ⌜ LeadsTo nullable from (suffix (grammarIn (now (tables .entry))) first) r ⌝ }
 {
     let mut set = from;
     let mut p = first;
@@ -39,8 +39,8 @@ fn left_from(tables: &[u16], nullable: u32, first: usize, from: u32) -> u32
 
 // The nonterminals that one move leads to from a.
 fn moves(tables: &[u16], nullable: u32, a: usize) -> u32
-    requires { ⌜ Fits (now tables) × (a < nonterminalsIn (now tables)) ⌝ }
-    ensures { λ r. ⌜ Moves nullable (grammarIn (now (tables .entry))) a r ⌝ }
+    requires { ⌜ TablesFit (now tables) × (a < nonterminalsIn (now tables)) ⌝ }
+    ensures { λ r. ⌜ MovesFrom nullable (grammarIn (now (tables .entry))) a r ⌝ }
 {
     let start = grammar::rule_at(tables, a);
     let end = grammar::rule_at(tables, a + 1);
@@ -56,8 +56,8 @@ fn moves(tables: &[u16], nullable: u32, a: usize) -> u32
 
 // A row for each nonterminal: where one move leads, by the set of those that are nullable.
 fn begin(tables: &[u16], nullable: u32, rows: &mut [u32])
-    requires { ⌜ Fits (now tables) × (length (now rows) ≡ maxNonterminals) ⌝ }
-    ensures { λ r. ⌜ Rows nullable (grammarIn (now (tables .entry))) (nonterminalsIn (now (tables .entry))) (now (rows .exit)) ⌝ }
+    requires { ⌜ TablesFit (now tables) × (length (now rows) ≡ maxNonterminals) ⌝ }
+    ensures { λ r. ⌜ MoveRows nullable (grammarIn (now (tables .entry))) (nonterminalsIn (now (tables .entry))) (now (rows .exit)) ⌝ }
 {
     let n = grammar::nonterminals(tables);
     let mut a = 0;
@@ -77,7 +77,7 @@ fn joined(held: u32, b: usize, row: u32) -> u32
 
 // The left corners of each nonterminal: where one move leads from it.
 pub fn corners(tables: &[u16], rows: &mut [u32])
-    requires { ⌜ Fits (now tables) × (length (now rows) ≡ maxNonterminals) ⌝ }
+    requires { ⌜ TablesFit (now tables) × (length (now rows) ≡ maxNonterminals) ⌝ }
     ensures { λ r. ⌜ Corners (grammarIn (now (tables .entry))) (nonterminalsIn (now (tables .entry))) (now (rows .exit)) ⌝ }
 {
     let nullable = closures::derivers(tables, false);
@@ -100,7 +100,7 @@ pub fn store(tables: &mut [u16], rows: &[u32])
 // Every row that holds b is joined by the row of b, `row`.
 fn through(rows: &mut [u32], n: usize, row: u32, b: usize)
     requires { ⌜ Joining n b (now rows) ⌝ }
-    ensures { λ r. ⌜ now (rows .exit) ≡ throughOf row b n (now (rows .entry)) ⌝ }
+    ensures { λ r. ⌜ now (rows .exit) ≡ pivotBelow row b n (now (rows .entry)) ⌝ }
 {
     let mut a = 0;
     while a < n {

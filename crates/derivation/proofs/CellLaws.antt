@@ -17,7 +17,8 @@ use Rattle.grammar.specs.declared.Symbol.{Symbol}
 use Rattle.grammar.specs.declared.Symbol.the-variants.{Token, Nonterminal, End}
 use Rattle.grammar.specs.Grammar.{Grammar, facing, admits, alternatives, first}
 use Rattle.grammar.proofs.GrammarLaws.{faces-place}
-use Rattle.derivation.specs.Runs.{Run, Der, Ders, none, more, DerivesBy, Opens}
+use Rattle.derivation.specs.Runs.{Run, Opens}
+use Rattle.derivation.specs.inside.BigSteps.{Der, Ders, none, more, DerivesBy}
 use Rattle.derivation.specs.Cells.{Cell, cell, cuts, byToken, byCut, bySymbol, cellRound, cellCount, derives?, runs?}
 use Rattle.derivation.proofs.Notes.{get-lt}
 use Rattle.derivation.proofs.RunLaws.{der-le, der-in, run→ders, der+run}

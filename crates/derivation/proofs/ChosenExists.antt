@@ -12,24 +12,27 @@ use Rattle.base.proofs.Booleans.{clash}
 use Rattle.grammar.specs.declared.Symbol.the-variants.{Nonterminal}
 use Rattle.grammar.specs.Limits.{endPlace}
 use Rattle.grammar.specs.Decode.{Rules}
-use Rattle.grammar.specs.Grammar.{Grammar, facing, first, sizeAll, compile, Limited}
-use Rattle.grammar.specs.Ordered.{Ordered}
+use Rattle.grammar.specs.Grammar.{Grammar, facing, first, sizeAll, compile, Limited, ofPlaces}
+use Rattle.grammar.specs.inside.Ordered.{Ordered}
 use Rattle.grammar.specs.Derivation.{Derives}
 use Rattle.grammar.proofs.OrderedLaws.{compile-ordered}
 use Rattle.grammar.proofs.PlaceLaws.{compile-within}
 use Rattle.closures.specs.Textbook.{LeftRecursive}
-use Rattle.derivation.specs.Runs.{Run, Whole, marked}
-use Rattle.derivation.specs.Machine.{Chooser, Serves, lowest, plainly, Outcome, accepted, stuck, full, Step, step, followStep, run}
-use Rattle.derivation.specs.Choosers.{Anywhere, Anyone, AnyState, anywhere}
+use Rattle.derivation.specs.Runs.{Run, marked}
+use Rattle.derivation.specs.inside.BigSteps.{ReadsWhole}
+use Rattle.derivation.specs.Machine.{Chooser, lowest, plainly, Conclusion, accepted, stuck, full, Action, step, followStep, run}
+use Rattle.derivation.specs.Runs.{Serves}
+use Rattle.derivation.specs.inside.Choosers.{Anywhere, Anyone, AnyState, anywhere}
 use Rattle.derivation.specs.Chosen.{Chosen}
-use Rattle.derivation.specs.Steps.{popped, matched, picked, Quiet, Reads}
+use Rattle.derivation.specs.inside.Steps.{popped, matched, picked, Quiet, Reads}
 use Rattle.derivation.proofs.WholeChosen.{start-chosen}
 use Rattle.derivation.proofs.WholeNotes.{whole-sentence}
 use Rattle.derivation.proofs.MachineLaws.{Names, Seen, see, prefix-full}
 use Rattle.derivation.proofs.MachineLive.{run-live}
 use Rattle.derivation.proofs.LowestLaws.{lowest-serves, lowest-right}
 use Rattle.derivation.proofs.LowestReading.{plainRun}
-use Rattle.derivation.proofs.Entries.{Open, open-start, open-step}
+use Rattle.derivation.proofs.Entries.{open-start, open-step}
+use Rattle.derivation.specs.inside.Entries.{Open}
 use Rattle.derivation.proofs.Depth.{frames}
 use Rattle.derivation.proofs.CompiledDepth.{end-quiet, compile-reads}
 
@@ -82,7 +85,7 @@ module _ {C : Type 0} (g : Grammar) (ordered : Ordered g) (w : List ℕ) (n : �
 
   room-step : (k : ℕ) → Roomy k → (named : Names) (S : List ℕ) (i room h : ℕ) (c : C) → Open g G n S i → length S + h ≡ suc D
       → potential P h S ≤ room
-      → (x : Step) → Seen g w named S i room x → ¬ ((followStep (run g w choose k) i room x c) .outcome ≡ full)
+      → (x : Action) → Seen g w named S i room x → ¬ ((followStep (run g w choose k) i room x c) .outcome ≡ full)
   room-step k rec named S i room h c o l m x (Seen.ended e) q = clash (cc)
   room-step k rec named S i room h c o l m x (Seen.halted e) q = clash (cc)
   room-step k rec named S i room h c o l m x (Seen.crammed {p = p} {a = a} {S = S′} e) q =
@@ -111,7 +114,7 @@ module _ {C : Type 0} (g : Grammar) (ordered : Ordered g) (w : List ℕ) (n : �
 
 -- ---- so a sentence has a chosen derivation
 module _ (g : Grammar) (ordered : Ordered g) (w : List ℕ) (n : ℕ) (reads : Reads g (marked w) n) (P : ℕ)
-    (within : (p d : ℕ) → facing g p ≡ Nonterminal d → p < P) (sound : (a : ℕ) → ¬ LeftRecursive g a) where
+    (within : (p d : ℕ) → facing g p ≡ Nonterminal d → p < P) (sound : (a : ℕ) → ¬ LeftRecursive (ofPlaces g) a) where
   -- over the end place the machine is not full
   roomy : (D h k a b f : ℕ) → D ≡ (suc P / 2) * suc n + 1 → first g a b ≡ some f → h + 1 ≡ D
       → ¬ ((plainRun g (marked w) k (f ∷ endPlace ∷ []) 0 (potential P h (f ∷ endPlace ∷ [])) tt) .outcome ≡ full)
@@ -121,14 +124,14 @@ module _ (g : Grammar) (ordered : Ordered g) (w : List ℕ) (n : ℕ) (reads : R
       (open-start g ordered (marked w) n reads (endPlace ∷ []) (end-quiet g ordered) a b f e) (omega arith) (omega arith)
 
   abbrev Some : Type 0
-  Some = (s : List ℕ) × Chosen g (Nonterminal 0 ∷ []) s w
+  Some = (s : List ℕ) × Chosen (ofPlaces g) (Nonterminal 0 ∷ []) s w
 
   ending : (b f k room : ℕ) → first g 0 b ≡ some f → ((c : ℕ) → Serves g (marked w) (endPlace ∷ []) 0 0 c → b ≤ c)
       → ¬ ((plainRun g (marked w) k (f ∷ endPlace ∷ []) 0 room tt) .outcome ≡ stuck)
       → ¬ ((plainRun g (marked w) k (f ∷ endPlace ∷ []) 0 room tt) .outcome ≡ full) → Some
   ending b f k room e least live roomy = go ((plainRun g (marked w) k (f ∷ endPlace ∷ []) 0 room tt) .outcome) refl
     where
-      go : (o : Outcome) → (plainRun g (marked w) k (f ∷ endPlace ∷ []) 0 room tt) .outcome ≡ o → Some
+      go : (o : Conclusion) → (plainRun g (marked w) k (f ∷ endPlace ∷ []) 0 room tt) .outcome ≡ o → Some
       go (accepted s) q = (b ∷ s, start-chosen g ordered w b f k room tt e least s q)
       go stuck q = absurd (live q)
       go full q = absurd (roomy q)
@@ -145,19 +148,19 @@ module _ (g : Grammar) (ordered : Ordered g) (w : List ℕ) (n : ℕ) (reads : R
       tt tt (r, x))
       (rw z (roomy (h + 1) h k 0 b f (omega arith) e refl))
 
-  pub sentence-chosen : Derives g (Nonterminal 0 ∷ []) w → Some
+  pub sentence-chosen : Derives (ofPlaces g) (Nonterminal 0 ∷ []) w → Some
   sentence-chosen d =
       go (lowest g (marked w) (endPlace ∷ []) 0 0) (lowest-serves g (marked w) (endPlace ∷ []) 0 0)
       (whole-sentence g (ordered .end-mark) (ordered .end-past) 0 w .1 d)
     where
-      go : (o : Option ℕ) → LowestIs (Serves g (marked w) (endPlace ∷ []) 0 0) o → (b : ℕ) × (r : List ℕ) × Whole g 0 b r w → Some
+      go : (o : Option ℕ) → LowestIs (Serves g (marked w) (endPlace ∷ []) 0 0) o → (b : ℕ) × (r : List ℕ) × ReadsWhole g 0 b r w → Some
       go o (this b (f, e, (r, x)) least) _ =
           enough b f ((suc P / 2) * suc n) (potential P ((suc P / 2) * suc n) (f ∷ endPlace ∷ []))
           (suc (2 * potential P ((suc P / 2) * suc n) (f ∷ endPlace ∷ []) + length (marked w) + 2)) r refl refl (omega arith) e x least
       go o (nothing n) (b, r, (f, e, x)) = absurd (n b (f, e, (r, x)))
 
-pub chosen-exists : (r : Rules) → Limited r → ((a : ℕ) → ¬ LeftRecursive (compile r) a) → (w : List ℕ)
-    → Derives (compile r) (Nonterminal 0 ∷ []) w
-    → (s : List ℕ) × Chosen (compile r) (Nonterminal 0 ∷ []) s w
+pub chosen-exists : (r : Rules) → Limited r → ((a : ℕ) → ¬ LeftRecursive (ofPlaces (compile r)) a) → (w : List ℕ)
+    → Derives (ofPlaces (compile r)) (Nonterminal 0 ∷ []) w
+    → (s : List ℕ) × Chosen (ofPlaces (compile r)) (Nonterminal 0 ∷ []) s w
 chosen-exists r limits none w =
     sentence-chosen (compile r) (compile-ordered r limits) w (length w) (compile-reads r limits w) (sizeAll (r .productions)) (compile-within r limits) none

@@ -8,34 +8,34 @@ use native.Mathlib.Decide.{decLt}
 use Rattle.base.proofs.Booleans.{clash}
 use Rattle.grammar.specs.declared.Symbol.{Symbol}
 use Rattle.grammar.specs.declared.Symbol.the-variants.{Token, Nonterminal}
-use Rattle.grammar.specs.Grammar.{Grammar, production}
-use Rattle.grammar.specs.Derivation.{Leftmost, Derives}
+use Rattle.grammar.specs.Grammar.{Grammar, ofPlaces}
+use Rattle.grammar.specs.Derivation.{Syntax, Leftmost, Derives}
 use Rattle.grammar.proofs.GrammarLaws.{admits-self}
 use Rattle.derivation.specs.Chosen.{Chosen}
 use Rattle.derivation.proofs.Notes.{no-snoc}
 use Rattle.derivation.proofs.WholeNotes.{leftmost-mark, leftmost-before}
 
-pub chosen→leftmost : {g : Grammar} {α : List Symbol} {r w : List ℕ} → Chosen g α r w → Leftmost g α r w
+pub chosen→leftmost : {g : Syntax} {α : List Symbol} {r w : List ℕ} → Chosen g α r w → Leftmost g α r w
 chosen→leftmost Chosen.done = Leftmost.done
 chosen→leftmost (Chosen.match c x) = Leftmost.match c (chosen→leftmost x)
 chosen→leftmost (Chosen.expand e l x) = Leftmost.expand e (chosen→leftmost x)
 
 -- no lower alternative serves
-abbrev pub NoneLower : Grammar → ℕ → ℕ → List Symbol → List ℕ → Type 0
-NoneLower g a b α w = (c : ℕ) (γ : List Symbol) → c < b → production g a c ≡ some γ → ¬ Derives g (γ ++ α) w
+abbrev pub NoneLower : Syntax → ℕ → ℕ → List Symbol → List ℕ → Type 0
+NoneLower g a b α w = (c : ℕ) (γ : List Symbol) → c < b → g .production a c ≡ some γ → ¬ Derives g (γ ++ α) w
 
 -- a chosen derivation that begins with an expansion of a
-pub record Expanded (g : Grammar) (a : ℕ) (α : List Symbol) (s v : List ℕ) : Type 0 where
+pub record Expanded (g : Syntax) (a : ℕ) (α : List Symbol) (s v : List ℕ) : Type 0 where
   pub alternative : ℕ
   pub symbols : List Symbol
   pub rest : List ℕ
-  pub stands : production g a alternative ≡ some symbols
+  pub stands : g .production a alternative ≡ some symbols
   pub lowest : NoneLower g a alternative α v
-  pub onward : Chosen g (symbols ++ α) rest v
+  pub remaining : Chosen g (symbols ++ α) rest v
   pub row : s ≡ alternative ∷ rest
 
 -- ---- how a chosen derivation goes on, by what it derives from
-module _ {g : Grammar} where
+module _ {g : Syntax} where
   chosen-nil : {γ : List Symbol} {s v : List ℕ} → Chosen g γ s v → γ ≡ [] → s ≡ []
   chosen-nil Chosen.done e = refl
   chosen-nil (Chosen.match c x) e = clash (cc)
@@ -63,13 +63,13 @@ module _ {g : Grammar} where
         rest = r;
         stands = rw q at c;
         lowest = rw (p, q) at l;
-        onward = rw p at x;
+        remaining = rw p at x;
         row = refl;
       }
 
   -- the lowest alternative that serves is one
-  pub same-lowest : (a b c : ℕ) {α β γ : List Symbol} {w : List ℕ} → production g a b ≡ some β → NoneLower g a b α w → Derives g (β ++ α) w
-      → production g a c ≡ some γ → NoneLower g a c α w → Derives g (γ ++ α) w → b ≡ c
+  pub same-lowest : (a b c : ℕ) {α β γ : List Symbol} {w : List ℕ} → g .production a b ≡ some β → NoneLower g a b α w → Derives g (β ++ α) w
+      → g .production a c ≡ some γ → NoneLower g a c α w → Derives g (γ ++ α) w → b ≡ c
   same-lowest a b c {α} {β} {γ} eb lb xb ec lc xc = go (decLt b c) (decLt c b)
     where
       go : Dec (b < c) → Dec (c < b) → b ≡ c
@@ -88,28 +88,29 @@ module _ {g : Grammar} where
     where
       go : Expanded g a α s w → ((s : List ℕ) → Chosen g (β ++ α) s w → r ≡ s) → b ∷ r ≡ s
       go d rec =
-          let q : b ≡ d .alternative = same-lowest a b (d .alternative) e l (chosen-derives x) (d .stands) (d .lowest) (chosen-derives (d .onward)) in
-          let h : production g a b ≡ some (d .symbols) = rw q (d .stands) in
+          let q : b ≡ d .alternative = same-lowest a b (d .alternative) e l (chosen-derives x) (d .stands) (d .lowest) (chosen-derives (d .remaining)) in
+          let h : g .production a b ≡ some (d .symbols) = rw q (d .stands) in
           let z : β ≡ d .symbols = cc in
-          let u = rec (d .rest) (rw z (d .onward)) in
+          let u = rec (d .rest) (rw z (d .remaining)) in
           cc (d .row)
 
-  -- ---- with a token behind what is derived
-  pub chosen-mark : (k : ℕ) {α : List Symbol} {r w : List ℕ} → Chosen g α r w → Chosen g (α ++ (Token k ∷ [])) r (w ++ (k ∷ []))
+-- ---- with a token behind what is derived
+module _ (g : Grammar) where
+  pub chosen-mark : (k : ℕ) {α : List Symbol} {r w : List ℕ} → Chosen (ofPlaces g) α r w → Chosen (ofPlaces g) (α ++ (Token k ∷ [])) r (w ++ (k ∷ []))
   chosen-mark k Chosen.done = Chosen.match (admits-self g k) Chosen.done
   chosen-mark k (Chosen.match c x) = Chosen.match c (chosen-mark k x)
   chosen-mark k (Chosen.expand {β = β} {α = α} {w = w} e l x) =
-      Chosen.expand e (λ c γ h d s. l c γ h d (s .0, leftmost-mark (γ ++ α) k (s .0) w .0 (rw append-assoc (s .1)))) (rw append-assoc at (chosen-mark k x))
+      Chosen.expand e (λ c γ h d s. l c γ h d (s .0, leftmost-mark g (γ ++ α) k (s .0) w .0 (rw append-assoc (s .1)))) (rw append-assoc at (chosen-mark k x))
 
-  none-left : (k : ℕ) (α : List Symbol) {r : List ℕ} → Leftmost g (α ++ (Token k ∷ [])) r [] → ⊥
+  none-left : (k : ℕ) (α : List Symbol) {r : List ℕ} → Leftmost (ofPlaces g) (α ++ (Token k ∷ [])) r [] → ⊥
   none-left k α x = go (leftmost-before x α k refl)
     where
-      go : {r : List ℕ} → (w : List ℕ) × (t : ℕ) × ([] ≡ w ++ (t ∷ [])) × Leftmost g α r w → ⊥
+      go : {r : List ℕ} → (w : List ℕ) × (t : ℕ) × ([] ≡ w ++ (t ∷ [])) × Leftmost (ofPlaces g) α r w → ⊥
       go (w, t, e, z) = no-snoc w t e
 
-  pub chosen-unmark : (k : ℕ) {γ : List Symbol} {r v : List ℕ} → Chosen g γ r v → (α : List Symbol) (w : List ℕ) → γ
+  pub chosen-unmark : (k : ℕ) {γ : List Symbol} {r v : List ℕ} → Chosen (ofPlaces g) γ r v → (α : List Symbol) (w : List ℕ) → γ
       ≡ α ++ (Token k ∷ []) → v ≡ w ++ (k ∷ [])
-      → Chosen g α r w
+      → Chosen (ofPlaces g) α r w
   chosen-unmark k Chosen.done [] w e d = clash (cc)
   chosen-unmark k Chosen.done (y ∷ α) w e d = clash (cc)
   chosen-unmark k (Chosen.match {α = γ} {w = v} c x) [] [] e d = let p : γ ≡ [] = cc in let q : v ≡ [] = cc in rw (p, q) at x
@@ -131,5 +132,5 @@ module _ {g : Grammar} where
       let q : γ ≡ α ++ (Token k ∷ []) = cc in
       rw p
       (Chosen.expand c
-      (λ n δ h f s. l n δ h f (s .0, rw (q, d, ← append-assoc) (leftmost-mark (δ ++ α) k (s .0) w .1 (s .1))))
+      (λ n δ h f s. l n δ h f (s .0, rw (q, d, ← append-assoc) (leftmost-mark g (δ ++ α) k (s .0) w .1 (s .1))))
       (chosen-unmark k x (β ++ α) w (ap (λ (z : List Symbol). β ++ z) q ∙ sym (append-assoc β α (Token k ∷ []))) d))

@@ -5,40 +5,26 @@ use mathlib.Core.Option.{some}
 use mathlib.Core.List.{List, [], _∷_, _++_}
 use Prim.Native.Nat.{ℕ, suc, _+_, _*_, _/_, _≤_}
 use lib.ListN.{length}
-use Rattle.base.proofs.Booleans.{clash}
 use Rattle.grammar.specs.Limits.{endPlace, endMark}
-use Rattle.grammar.specs.Decode.{Rules, Mark, got, decode}
-use Rattle.grammar.specs.Grammar.{Grammar, first, sizeAll, compile, Limited}
-use Rattle.grammar.specs.Ordered.{Ordered}
+use Rattle.grammar.specs.Decode.{Rules}
+use Rattle.grammar.specs.Grammar.{Grammar, first, sizeAll, compile, Limited, ofPlaces}
+use Rattle.grammar.specs.inside.Ordered.{Ordered}
 use Rattle.grammar.proofs.OrderedLaws.{compile-ordered}
 use Rattle.grammar.proofs.PlaceLaws.{compile-within, compile-end-only, compile-nobody}
 use Rattle.closures.specs.Textbook.{LeftRecursive}
-use Rattle.soundness.specs.Check.{checkOf}
-use Rattle.soundness.specs.declared.judgement.Verdict.{Verdict}
-use Rattle.soundness.specs.declared.judgement.Verdict.the-variants.{Sound}
-use Rattle.soundness.proofs.CheckLaws.{Means, sound, barren, recursive, check-means}
-use Rattle.derivation.specs.Steps.{Steps, Quiet, Reads}
+use Rattle.derivation.specs.inside.Steps.{Steps, Quiet, Reads}
 use Rattle.derivation.proofs.Depth.{depth, reads-note, reads-marked}
 
 -- the end place calls nothing
 pub end-quiet : (g : Grammar) → Ordered g → Quiet g (endPlace ∷ [])
 end-quiet g ordered = Quiet.token (ordered .end-mark) (Quiet.end (ordered .end-past) Quiet.empty)
 
--- a grammar that passes the check has no left recursion
-pub checked-sound : (s : List ℕ) (r : Rules) (m : Mark) → decode s ≡ got r m → checkOf s ≡ Sound → (a : ℕ) → ¬ LeftRecursive (compile r) a
-checked-sound s r m e v = go (check-means s r m e) v
-  where
-    go : {v : Verdict} → Means (compile r) v → v ≡ Sound → (a : ℕ) → ¬ LeftRecursive (compile r) a
-    go (sound h k) q = k
-    go (barren a x) q = clash (cc)
-    go (recursive a h x) q = clash (cc)
-
 module _ (r : Rules) (limits : Limited r) where
   -- productions read the note's tokens only, never the end mark
   pub compile-reads : (w : List ℕ) → Reads (compile r) (w ++ (endMark ∷ [])) (length w)
   compile-reads w = reads-marked (compile r) w (compile-end-only r limits) (compile-nobody r limits)
 
-  module _ (none : (a : ℕ) → ¬ LeftRecursive (compile r) a) where
+  module _ (none : (a : ℕ) → ¬ LeftRecursive (ofPlaces (compile r)) a) where
     -- the machine over a note alone
     pub compiled-depth : (w : List ℕ) (a b f : ℕ) → first (compile r) a b ≡ some f → (p i : ℕ) (S : List ℕ)
         → Steps (compile r) w (f ∷ endPlace ∷ []) 0 (p ∷ S) i → length S ≤ (suc (sizeAll (r .productions)) / 2) * suc (length w) + 1

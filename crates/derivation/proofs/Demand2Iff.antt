@@ -1,58 +1,78 @@
--- What a right answer's number says, both ways: 0 exactly if the chosen derivation fits the row, 14 exactly if it does not, 10 exactly if the note is no
--- sentence, at the one place where it goes wrong.
-use mathlib.Core.Path.{_≡_, refl, ap}
-use mathlib.Core.List.{List, []}
-use Prim.Native.Nat.{ℕ, _≤_, _<_}
+-- An answer that is one of the three that a note may get is what demand 2 says, both ways: no two of the three have the same number, a note has at most
+-- one chosen derivation, and one that has none is no sentence.
+use mathlib.Core.Path.{_≡_, refl, sym, ap, _∙_}
+use mathlib.Core.Logic.{inl, inr}
+use mathlib.Core.List.{List, _++_}
+use Prim.Native.Nat.{ℕ, _-_, _≤_, _<_}
 use native.Mathlib.Omega.{arith}
-use lib.ListN.{length}
+use lib.ListN.{length, replicate, length-append, length-replicate}
 use Rattle.base.proofs.Booleans.{clash}
-use Rattle.grammar.specs.Grammar.{Grammar}
-use Rattle.derivation.specs.Viable.{WrongAt}
+use Rattle.grammar.specs.Derivation.{Syntax}
+use Rattle.derivation.specs.Viable.{Sentence, WrongAt}
 use Rattle.derivation.specs.Plain.{Answer, accept, clear}
-use Rattle.derivation.specs.Demand2.{ChosenFor, Right, accepted, short, wrong}
+use Rattle.derivation.specs.Demand2.{ChosenFor, FitsRow, ExceedsRow, Cleared, RightAnswer}
 use Rattle.derivation.proofs.ChosenLaws.{chosen→leftmost, chosen-unique}
-use Rattle.derivation.proofs.ViableLaws.{wrong-unique}
 
--- a note that goes wrong has no chosen derivation
-never-both : {g : Grammar} {w : List ℕ} {k : ℕ} → WrongAt g w k → (d : List ℕ) → ¬ ChosenFor g w d
-never-both h d c = h .no-sentence (d, chosen→leftmost c)
+-- the chosen derivation, where it fits the row; 14 where the note is a sentence and it does not; 10 at the place where the note goes wrong
+pub data OneOfThree (g : Syntax) (w row : List ℕ) : Answer → Type 0 where
+  fits : (d : List ℕ) → ChosenFor g w d → length d ≤ length row → OneOfThree g w row (accept d row)
+  exceeds : (d : List ℕ) → ChosenFor g w d → length row < length d → OneOfThree g w row (clear 14 0 row)
+  wrong : (k : ℕ) → WrongAt g w k → OneOfThree g w row (clear 10 k row)
 
--- the chosen derivation, and that it fits the row, or does not
-abbrev pub Fits : Grammar → List ℕ → List ℕ → List ℕ → Type 0
-Fits g w row d = ChosenFor g w d × (length d ≤ length row)
+-- a note that has a chosen derivation is a sentence
+is-sentence : {g : Syntax} {w d : List ℕ} → ChosenFor g w d → Sentence g w
+is-sentence {d = d} c = (d, chosen→leftmost c)
 
-abbrev pub TooLong : Grammar → List ℕ → List ℕ → List ℕ → Type 0
-TooLong g w row d = ChosenFor g w d × (length row < length d)
+-- it either fits the row or does not
+never-both : {g : Syntax} {w : List ℕ} (row : List ℕ) → FitsRow g w row → ¬ ExceedsRow g w row
+never-both row (s, (d, c, l)) (s′, (d′, c′, l′)) = let z = chosen-unique c d′ c′ in omega (arith, ap length z)
 
-module _ {g : Grammar} {w row : List ℕ} where
-  -- ---- from the number to the note
-  pub zero-means : {x : Answer} → Right g w row x → x .number ≡ 0 → (d : List ℕ) × Fits g w row d × (x ≡ accept d row)
-  zero-means (accepted d c l) e = (d, (c, l), refl)
-  zero-means (short d c l) e = clash (omega arith)
-  zero-means (wrong k h) e = clash (omega arith)
+-- a row that is filled up with zeros is as long as it was
+filled : (d row : List ℕ) → length d ≤ length row → length (d ++ replicate (length row - length d) 0) ≡ length row
+filled d row l = length-append d (replicate (length row - length d) 0) ∙ omega (arith, length-replicate {A = ℕ} (length row - length d) 0)
 
-  pub fourteen-means : {x : Answer} → Right g w row x → x .number ≡ 14 → (d : List ℕ) × TooLong g w row d × (x ≡ clear 14 0 row)
-  fourteen-means (accepted d c l) e = clash (omega arith)
-  fourteen-means (short d c l) e = (d, (c, l), refl)
-  fourteen-means (wrong k h) e = clash (omega arith)
+is-cleared : (n k : ℕ) (row : List ℕ) → Cleared row (clear n k row)
+is-cleared n k row = record { count = refl; zeros = refl }
 
-  pub ten-means : {x : Answer} → Right g w row x → x .number ≡ 10 → WrongAt g w (x .place) × (x ≡ clear 10 (x .place) row)
-  ten-means (accepted d c l) e = clash (omega arith)
-  ten-means (short d c l) e = clash (omega arith)
-  ten-means (wrong k h) e = (h, refl)
-
-  -- ---- and back
-  pub fits-zero : {x : Answer} → Right g w row x → (d : List ℕ) → Fits g w row d → x ≡ accept d row
-  fits-zero (accepted d c l) d′ (c′, l′) = ap (λ (z : List ℕ). accept z row) (chosen-unique c d′ c′)
-  fits-zero (short d c l) d′ (c′, l′) = let z = chosen-unique c d′ c′ in absurd (omega (arith, ap length z))
-  fits-zero (wrong k h) d′ (c′, l′) = absurd (never-both h d′ c′)
-
-  pub long-fourteen : {x : Answer} → Right g w row x → (d : List ℕ) → TooLong g w row d → x ≡ clear 14 0 row
-  long-fourteen (accepted d c l) d′ (c′, l′) = let z = chosen-unique c d′ c′ in absurd (omega (arith, ap length z))
-  long-fourteen (short d c l) d′ (c′, l′) = refl
-  long-fourteen (wrong k h) d′ (c′, l′) = absurd (never-both h d′ c′)
-
-  pub wrong-ten : {x : Answer} → Right g w row x → (k : ℕ) → WrongAt g w k → x ≡ clear 10 k row
-  wrong-ten (accepted d c l) k h = absurd (never-both h d c)
-  wrong-ten (short d c l) k h = absurd (never-both h d c)
-  wrong-ten (wrong n h′) k h = ap (λ (z : ℕ). clear 10 z row) (wrong-unique h′ h)
+module _ {g : Syntax} {w row : List ℕ} where
+  pub three-right : {x : Answer} → OneOfThree g w row x → RightAnswer g w row x
+  three-right (fits d c l) =
+      let f : FitsRow g w row = (is-sentence c, (d, c, l)) in
+      record {
+        zero = (λ e. f, λ h. refl);
+        ten = (λ e. clash (omega arith), λ n. absurd (n (is-sentence c)));
+        fourteen = (λ e. clash (omega arith), λ h. absurd (never-both row f h));
+        one-of = inl refl;
+        accepted = λ e. record {
+          derivation = d;
+          chosen = c;
+          only = λ d′ c′. sym (chosen-unique c d′ c′);
+          leftmost = chosen→leftmost c;
+          place = refl;
+          count = refl;
+          entries = refl;
+          long = filled d row l;
+        };
+        wrong = λ e. clash (omega arith);
+        short = λ e. clash (omega arith);
+      }
+  three-right (exceeds d c l) =
+      let f : ExceedsRow g w row = (is-sentence c, (d, c, l)) in
+      record {
+        zero = (λ e. clash (omega arith), λ h. absurd (never-both row h f));
+        ten = (λ e. clash (omega arith), λ n. absurd (n (is-sentence c)));
+        fourteen = (λ e. f, λ h. refl);
+        one-of = inr (inr refl);
+        accepted = λ e. clash (omega arith);
+        wrong = λ e. clash (omega arith);
+        short = λ e. (refl, is-cleared 14 0 row);
+      }
+  three-right (wrong k h) = record {
+    zero = (λ e. clash (omega arith), λ f. absurd (h .no-sentence (f .0)));
+    ten = (λ e. h .no-sentence, λ n. refl);
+    fourteen = (λ e. clash (omega arith), λ f. absurd (h .no-sentence (f .0)));
+    one-of = inr (inl refl);
+    accepted = λ e. clash (omega arith);
+    wrong = λ e. (h, is-cleared 10 k row);
+    short = λ e. clash (omega arith);
+  }

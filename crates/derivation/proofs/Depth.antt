@@ -15,15 +15,17 @@ use lib.ListN.{length, getElem?, length-map}
 use Rattle.base.proofs.Booleans.{clash}
 use Rattle.grammar.specs.declared.Symbol.the-variants.{Token, Nonterminal}
 use Rattle.grammar.specs.Limits.{endPlace, endMark}
-use Rattle.grammar.specs.Grammar.{Grammar, facing, owner, admits, first}
-use Rattle.grammar.specs.Ordered.{Ordered}
+use Rattle.grammar.specs.Grammar.{Grammar, facing, owner, admits, first, ofPlaces}
+use Rattle.grammar.specs.inside.Ordered.{Ordered}
 use Rattle.grammar.proofs.GrammarLaws.{first-below}
 use Rattle.closures.specs.Textbook.{LeftRecursive}
-use Rattle.derivation.specs.Steps.{Steps, Quiet, Reads}
+use Rattle.derivation.specs.inside.Steps.{Steps, Quiet, Reads}
 use Rattle.derivation.proofs.Notes.{get-lt}
 use Rattle.derivation.proofs.Pigeon.{Distinct, pigeon}
-use Rattle.derivation.proofs.Entries.{Entry, entry, Inside, Below, ground, wait, known, Apart, apart-below, apart}
-use Rattle.derivation.proofs.Entries.{Open, inside, quiet, open-start, open-steps}
+use Rattle.derivation.proofs.Entries.{known, Apart, apart-below, apart}
+use Rattle.derivation.specs.inside.Entries.{Entry, entry, Inside, Below, ground, wait}
+use Rattle.derivation.proofs.Entries.{open-start, open-steps}
+use Rattle.derivation.specs.inside.Entries.{Open, inside, quiet}
 
 -- ---- as many entries as numbers that tell them apart
 codes-mem : (h : Entry → ℕ) (E : List Entry) (c : ℕ) → List·Memᴰ c (map h E) → (y : Entry) × List·Memᴰ y E × (c ≡ h y)
@@ -80,7 +82,7 @@ same-half g ordered p q d d′ h e e′ = go (decLe p q) (decLe q p)
     go (yes l) (no m) = let z : q ≡ suc p = omega arith in sym (ap (owner g) z ∙ ordered .call-on p d e)
     go (no l) _ = let z : p ≡ suc q = omega arith in ap (owner g) z ∙ ordered .call-on q d′ e′
 
-module _ {g : Grammar} (sound : (a : ℕ) → ¬ LeftRecursive g a) where
+module _ {g : Grammar} (sound : (a : ℕ) → ¬ LeftRecursive (ofPlaces g) a) where
   -- ---- with the topmost: at most N · (n + 1) entries in all, whatever the order of places
   pub all-by-name : {G : List ℕ} {a e p i : ℕ} {S : List ℕ} {E : List Entry} (n : ℕ) → Inside g a e p i → Below g G S E a e → i ≤ n
       → Apart (entry a e p ∷ E) × (suc (length E) ≤ length (g .starts) * suc n)
@@ -142,7 +144,7 @@ below-length ground = omega arith
 below-length (wait x f b) = let h = below-length b in omega arith
 
 -- the frames are the return places under the place that is read
-pub frames : {g : Grammar} {G : List ℕ} {n p i : ℕ} {S : List ℕ} → ((a : ℕ) → ¬ LeftRecursive g a) → Ordered g
+pub frames : {g : Grammar} {G : List ℕ} {n p i : ℕ} {S : List ℕ} → ((a : ℕ) → ¬ LeftRecursive (ofPlaces g) a) → Ordered g
     → (P : ℕ) → ((p d : ℕ) → facing g p ≡ Nonterminal d → p < P) → Open g G n (p ∷ S) i → length S ≤ (suc P / 2) * suc n + length G
 frames {n = n} sound ordered P within (quiet q l) = omega arith
 frames {n = n} sound ordered P within (inside l x b) =
@@ -151,7 +153,7 @@ frames {n = n} sound ordered P within (inside l x b) =
     omega (arith, below-length b)
 
 -- the whole: from the first place of a production of a on, never more frames than that
-pub depth : (g : Grammar) → Ordered g → (w : List ℕ) (n : ℕ) → Reads g w n → (G : List ℕ) → Quiet g G → ((a : ℕ) → ¬ LeftRecursive g a)
+pub depth : (g : Grammar) → Ordered g → (w : List ℕ) (n : ℕ) → Reads g w n → (G : List ℕ) → Quiet g G → ((a : ℕ) → ¬ LeftRecursive (ofPlaces g) a)
     → (P : ℕ) → ((p d : ℕ) → facing g p ≡ Nonterminal d → p < P) → (a b f : ℕ) → first g a b ≡ some f
     → (p i : ℕ) (S : List ℕ) → Steps g w (f ∷ G) 0 (p ∷ S) i → length S ≤ (suc P / 2) * suc n + length G
 depth g ordered w n reads G silent sound P within a b f d p i S x =

@@ -11,30 +11,26 @@ use lib.ListN.{length}
 use Rattle.base.proofs.Booleans.{clash}
 use Rattle.grammar.specs.declared.Symbol.{Symbol}
 use Rattle.grammar.specs.declared.Symbol.the-variants.{Nonterminal, Token, End}
-use Rattle.grammar.specs.Grammar.{Grammar, facing, owner, first, before, suffix}
-use Rattle.grammar.specs.Derivation.{Leftmost, Derives}
-use Rattle.grammar.specs.Ordered.{Ordered}
+use Rattle.grammar.specs.Grammar.{Grammar, facing, owner, first, before, suffix, ofPlaces}
+use Rattle.grammar.specs.Derivation.{Syntax, Leftmost, Derives}
+use Rattle.grammar.specs.inside.Ordered.{Ordered}
 use Rattle.grammar.proofs.GrammarLaws.{suffix-is, production-is, leftmost-append}
 use Rattle.closures.specs.Textbook.{Vanishing, Move, Reaches, one, LeftRecursive}
 use Rattle.corners.proofs.LeftRecursion.{reaches-trans}
-use Rattle.derivation.specs.Steps.{Step, popped, matched, picked, Steps, Quiet, Reads}
+use Rattle.derivation.specs.inside.Steps.{Step, popped, matched, picked, Steps, Quiet, Reads}
+use Rattle.derivation.specs.inside.Entries.{Below, Blank, Entry, Inside, Open, entry, ground, here, inside, on, quiet, wait}
 
--- ---- the part of a production from f up to p derives the empty row, symbol by symbol
-pub data Blank (g : Grammar) (f : ℕ) : ℕ → Type 0 where
-  here : Blank g f f
-  on : {p a : ℕ} → Blank g f p → facing g p ≡ Nonterminal a → Derives g (Nonterminal a ∷ []) [] → Blank g f (suc p)
-
-vanishing-then : {g : Grammar} {α : List Symbol} {x : Symbol} → Vanishing g α → Derives g (x ∷ []) [] → Vanishing g (α ++ (x ∷ []))
+vanishing-then : {g : Syntax} {α : List Symbol} {x : Symbol} → Vanishing g α → Derives g (x ∷ []) [] → Vanishing g (α ++ (x ∷ []))
 vanishing-then Vanishing.nil e = Vanishing.also e Vanishing.nil
 vanishing-then (Vanishing.also h v) e = Vanishing.also h (vanishing-then v e)
 
-vanishing-derives : {g : Grammar} {α : List Symbol} → Vanishing g α → Derives g α []
+vanishing-derives : {g : Syntax} {α : List Symbol} → Vanishing g α → Derives g α []
 vanishing-derives Vanishing.nil = ([], Leftmost.done)
 vanishing-derives (Vanishing.also h v) = let k = vanishing-derives v in (h .0 ++ k .0, leftmost-append (h .1) (k .1))
 
 -- the symbols from f up to p
 abbrev Ahead : Grammar → ℕ → ℕ → Type 0
-Ahead g f p = (α : List Symbol) × Vanishing g α × (suffix g f ≡ α ++ suffix g p)
+Ahead g f p = (α : List Symbol) × Vanishing (ofPlaces g) α × (suffix g f ≡ α ++ suffix g p)
 
 module _ {g : Grammar} where
   blank-ahead : {f p : ℕ} → Blank g f p → Ahead g f p
@@ -47,54 +43,25 @@ module _ {g : Grammar} where
           (α ++ (Nonterminal a ∷ []), vanishing-then v n, q ∙ (ap (λ y. α ++ y) s ∙ sym (append-assoc α (Nonterminal a ∷ []) (suffix g (suc p)))))
 
   -- a call behind a blank part is a move
-  blank-move : {a f p c : ℕ} (b : ℕ) → first g a b ≡ some f → Blank g f p → facing g p ≡ Nonterminal c → Move g a c
+  blank-move : {a f p c : ℕ} (b : ℕ) → first g a b ≡ some f → Blank g f p → facing g p ≡ Nonterminal c → Move (ofPlaces g) a c
   blank-move {a} {f} {p} {c} b d x e = go (blank-ahead x)
     where
-      go : Ahead g f p → Move g a c
+      go : Ahead g f p → Move (ofPlaces g) a c
       go (α, v, q) =
           let s : suffix g p ≡ Nonterminal c ∷ suffix g (suc p) = suffix-is g p ∙ ap (λ y. before y (suffix g (suc p))) e in
           record { alternative = b; ahead = α; behind = suffix g (suc p); stands = production-is g a b d ∙ ap some (q ∙ ap (λ y. α ++ y) s); empty = v }
 
   -- a production that is blank up to its end derives the empty row
-  blank-empty : {a f p : ℕ} (b : ℕ) → first g a b ≡ some f → Blank g f p → facing g p ≡ End → Derives g (Nonterminal a ∷ []) []
+  blank-empty : {a f p : ℕ} (b : ℕ) → first g a b ≡ some f → Blank g f p → facing g p ≡ End → Derives (ofPlaces g) (Nonterminal a ∷ []) []
   blank-empty {a} {f} {p} b d x e = go (blank-ahead x)
     where
-      go : Ahead g f p → Derives g (Nonterminal a ∷ []) []
+      go : Ahead g f p → Derives (ofPlaces g) (Nonterminal a ∷ []) []
       go (α, v, q) =
           let s : suffix g p ≡ [] = suffix-is g p ∙ ap (λ y. before y (suffix g (suc p))) e in
           let (r, y) = vanishing-derives v in
           let z : suffix g f ++ [] ≡ α = append-nil (suffix g f) ∙ (q ∙ (ap (λ y. α ++ y) s ∙ append-nil α)) in
-          let y′ : Leftmost g (suffix g f ++ []) r [] = rw z y in
+          let y′ : Leftmost (ofPlaces g) (suffix g f ++ []) r [] = rw z y in
           (b ∷ r, Leftmost.expand (production-is g a b d) y′)
-
--- ---- entries: a nonterminal that is open, the position at which it was entered, and the place at which it calls and waits
-pub record Entry : Type 0 where
-  pub who : ℕ
-  pub since : ℕ
-  pub call : ℕ
-
-abbrev pub entry : ℕ → ℕ → ℕ → Entry
-entry a e p = record { who = a; since = e; call = p }
-
--- place p of a production of a, which was entered at e, is reached at i; if nothing was read since, all before p derived the empty row
-pub record Inside (g : Grammar) (a e p i : ℕ) : Type 0 where
-  pub alternative : ℕ
-  pub start : ℕ
-  pub begins : first g a alternative ≡ some start
-  pub own : owner g p ≡ a
-  pub forward : e ≤ i
-  pub blank : e ≡ i → Blank g start p
-
--- return places over the ground G, and the entries that they belong to, below a nonterminal c that was entered at i
-pub data Below (g : Grammar) (G : List ℕ) : List ℕ → List Entry → ℕ → ℕ → Type 0 where
-  ground : {c i : ℕ} → Below g G G [] c i
-  wait : {a e p c i : ℕ} {S : List ℕ} {E : List Entry} → Inside g a e p i → facing g p ≡ Nonterminal c → Below g G S E a e
-      → Below g G (suc p ∷ S) (entry a e p ∷ E) c i
-
--- the states of the machine over a note of n tokens: a production is open, or only the ground is left
-pub data Open (g : Grammar) (G : List ℕ) (n : ℕ) : List ℕ → ℕ → Type 0 where
-  inside : {a e p i : ℕ} {S : List ℕ} {E : List Entry} → i ≤ n → Inside g a e p i → Below g G S E a e → Open g G n (p ∷ S) i
-  quiet : {i : ℕ} {S : List ℕ} → Quiet g S → length S ≤ length G → Open g G n S i
 
 -- ---- a step keeps it
 module _ (g : Grammar) (ordered : Ordered g) (w : List ℕ) (n : ℕ) (reads : Reads g w n) (G : List ℕ) (silent : Quiet g G) where
@@ -102,7 +69,7 @@ module _ (g : Grammar) (ordered : Ordered g) (w : List ℕ) (n : ℕ) (reads : R
   entered {a} {f} i b d = record { alternative = b; start = f; begins = d; own = ordered .owns a b f d; forward = omega arith; blank = λ _. here }
 
   -- a nonterminal c that was entered at i is behind: the one below goes on
-  returned : {a e p c i m : ℕ} → Inside g a e p i → facing g p ≡ Nonterminal c → i ≤ m → (i ≡ m → Derives g (Nonterminal c ∷ []) [])
+  returned : {a e p c i m : ℕ} → Inside g a e p i → facing g p ≡ Nonterminal c → i ≤ m → (i ≡ m → Derives (ofPlaces g) (Nonterminal c ∷ []) [])
       → Inside g a e (suc p) m
   returned {a} {e} {p} {c} {i} {m} x f k n =
       let l = x .forward in
@@ -157,7 +124,7 @@ module _ (g : Grammar) (ordered : Ordered g) (w : List ℕ) (n : ℕ) (reads : R
 -- what is known of an entry below a nonterminal c that was entered at i
 pub record Known (g : Grammar) (c i : ℕ) (x : Entry) : Type 0 where
   pub earlier : x .since ≤ i
-  pub leads : x .since ≡ i → Reaches g (x .who) c
+  pub leads : x .since ≡ i → Reaches (ofPlaces g) (x .who) c
   pub own : owner g (x .call) ≡ x .who
   pub calls : (d : ℕ) × (facing g (x .call) ≡ Nonterminal d)
   pub named : (b : ℕ) × (f : ℕ) × (first g (x .who) b ≡ some f)
@@ -202,7 +169,7 @@ pub data Apart : List Entry → Type 0 where
   also : {x : Entry} {E : List Entry} → ((y : Entry) → List·Memᴰ y E → x .who ≡ y .who → x .since ≡ y .since → ⊥) → Apart E
       → Apart (x ∷ E)
 
-module _ {g : Grammar} {G : List ℕ} (sound : (a : ℕ) → ¬ LeftRecursive g a) where
+module _ {g : Grammar} {G : List ℕ} (sound : (a : ℕ) → ¬ LeftRecursive (ofPlaces g) a) where
   -- nor does one that waits agree with the nonterminal c over it
   pub apart-below : {c i : ℕ} {S : List ℕ} {E : List Entry} → Below g G S E c i → (y : Entry) → List·Memᴰ y E → c ≡ y .who → i ≡ y .since
       → ⊥

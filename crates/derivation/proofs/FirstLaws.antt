@@ -9,9 +9,9 @@ use lib.ListN.{length, getD, getElem?}
 use lib.Seq.{slice}
 use Rattle.base.proofs.Lists.{slice-get}
 use Rattle.grammar.specs.Grammar.{alternatives, first}
-use Rattle.grammar.specs.Tables.{grammarIn, nonterminalsIn, ruleAt}
+use Rattle.grammar.specs.inside.Tables.{grammarIn, nonterminalsIn, ruleAt}
 use Rattle.grammar.proofs.WordLaws.{alternatives-in}
-use Rattle.derivation.specs.Ready.{Ready}
+use Rattle.derivation.specs.inside.Ready.{Ready}
 use Rattle.derivation.proofs.ReadyLaws.{ready-first}
 
 pub get-some : (l : List ℕ) (k : ℕ) → k < length l → getElem? l k ≡ some (getD l k 0)

@@ -20,7 +20,7 @@ use Rattle.grammar.specs.Decode.{Rules, Mark, Parsed, got, refused, decode}
 use Rattle.grammar.specs.Grammar.{Grammar, compile}
 use Rattle.soundness.specs.declared.judgement.Verdict.{Verdict}
 use Rattle.soundness.specs.declared.judgement.Verdict.the-variants.{Sound, Refused}
-use Rattle.soundness.specs.Check.{judgeOf, judged, checkOf}
+use Rattle.soundness.specs.Check.{judgeOf, onDecoded, checkOf}
 use Rattle.derivation.specs.Space.{maxTokens, spaceWords}
 use Rattle.derivation.specs.Gate.{Gate, shut, passed, atGate, shutBy, onVerdict, onRules, soundGate, known?, firstUnknown, noteGate, gate}
 use Rattle.derivation.specs.Demand2.{Known}

@@ -9,6 +9,7 @@ pub mod MachineLaws
 pub mod MachineLive
 pub mod MachineStates
 pub mod MachineSteps
+pub mod MachineFuel
 pub mod LockStep
 pub mod LowestLaws
 pub mod ReadingLaws
@@ -31,7 +32,7 @@ pub mod WholeChosen
 pub mod ChosenExists
 pub mod GateLaws
 pub mod Demand2Laws
-pub mod StarredReadings
+pub mod StarredCases
 pub mod Demand2Iff
 pub mod MachineDepth
 pub mod ReadyLaws

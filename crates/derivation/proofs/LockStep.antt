@@ -7,16 +7,16 @@ use Rattle.grammar.specs.declared.Symbol.{Symbol}
 use Rattle.grammar.specs.declared.Symbol.the-variants.{Token, Nonterminal, End}
 use Rattle.grammar.specs.Grammar.{Grammar, facing}
 use Rattle.derivation.specs.Runs.{Opens}
-use Rattle.derivation.specs.Machine.{Chooser, prefix, Step, onChoice, onCall, onSymbol, step, followStep, run, runCall}
-use Rattle.derivation.specs.Choosers.{names, Served, Ground, Keeps, Right, Alike}
+use Rattle.derivation.specs.Machine.{Chooser, prefix, Action, onChoice, onCall, onSymbol, step, followStep, run, runCall}
+use Rattle.derivation.specs.inside.Choosers.{names, Served, Ground, KeepsKind, Reliable, Alike}
 use Rattle.derivation.proofs.RunLaws.{run-end, run-token}
 use Rattle.derivation.proofs.MachineLaws.{Called, no-room, unnamed, absent, taken, call-seen, call-state, step-state}
 use Rattle.derivation.proofs.MachineLaws.{Seen, ended, halted, crammed, popped, matched, picked, see}
 use Rattle.derivation.proofs.MachineLive.{call-served, right-serves, serves-at}
 
 module _ {C D : Type 0} (HoldsC : C → Type 0) (HoldsD : D → Type 0) (g : Grammar) (w : List ℕ) (Stands : List ℕ → ℕ → Type 0)
-    (Waits : List ℕ → ℕ → ℕ → Type 0) (ground : Ground g Stands Waits) (one : Chooser C) (other : Chooser D) (keeps : Keeps HoldsC one)
-    (right : Right HoldsD other g w Waits) (alike : Alike HoldsC HoldsD one other g w Waits) where
+    (Waits : List ℕ → ℕ → ℕ → Type 0) (ground : Ground g Stands Waits) (one : Chooser C) (other : Chooser D) (keeps : KeepsKind HoldsC one)
+    (right : Reliable HoldsD other g w Waits) (alike : Alike HoldsC HoldsD one other g w Waits) where
   -- ---- single steps
   call-alike : (c : C) (d : D) (S : List ℕ) (a i room : ℕ) → HoldsC c → HoldsD d → Waits S a i → Served g w S a i
       → (onCall g one c S a i room) .step ≡ (onCall g other d S a i room) .step
@@ -42,7 +42,7 @@ module _ {C D : Type 0} (HoldsC : C → Type 0) (HoldsD : D → Type 0) (g : Gra
   Same k = (S : List ℕ) (i room : ℕ) (c : C) (d : D) → HoldsC c → HoldsD d → Stands S i → Opens g w S i
       → (run g w one k S i room c) .outcome ≡ (run g w other k S i room d) .outcome
 
-  follow-same : (k : ℕ) → Same k → (S : List ℕ) (i room : ℕ) (c : C) (d d′ : D) (x : Step) → Seen g w (names other d) S i room x
+  follow-same : (k : ℕ) → Same k → (S : List ℕ) (i room : ℕ) (c : C) (d d′ : D) (x : Action) → Seen g w (names other d) S i room x
       → HoldsC c → HoldsD d → HoldsD d′ → Stands S i → Opens g w S i
       → (followStep (run g w one k) i room x c) .outcome ≡ (followStep (run g w other k) i room x d′) .outcome
   follow-same k rec S i room c d d′ x (ended e) h j j′ y o = refl
@@ -67,10 +67,10 @@ module _ {C D : Type 0} (HoldsC : C → Type 0) (HoldsD : D → Type 0) (g : Gra
       let n = step g w other d S i room in
       let kept = step-state g w one HoldsC c h (λ S a i. keeps c S a i h) S i room in
       let kept′ = step-state g w other HoldsD d j (λ S a i. right .keeps d S a i j) S i room in
-      ap (λ (x : Step). (followStep (run g w one k) i room x (m .state)) .outcome) (step-alike c d S i room h j y o)
+      ap (λ (x : Action). (followStep (run g w one k) i room x (m .state)) .outcome) (step-alike c d S i room h j y o)
       ∙ follow-same k (run-same k) S i room (m .state) d (n .state) (n .step) (see g w other d S i room) kept j kept′ y o
 
-  first-same : (k : ℕ) (S : List ℕ) (a i room : ℕ) (c : C) (d d′ : D) (x : Step) → Called g (names other d) S a i room x
+  first-same : (k : ℕ) (S : List ℕ) (a i room : ℕ) (c : C) (d d′ : D) (x : Action) → Called g (names other d) S a i room x
       → HoldsC c → HoldsD d → HoldsD d′ → Waits S a i → Served g w S a i
       → (followStep (run g w one k) i room x c) .outcome ≡ (followStep (run g w other k) i room x d′) .outcome
   first-same k S a i room c d d′ x no-room h j j′ y v = refl
@@ -88,5 +88,5 @@ module _ {C D : Type 0} (HoldsC : C → Type 0) (HoldsD : D → Type 0) (g : Gra
       let n = onCall g other d S a i room in
       let kept = call-state g one HoldsC c h (λ S a i. keeps c S a i h) S a i room in
       let kept′ = call-state g other HoldsD d j (λ S a i. right .keeps d S a i j) S a i room in
-      ap (λ (x : Step). (followStep (run g w one k) i room x (m .state)) .outcome) (call-alike c d S a i room h j y v)
+      ap (λ (x : Action). (followStep (run g w one k) i room x (m .state)) .outcome) (call-alike c d S a i room h j y v)
       ∙ first-same k S a i room (m .state) d (n .state) (n .step) (call-seen g other d S a i room) kept j kept′ y v

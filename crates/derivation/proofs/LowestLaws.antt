@@ -9,8 +9,9 @@ use Rattle.base.specs.Search.{LowestIs, this, nothing}
 use Rattle.base.proofs.Booleans.{clash}
 use Rattle.base.proofs.Lowest.{lowest-is}
 use Rattle.grammar.specs.Grammar.{Grammar, alternatives, first}
-use Rattle.derivation.specs.Machine.{Serves, serves?, lowest, plainly}
-use Rattle.derivation.specs.Choosers.{AnyState, Right}
+use Rattle.derivation.specs.Machine.{serves?, lowest, plainly}
+use Rattle.derivation.specs.Runs.{Serves}
+use Rattle.derivation.specs.inside.Choosers.{AnyState, Reliable}
 use Rattle.derivation.proofs.Notes.{get-lt}
 use Rattle.derivation.proofs.CellLaws.{runs-iff}
 
@@ -38,7 +39,7 @@ module _ (g : Grammar) (w : List ℕ) where
       (serves-complete S a i)
 
   -- so the plain chooser is right, wherever it is asked
-  pub lowest-right : (Waits : List ℕ → ℕ → ℕ → Type 0) → Right AnyState (plainly g w) g w Waits
+  pub lowest-right : (Waits : List ℕ → ℕ → ℕ → Type 0) → Reliable AnyState (plainly g w) g w Waits
   lowest-right Waits = record { keeps = λ _ _ _ _ _. tt; serves = λ c S a i b _ _ x. go S a i b x (lowest g w S a i) refl (lowest-serves S a i) }
     where
       go : (S : List ℕ) (a i b : ℕ) → Serves g w S a i b → (o : Option ℕ) → lowest g w S a i ≡ o → LowestIs (Serves g w S a i) o

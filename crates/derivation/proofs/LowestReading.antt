@@ -9,11 +9,12 @@ use lib.Seq.{drop-length}
 use Rattle.base.specs.Search.{LowestIs, this, nothing}
 use Rattle.base.proofs.Booleans.{clash}
 use Rattle.grammar.specs.declared.Symbol.{Symbol}
-use Rattle.grammar.specs.Grammar.{Grammar, suffix, production}
+use Rattle.grammar.specs.Grammar.{Grammar, suffix, production, ofPlaces}
 use Rattle.grammar.specs.Derivation.{Derives}
 use Rattle.grammar.proofs.GrammarLaws.{suffix-is, production-is, production-from}
-use Rattle.derivation.specs.Runs.{spells}
-use Rattle.derivation.specs.Machine.{Serves, lowest, plainly, accepted, full, Step, Ended, step, followStep, run}
+use Rattle.derivation.specs.inside.BigSteps.{spells}
+use Rattle.derivation.specs.Machine.{lowest, plainly, accepted, full, Action, Ended, step, followStep, run}
+use Rattle.derivation.specs.Runs.{Serves}
 use Rattle.derivation.specs.Chosen.{Chosen}
 use Rattle.derivation.proofs.Notes.{drop-of-get, get-lt}
 use Rattle.derivation.proofs.RunLaws.{run→leftmost, leftmost→run}
@@ -24,7 +25,7 @@ use Rattle.derivation.proofs.ChosenLaws.{NoneLower, chosen→leftmost, 
 module _ (g : Grammar) (w : List ℕ) where
   -- an alternative that serves, as the textbook has it: with what the stack spells it derives the rest
   pub serves→derives : (S : List ℕ) (a i b : ℕ) {γ : List Symbol} → production g a b ≡ some γ → Serves g w S a i b
-      → Derives g (γ ++ spells g S) (drop i w)
+      → Derives (ofPlaces g) (γ ++ spells g S) (drop i w)
   unfolding spells
   serves→derives S a i b {γ} e (f, d, (r, x)) =
       let h : some (suffix g f) ≡ some γ = sym (production-is g a b d) ∙ e in
@@ -32,7 +33,7 @@ module _ (g : Grammar) (w : List ℕ) where
       (r, rw z at (run→leftmost x refl))
 
   pub derives→serves : (S : List ℕ) (a i b : ℕ) {γ : List Symbol} → i ≤ length w → production g a b ≡ some γ
-      → Derives g (γ ++ spells g S) (drop i w) → Serves g w S a i b
+      → Derives (ofPlaces g) (γ ++ spells g S) (drop i w) → Serves g w S a i b
   unfolding spells
   derives→serves S a i b l e (r, x) =
       let (f, d, q) = production-from g a b e in
@@ -50,23 +51,23 @@ module _ (g : Grammar) (w : List ℕ) where
       go o q (this c x h) = let z : c ≡ b = cc in record { serves = rw z at x; least = rw z at h }
       go o q (nothing h) = clash (cc)
 
-  none-lower : (S : List ℕ) (a i b : ℕ) → i ≤ length w → Named S a i b → NoneLower g a b (spells g S) (drop i w)
+  none-lower : (S : List ℕ) (a i b : ℕ) → i ≤ length w → Named S a i b → NoneLower (ofPlaces g) a b (spells g S) (drop i w)
   none-lower S a i b l n c γ h e x = let k = n .least c (derives→serves S a i c l e x) in omega arith
 
   -- the plain machine, from here on
   abbrev pub plainRun : ℕ → List ℕ → ℕ → ℕ → Unit {0} → Ended (Unit {0})
   plainRun k S i room c = run g w (plainly g w) k S i room c
 
-  abbrev Next : List ℕ → ℕ → ℕ → Step → Type 0
+  abbrev Next : List ℕ → ℕ → ℕ → Action → Type 0
   Next S i room x = Seen g w (lowest g w) S i room x
 
   -- ---- what is accepted is chosen
   abbrev Follows : ℕ → Type 0
   Follows k = (S : List ℕ) (i room : ℕ) (c : Unit {0}) (r : List ℕ) → i ≤ length w → (plainRun k S i room c) .outcome ≡ accepted r
-      → Chosen g (spells g S) r (drop i w)
+      → Chosen (ofPlaces g) (spells g S) r (drop i w)
 
-  follow-step : (k : ℕ) → Follows k → (S : List ℕ) (i room : ℕ) (c : Unit {0}) (r : List ℕ) → i ≤ length w → (x : Step) → Next S i room x
-      → (followStep (plainRun k) i room x c) .outcome ≡ accepted r → Chosen g (spells g S) r (drop i w)
+  follow-step : (k : ℕ) → Follows k → (S : List ℕ) (i room : ℕ) (c : Unit {0}) (r : List ℕ) → i ≤ length w → (x : Action) → Next S i room x
+      → (followStep (plainRun k) i room x c) .outcome ≡ accepted r → Chosen (ofPlaces g) (spells g S) r (drop i w)
   unfolding spells
   follow-step k rec S i room c r l x (ended e) q = let z : [] ≡ r = cc in rw (← z, e, drop-length) Chosen.done
   follow-step k rec S i room c r l x (halted n) q = clash (cc)
@@ -90,10 +91,10 @@ module _ (g : Grammar) (w : List ℕ) where
   -- ---- where it is full, the chosen derivation is longer than there was room for
   abbrev Crams : ℕ → Type 0
   Crams k = (S : List ℕ) (i room : ℕ) (c : Unit {0}) (r : List ℕ) → i ≤ length w → (plainRun k S i room c) .outcome ≡ full
-      → Chosen g (spells g S) r (drop i w) → room < length r
+      → Chosen (ofPlaces g) (spells g S) r (drop i w) → room < length r
 
-  cram-step : (k : ℕ) → Crams k → (S : List ℕ) (i room : ℕ) (c : Unit {0}) (r : List ℕ) → i ≤ length w → Chosen g (spells g S) r (drop i w)
-      → (x : Step) → Next S i room x → (followStep (plainRun k) i room x c) .outcome ≡ full → room < length r
+  cram-step : (k : ℕ) → Crams k → (S : List ℕ) (i room : ℕ) (c : Unit {0}) (r : List ℕ) → i ≤ length w → Chosen (ofPlaces g) (spells g S) r (drop i w)
+      → (x : Action) → Next S i room x → (followStep (plainRun k) i room x c) .outcome ≡ full → room < length r
   unfolding spells
   cram-step k rec S i room c r l y x (ended e) q = clash (cc)
   cram-step k rec S i room c r l y x (halted n) q = clash (cc)
@@ -108,11 +109,11 @@ module _ (g : Grammar) (w : List ℕ) where
       let h = chosen-call {α = suffix g (suc p) ++ spells g S′} {a = a} y (rw (suffix-is g p, e)) in
       let n = named (suc p ∷ S′) a i₀ d in
       let m : b ≡ h .alternative = same-lowest a b (h .alternative) (production-is g a b u) (none-lower (suc p ∷ S′) a i₀ b l n)
-      (serves→derives (suc p ∷ S′) a i₀ b (production-is g a b u) (n .serves)) (h .stands) (h .lowest) (h .rest, chosen→leftmost (h .onward)) in
+      (serves→derives (suc p ∷ S′) a i₀ b (production-is g a b u) (n .serves)) (h .stands) (h .lowest) (h .rest, chosen→leftmost (h .remaining)) in
       let v : some (suffix g f) ≡ some (h .symbols) = sym (production-is g a b u) ∙ (rw m (h .stands)) in
       let z : suffix g f ≡ h .symbols = cc in
       let j = rec (f ∷ suc p ∷ S′) i₀ room₀ c (h .rest) l (prefix-full b ((plainRun k (f ∷ suc p ∷ S′) i₀ room₀ c) .outcome) q)
-      (rw z (h .onward)) in
+      (rw z (h .remaining)) in
       rw (h .row) (suc-le-suc j)
 
   pub run-crams : (k : ℕ) → Crams k

@@ -7,14 +7,14 @@ use lib.ListN.{length}
 use Rattle.base.proofs.Booleans.{clash}
 use Rattle.grammar.specs.Limits.{endPlace}
 use Rattle.grammar.specs.Decode.{Rules}
-use Rattle.grammar.specs.Grammar.{Grammar, first, sizeAll, compile, Limited}
+use Rattle.grammar.specs.Grammar.{Grammar, first, sizeAll, compile, Limited, ofPlaces}
 use Rattle.closures.specs.Textbook.{LeftRecursive}
 use Rattle.derivation.specs.Runs.{marked}
-use Rattle.derivation.specs.Visits.{Visits, begins, moves, takes}
-use Rattle.derivation.specs.Steps.{popped, matched, picked}
-use Rattle.derivation.specs.Steps
-use Rattle.derivation.specs.Machine.{Chooser, Step, move, pick, Moved, step}
-use Rattle.derivation.specs.Choosers.{names}
+use Rattle.derivation.specs.inside.Visits.{Visits, begins, moves, takes}
+use Rattle.derivation.specs.inside.Steps.{popped, matched, picked}
+use Rattle.derivation.specs.inside.Steps
+use Rattle.derivation.specs.Machine.{Chooser, Action, move, pick, Moved, step}
+use Rattle.derivation.specs.inside.Choosers.{names}
 use Rattle.derivation.proofs.CompiledDepth.{marked-depth}
 use Rattle.derivation.proofs.MachineLaws.{Seen, see}
 
@@ -23,7 +23,7 @@ module _ {C : Type 0} (g : Grammar) (w : List ℕ) (choose : Chooser C) (c : C) 
   pub machine-moves : {S′ : List ℕ} {i′ : ℕ} → (step g w choose c S i room) .step ≡ move S′ i′ → Steps.Step g w S i S′ i′
   machine-moves {S′} {i′} e = go (see g w choose c S i room) e
     where
-      go : {x : Step} {S : List ℕ} {i room : ℕ} → Seen g w (names choose c) S i room x → x ≡ move S′ i′ → Steps.Step g w S i S′ i′
+      go : {x : Action} {S : List ℕ} {i room : ℕ} → Seen g w (names choose c) S i room x → x ≡ move S′ i′ → Steps.Step g w S i S′ i′
       go (Seen.ended q) e = clash (cc)
       go (Seen.halted q) e = clash (cc)
       go (Seen.crammed q) e = clash (cc)
@@ -36,7 +36,7 @@ module _ {C : Type 0} (g : Grammar) (w : List ℕ) (choose : Chooser C) (c : C) 
   pub machine-picks : {b : ℕ} {S′ : List ℕ} → (step g w choose c S i room) .step ≡ pick b S′ → Steps.Step g w S i S′ i
   machine-picks {b} {S′} e = go (see g w choose c S i room) e
     where
-      go : {x : Step} {S : List ℕ} {i room : ℕ} → Seen g w (names choose c) S i room x → x ≡ pick b S′ → Steps.Step g w S i S′ i
+      go : {x : Action} {S : List ℕ} {i room : ℕ} → Seen g w (names choose c) S i room x → x ≡ pick b S′ → Steps.Step g w S i S′ i
       go (Seen.ended q) e = clash (cc)
       go (Seen.halted q) e = clash (cc)
       go (Seen.crammed q) e = clash (cc)
@@ -54,7 +54,7 @@ module _ {C : Type 0} {g : Grammar} {w : List ℕ} {choose : Chooser C} {S₀ : 
       Steps.then (visits-steps v) (machine-picks g w choose c S i room (ap (λ (m : Moved C). m .step) e))
 
 -- the bound on open frames, for every reading of a note by a sound grammar: any chooser from any state, any room, sentence or not
-pub machine-depth : {C : Type 0} (r : Rules) → Limited r → ((a : ℕ) → ¬ LeftRecursive (compile r) a)
+pub machine-depth : {C : Type 0} (r : Rules) → Limited r → ((a : ℕ) → ¬ LeftRecursive (ofPlaces (compile r)) a)
     → (w : List ℕ) (choose : Chooser C) (a b f : ℕ)
     → first (compile r) a b ≡ some f → (p i room₀ room : ℕ) (c₀ c : C) (S : List ℕ)
     → Visits (compile r) (marked w) choose (f ∷ endPlace ∷ []) 0 room₀ c₀ (p ∷ S) i room c

@@ -12,16 +12,16 @@ use Rattle.grammar.specs.declared.Symbol.{Symbol}
 use Rattle.grammar.specs.declared.Symbol.the-variants.{Token, Nonterminal, End}
 use Rattle.grammar.specs.Grammar.{Grammar, facing, admits, first}
 use Rattle.derivation.specs.Runs.{Run}
-use Rattle.derivation.specs.Machine.{Chooser, Outcome, accepted, stuck, full, prefix, Step, halt, move, pick, onToken, onFirst, onChoice}
+use Rattle.derivation.specs.Machine.{Chooser, Conclusion, accepted, stuck, full, prefix, Action, halt, move, pick, onToken, onFirst, onChoice}
 use Rattle.derivation.specs.Machine.{onCall, onSymbol, step, followStep, run, runCall}
-use Rattle.derivation.specs.Choosers.{names, thence}
+use Rattle.derivation.specs.inside.Choosers.{names, thence}
 
 -- the alternatives that a chooser names from one state
 abbrev pub Names : Type 0
 Names = List ℕ → ℕ → ℕ → Option ℕ
 
 -- ---- what becomes of nonterminal a over the stack S at i, in facts
-pub data Called (g : Grammar) (named : Names) (S : List ℕ) (a i : ℕ) : ℕ → Step → Type 0 where
+pub data Called (g : Grammar) (named : Names) (S : List ℕ) (a i : ℕ) : ℕ → Action → Type 0 where
   no-room : Called g named S a i 0 (halt full)
   unnamed : {room : ℕ} → named S a i ≡ none → Called g named S a i (suc room) (halt stuck)
   absent : {b room : ℕ} → named S a i ≡ some b → first g a b ≡ none → Called g named S a i (suc room) (halt stuck)
@@ -43,17 +43,17 @@ call-seen g choose c S a i (suc room) = go (names choose c S a i) refl
     go (some b) d = begin b d (first g a b) refl
 
 -- ---- outcomes with one alternative more
-pub prefix-accepted : (b : ℕ) (o : Outcome) {r : List ℕ} → prefix b o ≡ accepted r → (s : List ℕ) × (o ≡ accepted s) × (b ∷ s ≡ r)
+pub prefix-accepted : (b : ℕ) (o : Conclusion) {r : List ℕ} → prefix b o ≡ accepted r → (s : List ℕ) × (o ≡ accepted s) × (b ∷ s ≡ r)
 prefix-accepted b (accepted s) e = (s, refl, cc)
 prefix-accepted b stuck e = clash (cc)
 prefix-accepted b full e = clash (cc)
 
-pub prefix-stuck : (b : ℕ) (o : Outcome) → prefix b o ≡ stuck → o ≡ stuck
+pub prefix-stuck : (b : ℕ) (o : Conclusion) → prefix b o ≡ stuck → o ≡ stuck
 prefix-stuck b (accepted s) e = cc
 prefix-stuck b stuck e = refl
 prefix-stuck b full e = cc
 
-pub prefix-full : (b : ℕ) (o : Outcome) → prefix b o ≡ full → o ≡ full
+pub prefix-full : (b : ℕ) (o : Conclusion) → prefix b o ≡ full → o ≡ full
 prefix-full b (accepted s) e = cc
 prefix-full b stuck e = cc
 prefix-full b full e = refl
@@ -69,7 +69,7 @@ pub data Halted (g : Grammar) (w : List ℕ) (named : Names) : List ℕ → ℕ 
       → Halted g w named (p ∷ S) i
 
 -- what the machine does next, in facts
-pub data Seen (g : Grammar) (w : List ℕ) (named : Names) : List ℕ → ℕ → ℕ → Step → Type 0 where
+pub data Seen (g : Grammar) (w : List ℕ) (named : Names) : List ℕ → ℕ → ℕ → Action → Type 0 where
   ended : {i room : ℕ} → i ≡ length w → Seen g w named [] i room (halt (accepted []))
   halted : {S : List ℕ} {i room : ℕ} → Halted g w named S i → Seen g w named S i room (halt stuck)
   crammed : {p a i : ℕ} {S : List ℕ} → facing g p ≡ Nonterminal a → Seen g w named (p ∷ S) i 0 (halt full)
@@ -79,7 +79,7 @@ pub data Seen (g : Grammar) (w : List ℕ) (named : Names) : List ℕ → ℕ �
   picked : {p a b f i room : ℕ} {S : List ℕ} → facing g p ≡ Nonterminal a → named (suc p ∷ S) a i ≡ some b → first g a b ≡ some f
       → Seen g w named (p ∷ S) i (suc room) (pick b (f ∷ suc p ∷ S))
 
-see-call : {g : Grammar} {w : List ℕ} {named : Names} {p a i room : ℕ} {S : List ℕ} {x : Step} → facing g p ≡ Nonterminal a
+see-call : {g : Grammar} {w : List ℕ} {named : Names} {p a i room : ℕ} {S : List ℕ} {x : Action} → facing g p ≡ Nonterminal a
     → Called g named (suc p ∷ S) a i room x → Seen g w named (p ∷ S) i room x
 see-call e no-room = crammed e
 see-call e (unnamed d) = halted (unchosen e d)
@@ -148,7 +148,7 @@ module _ {C : Type 0} (g : Grammar) (w : List ℕ) (choose : Chooser C) where
   abbrev pub Sound : ℕ → Type 0
   Sound k = (S : List ℕ) (i room : ℕ) (c : C) (r : List ℕ) → (run g w choose k S i room c) .outcome ≡ accepted r → Fitting S i room r
 
-  sound-step : (k : ℕ) → Sound k → (named : Names) (S : List ℕ) (i room : ℕ) (c : C) (r : List ℕ) (x : Step) → Seen g w named S i room x
+  sound-step : (k : ℕ) → Sound k → (named : Names) (S : List ℕ) (i room : ℕ) (c : C) (r : List ℕ) (x : Action) → Seen g w named S i room x
       → (followStep (run g w choose k) i room x c) .outcome ≡ accepted r → Fitting S i room r
   sound-step k rec named S i room c r x (ended e) q = let z : [] ≡ r = cc in rw (← z, e) (Run.done {i = length w} (omega arith), omega arith)
   sound-step k rec named S i room c r x (halted n) q = clash (cc)
@@ -168,7 +168,7 @@ module _ {C : Type 0} (g : Grammar) (w : List ℕ) (choose : Chooser C) where
       let m = step g w choose c S i room in
       sound-step k (run-sound k) (names choose c) S i room (m .state) r (m .step) (see c S i room) q
 
-  sound-call : (k : ℕ) (named : Names) (S : List ℕ) (a i room : ℕ) (c : C) (r : List ℕ) (x : Step) → Called g named S a i room x
+  sound-call : (k : ℕ) (named : Names) (S : List ℕ) (a i room : ℕ) (c : C) (r : List ℕ) (x : Action) → Called g named S a i room x
       → (followStep (run g w choose k) i room x c) .outcome ≡ accepted r → Expanded g w S a i room r
   sound-call k named S a i room c r x no-room q = clash (cc)
   sound-call k named S a i room c r x (unnamed e) q = clash (cc)

@@ -11,8 +11,9 @@ use Rattle.base.proofs.Booleans.{clash}
 use Rattle.grammar.specs.declared.Symbol.the-variants.{Nonterminal}
 use Rattle.grammar.specs.Grammar.{Grammar, facing, admits, first}
 use Rattle.derivation.specs.Runs.{Run, Opens}
-use Rattle.derivation.specs.Machine.{Chooser, Serves, stuck, Step, onCall, step, followStep, run, runCall}
-use Rattle.derivation.specs.Choosers.{names, Served, Ground, Right}
+use Rattle.derivation.specs.Machine.{Chooser, stuck, Action, onCall, step, followStep, run, runCall}
+use Rattle.derivation.specs.Runs.{Serves}
+use Rattle.derivation.specs.inside.Choosers.{names, Served, Ground, Reliable}
 use Rattle.derivation.proofs.Notes.{get-lt}
 use Rattle.derivation.proofs.RunLaws.{run-empty, run-end, run-token, run-call}
 use Rattle.derivation.proofs.MachineLaws.{Names, Called, no-room, unnamed, absent, taken, call-seen, prefix-stuck, call-state, step-state}
@@ -28,7 +29,7 @@ pub call-served : {g : Grammar} {w : List ℕ} {p a i : ℕ} {S r : List ℕ} �
 call-served h e = let (b, s, f, q, x, _) = run-call h e in (b, (f, q, (s, x)))
 
 module _ {C : Type 0} {Holds : C → Type 0} {g : Grammar} {w : List ℕ} {Waits : List ℕ → ℕ → ℕ → Type 0} {choose : Chooser C}
-    (right : Right Holds choose g w Waits) {c : C} {S : List ℕ} {a i : ℕ} (holds : Holds c) (waits : Waits S a i) (served : Served g w S a i) where
+    (right : Reliable Holds choose g w Waits) {c : C} {S : List ℕ} {a i : ℕ} (holds : Holds c) (waits : Waits S a i) (served : Served g w S a i) where
   pub right-names : ¬ (names choose c S a i ≡ none)
   right-names e = let (d, q, _) = right .serves c S a i (served .0) holds waits (served .1) in clash (cc)
 
@@ -37,7 +38,7 @@ module _ {C : Type 0} {Holds : C → Type 0} {g : Grammar} {w : List ℕ} {Waits
 
 -- ---- live
 module _ {C : Type 0} (Holds : C → Type 0) (g : Grammar) (w : List ℕ) (Stands : List ℕ → ℕ → Type 0) (Waits : List ℕ → ℕ → ℕ → Type 0)
-    (ground : Ground g Stands Waits) (choose : Chooser C) (right : Right Holds choose g w Waits) where
+    (ground : Ground g Stands Waits) (choose : Chooser C) (right : Reliable Holds choose g w Waits) where
   -- what halts stuck has no run
   halted-dead : {c : C} {S : List ℕ} {i : ℕ} → Holds c → Stands S i → Halted g w (names choose c) S i → ¬ Opens g w S i
   halted-dead h y (over {i = i} e) (r, x) = let q = run-empty x in let t : T (eqb i (length w)) = rw q (eqb-refl (length w)) in rw e at t
@@ -54,7 +55,7 @@ module _ {C : Type 0} (Holds : C → Type 0) (g : Grammar) (w : List ℕ) (Stand
 
   live-step : (k : ℕ) → Live k → (S : List ℕ) (i room : ℕ) (c d : C) → 2 * room + (length w - i) + length S < suc k → Holds c → Holds d
       → Stands S i
-      → Opens g w S i → (x : Step) → Seen g w (names choose c) S i room x → ¬ ((followStep (run g w choose k) i room x d) .outcome ≡ stuck)
+      → Opens g w S i → (x : Action) → Seen g w (names choose c) S i room x → ¬ ((followStep (run g w choose k) i room x d) .outcome ≡ stuck)
   live-step k rec S i room c d l h h′ y o x (ended e) q = clash (cc)
   live-step k rec S i room c d l h h′ y o x (halted n) q = halted-dead h y n o
   live-step k rec S i room c d l h h′ y o x (crammed e) q = clash (cc)
@@ -79,7 +80,7 @@ module _ {C : Type 0} (Holds : C → Type 0) (g : Grammar) (w : List ℕ) (Stand
       (see g w choose c S i room) q
 
   live-call : (k : ℕ) (S : List ℕ) (a i room : ℕ) (c d : C) → 2 * room + (length w - i) + length S ≤ k → Holds c → Holds d → Waits S a i
-      → Served g w S a i → (x : Step) → Called g (names choose c) S a i room x → ¬ ((followStep (run g w choose k) i room x d) .outcome ≡ stuck)
+      → Served g w S a i → (x : Action) → Called g (names choose c) S a i room x → ¬ ((followStep (run g w choose k) i room x d) .outcome ≡ stuck)
   live-call k S a i room c d l h h′ y o x no-room q = clash (cc)
   live-call k S a i room c d l h h′ y o x (unnamed e) q = right-names right h y o e
   live-call k S a i room c d l h h′ y o x (absent e n) q = let (f, z, _) = right-serves right h y o e in clash (cc)

@@ -5,9 +5,9 @@ use Prim.Native.Nat.{ℕ, zero, suc, pred}
 use Rattle.grammar.specs.declared.Symbol.{Symbol}
 use Rattle.grammar.specs.declared.Symbol.the-variants.{Token, Nonterminal, End}
 use Rattle.grammar.specs.Grammar.{Grammar, facing}
-use Rattle.derivation.specs.Machine.{Chooser, Step, halt, move, pick, Moved, moved, ended, chosen, onCall, onSymbol, step, prefixed, followStep, follow}
+use Rattle.derivation.specs.Machine.{Chooser, Action, halt, move, pick, Moved, moved, ended, chosen, onCall, onSymbol, step, prefixed, followStep, follow}
 use Rattle.derivation.specs.Machine.{run, runCall}
-use Rattle.derivation.specs.Choosers.{thence, Later, Repeats}
+use Rattle.derivation.specs.inside.Choosers.{thence, Later, Repeats}
 use Rattle.derivation.proofs.MachineLaws.{call-state, step-state}
 
 module _ {C : Type 0} (Holds : C → Type 0) (Grown : C → C → Type 0) (g : Grammar) (w : List ℕ) (choose : Chooser C)
@@ -20,7 +20,7 @@ module _ {C : Type 0} (Holds : C → Type 0) (Grown : C → C → Type 0) (g : G
   still c h = record { holds = h; grown = repeats .same c }
 
   later : (c d e : C) → Onward c d → Onward d e → Onward c e
-  later c d e x y = record { holds = y .holds; grown = repeats .onward c d e (x .grown) (y .grown) }
+  later c d e x y = record { holds = y .holds; grown = repeats .joined c d e (x .grown) (y .grown) }
 
   -- what the chooser leaves
   left : (c : C) → Holds c → (S : List ℕ) (a i : ℕ) → Onward c (thence choose c S a i)
@@ -35,7 +35,7 @@ module _ {C : Type 0} (Holds : C → Type 0) (Grown : C → C → Type 0) (g : G
   abbrev Growing : ℕ → Type 0
   Growing k = (S : List ℕ) (i room : ℕ) (c : C) → Holds c → Onward c ((run g w choose k S i room c) .state)
 
-  follow-grows : (k : ℕ) → Growing k → (i room : ℕ) (x : Step) (c : C) → Holds c → Onward c ((followStep (run g w choose k) i room x c) .state)
+  follow-grows : (k : ℕ) → Growing k → (i room : ℕ) (x : Action) (c : C) → Holds c → Onward c ((followStep (run g w choose k) i room x c) .state)
   follow-grows k rec i room (halt o) c h = still c h
   follow-grows k rec i room (move S i′) c h = rec S i′ room c h
   follow-grows k rec i room (pick b S) c h = rec S i (pred room) c h
@@ -80,7 +80,7 @@ module _ {C : Type 0} (Holds : C → Type 0) (Grown : C → C → Type 0) (g : G
   Again k = (S : List ℕ) (i room : ℕ) (c d : C) → Holds c → Holds d → Grown ((run g w choose k S i room c) .state) d
       → run g w choose k S i room d ≡ ended ((run g w choose k S i room c) .outcome) d
 
-  follow-again : (k : ℕ) → Again k → (i room : ℕ) (x : Step) (c d : C) → Holds c → Holds d
+  follow-again : (k : ℕ) → Again k → (i room : ℕ) (x : Action) (c d : C) → Holds c → Holds d
       → Grown ((followStep (run g w choose k) i room x c) .state) d
       → followStep (run g w choose k) i room x d ≡ ended ((followStep (run g w choose k) i room x c) .outcome) d
   follow-again k rec i room (halt o) c d h j e = refl
@@ -94,7 +94,7 @@ module _ {C : Type 0} (Holds : C → Type 0) (Grown : C → C → Type 0) (g : G
       let m = step g w choose c S i room in
       let x = step-grows c S i room h in
       let y = follow-grows k (run-grows k) i room (m .step) (m .state) (x .holds) in
-      let z = step-again c d S i room h j (repeats .onward _ _ _ (y .grown) e) in
+      let z = step-again c d S i room h j (repeats .joined _ _ _ (y .grown) e) in
       ap (follow (run g w choose k) i room) z ∙ follow-again k (run-again k) i room (m .step) (m .state) d (x .holds) j e
 
   pub call-run-again : (k : ℕ) (S : List ℕ) (a i room : ℕ) (c d : C) → Holds c → Holds d → Grown ((runCall g w choose k S a i room c) .state) d
@@ -104,5 +104,5 @@ module _ {C : Type 0} (Holds : C → Type 0) (Grown : C → C → Type 0) (g : G
       let m = onCall g choose c S a i room in
       let x = call-grows c S a i room h in
       let y = follow-grows k (run-grows k) i room (m .step) (m .state) (x .holds) in
-      let z = call-again c d S a i room h j (repeats .onward _ _ _ (y .grown) e) in
+      let z = call-again c d S a i room h j (repeats .joined _ _ _ (y .grown) e) in
       ap (follow (run g w choose k) i room) z ∙ follow-again k (run-again k) i room (m .step) (m .state) d (x .holds) j e

@@ -11,9 +11,9 @@ use borrow.Author.Tests.{eq-eqb, ne-eqb}
 use Rattle.base.proofs.Booleans.{T→true}
 use Rattle.grammar.specs.declared.Symbol.the-variants.{Token, Nonterminal, End}
 use Rattle.grammar.specs.Grammar.{Grammar, facing, admits, first}
-use Rattle.derivation.specs.Machine.{Chooser, Outcome, accepted, stuck, full, prefix, after, Ended, ended, beyond, onToken, onChoice}
+use Rattle.derivation.specs.Machine.{Chooser, Conclusion, accepted, stuck, full, prefix, after, Ended, ended, beyond, onToken, onChoice}
 use Rattle.derivation.specs.Machine.{onCall, onSymbol, step, prefixed, run, runCall}
-use Rattle.derivation.specs.Choosers.{names, thence}
+use Rattle.derivation.specs.inside.Choosers.{names, thence}
 
 -- ---- the alternatives of a list, and then an outcome
 pub after-accepted : (l : List ℕ) → after l (accepted []) ≡ accepted l
@@ -31,7 +31,7 @@ unfolding after
 after-full [] = refl
 after-full (b ∷ l) = ap (prefix b) (after-full l)
 
-after-snoc : (l : List ℕ) (b : ℕ) (o : Outcome) → after (l ++ (b ∷ [])) o ≡ after l (prefix b o)
+after-snoc : (l : List ℕ) (b : ℕ) (o : Conclusion) → after (l ++ (b ∷ [])) o ≡ after l (prefix b o)
 unfolding after
 after-snoc [] b o = refl
 after-snoc (c ∷ l) b o = ap (prefix c) (after-snoc l b o)
@@ -42,12 +42,12 @@ take-set [] k b l = absurd (omega arith)
 take-set (x ∷ row) zero b l = refl
 take-set (x ∷ row) (suc k) b l = ap {B = List ℕ} (λ m. x ∷ m) (take-set row k b (omega arith))
 
-pub after-entry : (row : List ℕ) (k b : ℕ) (o : Outcome) → k < length row → after (take (suc k) (set row k b)) o ≡ after (take k row) (prefix b o)
+pub after-entry : (row : List ℕ) (k b : ℕ) (o : Conclusion) → k < length row → after (take (suc k) (set row k b)) o ≡ after (take k row) (prefix b o)
 after-entry row k b o l = ap (λ (m : List ℕ). after m o) (take-set row k b l) ∙ after-snoc (take k row) b o
 
 pub beyond-entry : {C : Type 0} (row : List ℕ) (k b : ℕ) (e : Ended C) → k < length row
     → beyond (take (suc k) (set row k b)) e ≡ beyond (take k row) (prefixed b e)
-beyond-entry row k b e l = ap (λ (o : Outcome). ended o (e .state)) (after-entry row k b (e .outcome) l)
+beyond-entry row k b e l = ap (λ (o : Conclusion). ended o (e .state)) (after-entry row k b (e .outcome) l)
 
 -- ---- one step more
 module _ {C : Type 0} (g : Grammar) (w : List ℕ) (choose : Chooser C) (k p : ℕ) (S : List ℕ) (i room : ℕ) (c : C) where

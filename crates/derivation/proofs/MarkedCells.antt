@@ -12,10 +12,11 @@ use Rattle.grammar.specs.declared.Symbol.the-variants.{Token}
 use Rattle.grammar.specs.Limits.{endMark}
 use Rattle.grammar.proofs.GrammarLaws.{admits-mark}
 use Rattle.grammar.specs.Grammar.{facing, admits}
-use Rattle.grammar.specs.Tables.{grammarIn}
-use Rattle.derivation.specs.Runs.{Der, marked}
+use Rattle.grammar.specs.inside.Tables.{grammarIn}
+use Rattle.derivation.specs.Runs.{marked}
+use Rattle.derivation.specs.inside.BigSteps.{Der}
 use Rattle.derivation.specs.Cells.{derives?}
-use Rattle.derivation.specs.Ready.{Ready}
+use Rattle.derivation.specs.inside.Ready.{Ready}
 use Rattle.derivation.proofs.CellLaws.{derives-sound, derives-complete}
 use Rattle.derivation.proofs.Depth.{marked-get}
 use Rattle.derivation.proofs.ReachLaws.{der-alike}

@@ -6,8 +6,8 @@ use native.Mathlib.Omega.{arith}
 use native.Mathlib.Decide.{decLe}
 use lib.ListN.{length}
 use Rattle.grammar.specs.Grammar.{Grammar}
-use Rattle.derivation.specs.Runs.{Der}
-use Rattle.derivation.specs.Viable.{Reach, start, match, call, return, Arrives}
+use Rattle.derivation.specs.inside.BigSteps.{Der}
+use Rattle.derivation.specs.inside.Reach.{Reach, start, match, call, return, Arrives}
 use Rattle.derivation.proofs.Notes.{get-lt}
 use Rattle.derivation.proofs.Stretches.{Alike, alike-in}
 use Rattle.derivation.proofs.RunLaws.{der-le, der-in}

@@ -16,11 +16,11 @@ use Rattle.base.proofs.Fixpoint.{Within, settle}
 use Rattle.grammar.specs.declared.Symbol.the-variants.{End}
 use Rattle.grammar.specs.Grammar.{Grammar, facing}
 use Rattle.grammar.proofs.GrammarLaws.{faces-place}
-use Rattle.derivation.specs.Viable.{Reach}
+use Rattle.derivation.specs.inside.Reach.{Reach}
 use Rattle.derivation.specs.ReachRounds.{Point, point, stepped, reachRound, pointCount, reach?}
 use Rattle.derivation.proofs.CellLaws.{derives-sound, derives-complete}
 use Rattle.derivation.proofs.ReachLaws.{reach-in}
-use Rattle.derivation.proofs.ReachSteps.{Step, start, match, call, return, step-in, step-out, stepped-mono}
+use Rattle.derivation.proofs.ReachSteps.{ReachedBy, start, match, call, return, step-in, step-out, stepped-mono}
 
 -- ---- the points of P places over the positions up to n, as one list
 places-at : ℕ → ℕ → List Point
@@ -103,7 +103,7 @@ module _ (g : Grammar) (w : List ℕ) where
   pub steps-add : (X : Point → Bool) → SoundPoints X → SoundPoints (stepped g w X)
   steps-add X rec c t = go (step-out g w X (c .place) (c .at) t)
     where
-      go : {q j : ℕ} → Step g w X q j → Reach g w q j
+      go : {q j : ℕ} → ReachedBy g w X q j → Reach g w q j
       go (start b e z) = rw z (Reach.start b e)
       go (match z y e d a x) = rw (z, y) (Reach.match (rec _ x) e d a)
       go (call p b e d x) = Reach.call b (rec _ x) e d

@@ -6,18 +6,18 @@ use native.Mathlib.Omega.{arith}
 use lib.ListN.{length}
 use Rattle.grammar.specs.declared.Symbol.the-variants.{Token, Nonterminal, End}
 use Rattle.grammar.specs.Limits.{endPlace, endMark}
-use Rattle.grammar.specs.Grammar.{Grammar, facing}
+use Rattle.grammar.specs.Grammar.{Grammar, facing, ofPlaces}
 use Rattle.grammar.specs.Derivation.{Leftmost, Derives}
 use Rattle.derivation.specs.Runs.{marked}
 use Rattle.derivation.specs.Machine.{Chooser, accepted, stuck, reading}
-use Rattle.derivation.specs.Choosers.{Served, Ground, Right}
+use Rattle.derivation.specs.inside.Choosers.{Served, Ground, Reliable}
 use Rattle.derivation.proofs.WholeNotes.{whole-call, whole-sentence}
 use Rattle.derivation.proofs.MachineLaws.{call-sound}
 use Rattle.derivation.proofs.MachineLive.{call-live}
 
 -- a sentence has an alternative of nonterminal 0 that serves
 pub sentence-serves : (g : Grammar) → facing g endPlace ≡ Token endMark → facing g (suc endPlace) ≡ End → (w : List ℕ)
-    → Derives g (Nonterminal 0 ∷ []) w
+    → Derives (ofPlaces g) (Nonterminal 0 ∷ []) w
     → Served g (marked w) (endPlace ∷ []) 0 0
 sentence-serves g ends last w h = let (b, r, (f, e, x)) = whole-sentence g ends last 0 w .1 h in (b, (f, e, (r, x)))
 
@@ -25,7 +25,7 @@ module _ {C : Type 0} (g : Grammar) (ends : facing g endPlace ≡ Token endMark)
   where
     -- under any chooser what is accepted is a derivation, and has room
     pub reading-sound : (room : ℕ) (c : C) (s : List ℕ) → (reading g (marked w) choose room c) .outcome ≡ accepted s
-        → Leftmost g (Nonterminal 0 ∷ []) s w × (length s ≤ room)
+        → Leftmost (ofPlaces g) (Nonterminal 0 ∷ []) s w × (length s ≤ room)
     unfolding reading
     reading-sound room c s q =
         let x = call-sound g (marked w) choose (suc (2 * room + length (marked w))) (endPlace ∷ []) 0 0 room c s q in
@@ -33,7 +33,7 @@ module _ {C : Type 0} (g : Grammar) (ends : facing g endPlace ≡ Token endMark)
 
     -- under a right chooser a sentence is accepted, or there is no room
     pub reading-live : (Holds : C → Type 0) (Stands : List ℕ → ℕ → Type 0) (Waits : List ℕ → ℕ → ℕ → Type 0) → Ground g Stands Waits
-        → Right Holds choose g (marked w) Waits → Waits (endPlace ∷ []) 0 0 → (room : ℕ) (c : C) → Holds c → Derives g (Nonterminal 0 ∷ []) w
+        → Reliable Holds choose g (marked w) Waits → Waits (endPlace ∷ []) 0 0 → (room : ℕ) (c : C) → Holds c → Derives (ofPlaces g) (Nonterminal 0 ∷ []) w
         → ¬ ((reading g (marked w) choose room c) .outcome ≡ stuck)
     unfolding reading
     reading-live Holds Stands Waits ground right waits room c h d q =

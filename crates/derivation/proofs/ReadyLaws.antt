@@ -10,8 +10,8 @@ use Rattle.grammar.specs.declared.Symbol.the-variants.{Token, Nonterminal, End}
 use Rattle.grammar.specs.Limits.{maxPlaces, maxNonterminals}
 use Rattle.grammar.specs.Decode.{Rules, Mark, Parsed, got, refused, decode}
 use Rattle.grammar.specs.Grammar.{Grammar, facing, first, sizeAll, compile}
-use Rattle.grammar.specs.Tables.{grammarIn, nonterminalsIn}
-use Rattle.grammar.specs.Ordered.{Ordered}
+use Rattle.grammar.specs.inside.Tables.{grammarIn, nonterminalsIn}
+use Rattle.grammar.specs.inside.Ordered.{Ordered}
 use Rattle.grammar.proofs.OrderedLaws.{compile-ordered}
 use Rattle.grammar.proofs.OwnerLaws.{compile-first, compile-next, compile-kind}
 use Rattle.grammar.proofs.PlaceLaws.{compile-within}
@@ -19,13 +19,14 @@ use Rattle.reader.proofs.ReadLaws.{decode-limited}
 use Rattle.number.specs.declared.Refusal.{Refusal}
 use Rattle.soundness.specs.declared.judgement.Verdict.{Verdict}
 use Rattle.soundness.specs.declared.judgement.Verdict.the-variants.{Sound, Refused}
-use Rattle.soundness.specs.Check.{judgeOf, judged, checkOf}
-use Rattle.soundness.specs.Compiled.{Compiled}
+use Rattle.soundness.specs.Check.{judgeOf, onDecoded, checkOf}
+use Rattle.soundness.specs.inside.Compiled.{Compiled}
+use Rattle.soundness.proofs.CheckLaws.{check-sound}
 use Rattle.derivation.specs.Gate.{passed, shutBy, soundGate, noteGate, gate}
-use Rattle.derivation.specs.Ready.{Ready}
+use Rattle.derivation.specs.inside.Ready.{Ready}
 use Rattle.derivation.proofs.GateLaws.{sound-passes, sound-refuses}
 use Rattle.derivation.proofs.CellLaws.{Kept}
-use Rattle.derivation.proofs.CompiledDepth.{checked-sound}
+use Rattle.derivation.proofs.SoundGrammar.{sound-straight}
 
 -- a sound grammar's check leaves tables that are ready
 pub ready : (s : List ℕ) (v : Verdict) (t : List ℕ) (r : Rules) (m : Mark) → Compiled s v t → decode s ≡ got r m → v ≡ Sound → Ready t
@@ -35,7 +36,7 @@ ready s v t r m c e q =
       limited = decode-limited s r m e;
       says = c .says r m e;
       fits = c .fits r m e;
-      straight = checked-sound s r m e (sym (c .verdict) ∙ q);
+      straight = sound-straight r (decode-limited s r m e) (check-sound s r m e .0 (sym (c .verdict) ∙ q));
       corners = c .cornered q;
     }
 
@@ -49,14 +50,14 @@ pub record Judged (s t : List ℕ) : Type 0 where
 
 -- what follows from a verdict
 module _ (s : List ℕ) {v : Verdict} {t : List ℕ} (c : Compiled s v t) where
-  pub verdict-is : {x : Verdict} → v ≡ x → judged (decode s) ≡ x
+  pub verdict-is : {x : Verdict} → v ≡ x → onDecoded (decode s) ≡ x
   unfolding checkOf
   verdict-is e = sym (c .verdict) ∙ e
 
   pub sound-judged : v ≡ Sound → Judged s t
   sound-judged e = go (decode s) refl (verdict-is e)
     where
-      go : (d : Parsed Rules) → decode s ≡ d → judged d ≡ Sound → Judged s t
+      go : (d : Parsed Rules) → decode s ≡ d → onDecoded d ≡ Sound → Judged s t
       go (refused q) f j = clash (cc)
       go (got r m) f j = record { rules = r; mark = m; decoded = f; sound = j; says = c .says r m f }
 

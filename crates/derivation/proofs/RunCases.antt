@@ -9,7 +9,7 @@ use Rattle.grammar.specs.Decode.{Rules}
 use Rattle.grammar.specs.Grammar.{compile}
 use Rattle.derivation.specs.Runs.{marked}
 use Rattle.derivation.specs.Cells.{derives?, runs?}
-use Rattle.derivation.specs.Machine.{Outcome, accepted, stuck, full, lowest, plainly, reading}
+use Rattle.derivation.specs.Machine.{Conclusion, accepted, stuck, full, lowest, plainly, reading}
 
 -- nonterminal 0 is kind 1, itself, kind 2, or nothing; its productions begin at places 0 and 4
 abbrev nested : Rules
@@ -44,7 +44,7 @@ unfolding runs? compile
 whole-fails = refl
 
 -- a sentence, a row that is none, and no room
-abbrev read : List ℕ → ℕ → Outcome
+abbrev read : List ℕ → ℕ → Conclusion
 read w room = (reading (compile nested) (marked w) (plainly (compile nested) (marked w)) room tt) .outcome
 
 sentence-read : read (1 ∷ 2 ∷ []) 4 ≡ accepted (1 ∷ 2 ∷ [])

@@ -11,10 +11,11 @@ use lib.ListN.{length, length-drop, getElem?, drop}
 use Rattle.base.proofs.Booleans.{clash}
 use Rattle.grammar.specs.declared.Symbol.{Symbol}
 use Rattle.grammar.specs.declared.Symbol.the-variants.{Token, Nonterminal, End}
-use Rattle.grammar.specs.Grammar.{Grammar, facing, admits, first, suffix}
+use Rattle.grammar.specs.Grammar.{Grammar, facing, admits, first, suffix, ofPlaces}
 use Rattle.grammar.specs.Derivation.{Leftmost}
 use Rattle.grammar.proofs.GrammarLaws.{suffix-is, production-is, production-from}
-use Rattle.derivation.specs.Runs.{Run, Der, Ders, none, more, Split, spells}
+use Rattle.derivation.specs.Runs.{Run}
+use Rattle.derivation.specs.inside.BigSteps.{Der, Ders, none, more, Split, spells}
 use Rattle.derivation.proofs.Notes.{drop-of-get, get-of-drop, get-lt}
 
 module _ {g : Grammar} {w : List ℕ} where
@@ -95,7 +96,7 @@ module _ {g : Grammar} {w : List ℕ} where
   run-split p S i j r = (λ h. split-ders (run→ders h), λ h. rw (h .5) (der+run (h .3) (h .4)))
 
   -- ---- a run up to the note's end is a textbook derivation of what the stack spells
-  pub run→leftmost : {S : List ℕ} {i j : ℕ} {r : List ℕ} → Run g w S i j r → j ≡ length w → Leftmost g (spells g S) r (drop i w)
+  pub run→leftmost : {S : List ℕ} {i j : ℕ} {r : List ℕ} → Run g w S i j r → j ≡ length w → Leftmost (ofPlaces g) (spells g S) r (drop i w)
   unfolding spells
   run→leftmost (Run.done l) n = rw (n, drop-length) Leftmost.done
   run→leftmost (Run.finish {p = p} e h) n = rw (suffix-is, e) (run→leftmost h n)
@@ -127,7 +128,7 @@ settle g (p ∷ S) = go (facing g p) refl (settle g S)
 
 -- ---- and back: a textbook derivation of what a stack spells is a run of the stack
 module _ {g : Grammar} {w : List ℕ} where
-  pub leftmost→run : {α : List Symbol} {r v : List ℕ} → Leftmost g α r v → (S : List ℕ) (i : ℕ) → spells g S ≡ α → drop i w ≡ v
+  pub leftmost→run : {α : List Symbol} {r v : List ℕ} → Leftmost (ofPlaces g) α r v → (S : List ℕ) (i : ℕ) → spells g S ≡ α → drop i w ≡ v
       → i ≤ length w
       → Run g w S i (length w) r
   unfolding spells

@@ -12,10 +12,11 @@ use lib.ListN.{length, getElem?}
 use Rattle.base.specs.Rounds.{anyOf, upFrom}
 use Rattle.base.proofs.Booleans.{clash, or-T, T-or-l, T-or-r, true→T, false→¬T}
 use Rattle.base.proofs.Lists.{anyOf-T, T-anyOf, upFrom-get}
-use Rattle.grammar.specs.Grammar.{Grammar, alternatives, first}
+use Rattle.grammar.specs.Grammar.{Grammar, alternatives, first, ofPlaces}
 use Rattle.grammar.proofs.GrammarLaws.{first-pos, no-alternatives}
 use Rattle.grammar.proofs.GrammarLaws.{faces-place}
-use Rattle.derivation.specs.Viable.{Sentence, Rich, Reach, start, match, call, return, Arrives, WrongAt}
+use Rattle.derivation.specs.Viable.{Sentence, WrongAt}
+use Rattle.derivation.specs.inside.Reach.{Rich, Reach, start, match, call, return, Arrives}
 use Rattle.derivation.specs.ReachRounds.{reach?, arrives?, highestTo, wrongPlace}
 use Rattle.derivation.proofs.ViableLaws.{viable-iff, wrong-unique}
 use Rattle.derivation.proofs.ReachRoundsLaws.{reach-iff}
@@ -89,11 +90,11 @@ highest-is p (suc n) t = go (p (suc n)) refl (highest-is p n t)
 
 -- ---- a note that is no sentence, of a grammar in which the start symbol has a production and what is left of every production derives something
 module _ (g : Grammar) (w : List ℕ) (rich : Rich g) (b : ℕ) {f : ℕ} (e : first g 0 b ≡ some f) where
-  pub wrong-place : ¬ Sentence g w → WrongAt g w (wrongPlace g w)
+  pub wrong-place : ¬ Sentence (ofPlaces g) w → WrongAt (ofPlaces g) w (wrongPlace g w)
   unfolding wrongPlace
   wrong-place n = go (highestTo (arrives? g w) (length w)) (highest-is (arrives? g w) (length w) (arrives-iff g w 0 .1 (f, start b e)))
     where
-      go : (k : ℕ) → Highest (arrives? g w) (length w) k → WrongAt g w k
+      go : (k : ℕ) → Highest (arrives? g w) (length w) k → WrongAt (ofPlaces g) w k
       go k (l, t, h) = record {
         no-sentence = n;
         inside = l;
@@ -102,5 +103,5 @@ module _ (g : Grammar) (w : List ℕ) (rich : Rich g) (b : ℕ) {f : ℕ} (e : f
       }
 
   -- and it goes wrong nowhere else
-  pub wrong-is : (k : ℕ) → WrongAt g w k → k ≡ wrongPlace g w
+  pub wrong-is : (k : ℕ) → WrongAt (ofPlaces g) w k → k ≡ wrongPlace g w
   wrong-is k x = wrong-unique x (wrong-place (x .no-sentence))

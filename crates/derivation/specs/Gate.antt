@@ -1,4 +1,4 @@
--- The gate before every reading: refusals 1 to 9 and 11, in document 01's order, from the grammar's bytes, the note and the words of working space.
+-- The gate before every reading: refusals 1 to 9 and 11, in the scope's order, from the grammar's bytes, the note and the words of working space.
 use mathlib.Core.Bool.{Bool, true, false, _&&_, not}
 use mathlib.Core.Option.{Option, none, some}
 use mathlib.Core.List.{List}

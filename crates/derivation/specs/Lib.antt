@@ -2,15 +2,12 @@
 pub mod Runs
 pub mod Cells
 pub mod Machine
-pub mod Choosers
 pub mod Viable
 pub mod ReachRounds
 pub mod Chosen
-pub mod Steps
 pub mod Space
 pub mod Gate
 pub mod Plain
 pub mod Demand2
 pub mod Cases
-pub mod Visits
-pub mod Ready
+pub mod inside

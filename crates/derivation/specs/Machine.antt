@@ -1,7 +1,6 @@
 -- The machine that reads a note: a stack of places at a position of the note; at each nonterminal a chooser names an alternative. It has room for
 -- so many alternatives. A chooser carries a state from choice to choice: the plain one carries nothing and takes the lowest alternative with which
 -- the rest of the note can be read, the quick one carries the words of its cache.
-use mathlib.Core.Path.{_≡_}
 use mathlib.Core.Bool.{Bool, false, cond}
 use mathlib.Core.Option.{Option, none, some}
 use mathlib.Core.List.{List, [], _∷_}
@@ -13,7 +12,6 @@ use Rattle.grammar.specs.declared.Symbol.{Symbol}
 use Rattle.grammar.specs.declared.Symbol.the-variants.{Token, Nonterminal, End}
 use Rattle.grammar.specs.Limits.{endPlace}
 use Rattle.grammar.specs.Grammar.{Grammar, facing, admits, alternatives, first}
-use Rattle.derivation.specs.Runs.{Opens}
 use Rattle.derivation.specs.Cells.{runs?}
 
 -- ---- choosers
@@ -28,10 +26,6 @@ choice o c = record { alternative = o; state = c }
 -- a chooser: from a state it answers for a nonterminal over the stack that stays open, at a position
 abbrev pub Chooser : Type 0 → Type 0
 Chooser C = C → List ℕ → ℕ → ℕ → Choice C
-
--- with alternative b of nonterminal a over the open stack S the rest of the note from i on can be read
-abbrev pub Serves : Grammar → List ℕ → List ℕ → ℕ → ℕ → ℕ → Type 0
-Serves g w S a i b = (f : ℕ) × (first g a b ≡ some f) × Opens g w (f ∷ S) i
 
 -- the production that begins at this place serves
 unfoldable pub serves? : Grammar → List ℕ → List ℕ → ℕ → Option ℕ → Bool
@@ -50,42 +44,42 @@ plainly g w c S a i = choice (lowest g w S a i) c
 
 -- ---- the machine
 -- how reading ends: with the alternatives taken, in order; where nothing fits; where there is no room for one alternative more
-pub data Outcome : Type 0 where
-  accepted : List ℕ → Outcome
-  stuck : Outcome
-  full : Outcome
+pub data Conclusion : Type 0 where
+  accepted : List ℕ → Conclusion
+  stuck : Conclusion
+  full : Conclusion
 
 -- alternative b, and then this outcome
-abbrev pub prefix : ℕ → Outcome → Outcome
+abbrev pub prefix : ℕ → Conclusion → Conclusion
 prefix b (accepted r) = accepted (b ∷ r)
 prefix b stuck = stuck
 prefix b full = full
 
 -- the alternatives of a list, and then this outcome
-unfoldable pub after : List ℕ → Outcome → Outcome
+unfoldable pub after : List ℕ → Conclusion → Conclusion
 after [] o = o
 after (b ∷ l) o = prefix b (after l o)
 
 -- what the machine does next: end; go on with this stack at this position; take an alternative and go on with this stack
-pub data Step : Type 0 where
-  halt : Outcome → Step
-  move : List ℕ → ℕ → Step
-  pick : ℕ → List ℕ → Step
+pub data Action : Type 0 where
+  halt : Conclusion → Action
+  move : List ℕ → ℕ → Action
+  pick : ℕ → List ℕ → Action
 
 -- a step, and the chooser's state after it
 pub record Moved (C : Type 0) : Type 0 where
-  pub step : Step
+  pub step : Action
   pub state : C
 
-abbrev pub moved : {C : Type 0} → Step → C → Moved C
+abbrev pub moved : {C : Type 0} → Action → C → Moved C
 moved x c = record { step = x; state = c }
 
 -- an outcome, and the chooser's state after the reading
 pub record Ended (C : Type 0) : Type 0 where
-  pub outcome : Outcome
+  pub outcome : Conclusion
   pub state : C
 
-abbrev pub ended : {C : Type 0} → Outcome → C → Ended C
+abbrev pub ended : {C : Type 0} → Conclusion → C → Ended C
 ended o c = record { outcome = o; state = c }
 
 -- the alternatives of a list, and then this end
@@ -93,17 +87,17 @@ abbrev pub beyond : {C : Type 0} → List ℕ → Ended C → Ended C
 beyond l e = ended (after l (e .outcome)) (e .state)
 
 -- the stack's top p faces kind k, and this token stands at i
-unfoldable pub onToken : Grammar → ℕ → List ℕ → ℕ → ℕ → Option ℕ → Step
+unfoldable pub onToken : Grammar → ℕ → List ℕ → ℕ → ℕ → Option ℕ → Action
 unfolding admits
 onToken g p S i k none = halt stuck
 onToken g p S i k (some t) = cond (admits g k t) (move (suc p ∷ S) (suc i)) (halt stuck)
 
 -- a nonterminal over the stack S that stays open: its alternative b, by its first place
-abbrev pub onFirst : List ℕ → ℕ → Option ℕ → Step
+abbrev pub onFirst : List ℕ → ℕ → Option ℕ → Action
 onFirst S b none = halt stuck
 onFirst S b (some f) = pick b (f ∷ S)
 
-unfoldable pub onChoice : Grammar → List ℕ → ℕ → Option ℕ → Step
+unfoldable pub onChoice : Grammar → List ℕ → ℕ → Option ℕ → Action
 unfolding alternatives
 onChoice g S a none = halt stuck
 onChoice g S a (some b) = onFirst S b (first g a b)
@@ -136,7 +130,7 @@ abbrev pub prefixed : {C : Type 0} → ℕ → Ended C → Ended C
 prefixed b e = ended (prefix b (e .outcome)) (e .state)
 
 -- what a step leads to, where `on` says what follows
-abbrev pub followStep : {C : Type 0} → (List ℕ → ℕ → ℕ → C → Ended C) → ℕ → ℕ → Step → C → Ended C
+abbrev pub followStep : {C : Type 0} → (List ℕ → ℕ → ℕ → C → Ended C) → ℕ → ℕ → Action → C → Ended C
 followStep on i room (halt o) c = ended o c
 followStep on i room (move S i′) c = on S i′ room c
 followStep on i room (pick b S) c = prefixed b (on S i (pred room) c)

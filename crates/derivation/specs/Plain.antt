@@ -1,4 +1,4 @@
--- What the plain reading answers, for any bytes, note, row and working space: document 01's refusals in their order, as one executable definition.
+-- What the plain reading answers, for any bytes, note, row and working space: the scope's refusals in their order, as one executable definition.
 use mathlib.Core.Bool.{Bool, cond}
 use mathlib.Core.List.{List, [], _∷_, _++_}
 use Prim.Native.Nat.{ℕ, _-_}
@@ -8,7 +8,7 @@ use Rattle.grammar.specs.Limits.{endPlace}
 use Rattle.grammar.specs.Grammar.{Grammar, alternatives}
 use Rattle.derivation.specs.Runs.{marked}
 use Rattle.derivation.specs.Cells.{runs?}
-use Rattle.derivation.specs.Machine.{lowest, plainly, Outcome, accepted, stuck, full, reading}
+use Rattle.derivation.specs.Machine.{lowest, plainly, Conclusion, accepted, stuck, full, reading}
 use Rattle.derivation.specs.ReachRounds.{wrongPlace}
 use Rattle.derivation.specs.Gate.{atGate, gate}
 
@@ -40,16 +40,16 @@ unfolding anyOf runs? alternatives
 sentence? g w = anyOf (λ f. runs? g (marked w) (f ∷ endPlace ∷ []) 0) (alternatives g 0)
 
 -- 10 and 14: where the machine got stuck the note is no sentence; where the row was full, the note alone decides
-unfoldable pub onOutcome : Grammar → List ℕ → List ℕ → Outcome → Answer
+unfoldable pub onConclusion : Grammar → List ℕ → List ℕ → Conclusion → Answer
 unfolding sentence? wrongPlace
-onOutcome g w row (accepted d) = accept d row
-onOutcome g w row stuck = clear 10 (wrongPlace g w) row
-onOutcome g w row full = let wrong = clear 10 (wrongPlace g w) row in cond (sentence? g w) (clear 14 0 row) wrong
+onConclusion g w row (accepted d) = accept d row
+onConclusion g w row stuck = clear 10 (wrongPlace g w) row
+onConclusion g w row full = let wrong = clear 10 (wrongPlace g w) row in cond (sentence? g w) (clear 14 0 row) wrong
 
 -- the reading of a note by a sound grammar, in enough working space
 unfoldable pub readNote : Grammar → List ℕ → List ℕ → Answer
-unfolding onOutcome reading lowest
-readNote g w row = onOutcome g w row ((reading g (marked w) (plainly g (marked w)) (length row) tt) .outcome)
+unfolding onConclusion reading lowest
+readNote g w row = onConclusion g w row ((reading g (marked w) (plainly g (marked w)) (length row) tt) .outcome)
 
 -- the plain reading: what the gate refuses leaves the row as it was
 unfoldable pub plainReading : List ℕ → List ℕ → List ℕ → ℕ → Answer

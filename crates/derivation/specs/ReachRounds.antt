@@ -62,15 +62,15 @@ module _ (g : Grammar) (w : List ℕ) (X : Point → Bool) where
   byPlace (suc p) j = over p j (facing g p)
 
   -- X holds place p at j, and it faces s, a nonterminal of which a production begins at q
-  unfoldable pub into : ℕ → ℕ → ℕ → Symbol → Bool
+  unfoldable pub intoCall : ℕ → ℕ → ℕ → Symbol → Bool
   unfolding opens?
-  into q j p (Token k) = false
-  into q j p (Nonterminal a) = let rest = X (point p j) in opens? g a q && rest
-  into q j p End = false
+  intoCall q j p (Token k) = false
+  intoCall q j p (Nonterminal a) = let rest = X (point p j) in opens? g a q && rest
+  intoCall q j p End = false
 
   unfoldable pub byCall : ℕ → ℕ → Bool
-  unfolding into facing anyOf upFrom
-  byCall q j = anyOf (λ p. into q j p (facing g p)) (upFrom 0 (length (g .places)))
+  unfolding intoCall facing anyOf upFrom
+  byCall q j = anyOf (λ p. intoCall q j p (facing g p)) (upFrom 0 (length (g .places)))
 
   -- the points that can be reached at once, or by one step from a point of X
   unfoldable pub stepped : Point → Bool

@@ -1,43 +1,21 @@
--- Beginnings of sentences, the places of the grammar that a beginning of a note leads to, and where a note that is no sentence goes wrong (refusal 10).
-use mathlib.Core.Path.{_≡_}
-use mathlib.Core.Option.{some}
+-- Sentences, their beginnings, and where a note that is no sentence goes wrong (refusal 10).
 use mathlib.Core.List.{List, [], _∷_, _++_}
 use Prim.Native.Nat.{ℕ, suc, _≤_, _<_}
-use lib.Dec.{T}
-use lib.ListN.{length, getElem?, take}
-use Rattle.grammar.specs.declared.Symbol.the-variants.{Token, Nonterminal}
-use Rattle.grammar.specs.Grammar.{Grammar, facing, admits, first, suffix}
-use Rattle.grammar.specs.Derivation.{Derives}
-use Rattle.derivation.specs.Runs.{Der}
+use lib.ListN.{length, take}
+use Rattle.grammar.specs.declared.Symbol.the-variants.{Nonterminal}
+use Rattle.grammar.specs.Derivation.{Syntax, Derives}
 
 -- w is a sentence: the start symbol derives it
-abbrev pub Sentence : Grammar → List ℕ → Type 0
+abbrev pub Sentence : Syntax → List ℕ → Type 0
 Sentence g w = Derives g (Nonterminal 0 ∷ []) w
 
 -- some sentence begins with u
-abbrev pub Viable : Grammar → List ℕ → Type 0
+abbrev pub Viable : Syntax → List ℕ → Type 0
 Viable g u = (v : List ℕ) × Sentence g (u ++ v)
-
--- what is left of every production, from any place on, derives something
-abbrev pub Rich : Grammar → Type 0
-Rich g = (p : ℕ) → (v : List ℕ) × Derives g (suffix g p) v
-
--- a reader of w can stand at the first of these two, a place of the grammar, when it has read so many tokens as the second: it starts at a production
--- of the start symbol, passes a token that matches, goes into a production of a nonterminal, and comes back when that production has derived something
-pub data Reach (g : Grammar) (w : List ℕ) : ℕ → ℕ → Type 0 where
-  start : {f : ℕ} (b : ℕ) → first g 0 b ≡ some f → Reach g w f 0
-  match : {p k t i : ℕ} → Reach g w p i → facing g p ≡ Token k → getElem? w i ≡ some t → T (admits g k t) → Reach g w (suc p) (suc i)
-  call : {p a f i : ℕ} (b : ℕ) → Reach g w p i → facing g p ≡ Nonterminal a → first g a b ≡ some f → Reach g w f i
-  return : {p a f i m : ℕ} {r : List ℕ} (b : ℕ) → Reach g w p i → facing g p ≡ Nonterminal a → first g a b ≡ some f → Der g w f i m r
-      → Reach g w (suc p) m
-
--- some place can be reached after k tokens of w
-abbrev pub Arrives : Grammar → List ℕ → ℕ → Type 0
-Arrives g w k = (p : ℕ) × Reach g w p k
 
 -- w goes wrong at k: w is no sentence, its first k tokens begin one, and token k, if w has one, can't follow them in any; k is the length of w if w
 -- breaks off too early
-pub record WrongAt (g : Grammar) (w : List ℕ) (k : ℕ) : Type 0 where
+pub record WrongAt (g : Syntax) (w : List ℕ) (k : ℕ) : Type 0 where
   pub no-sentence : ¬ Sentence g w
   pub inside : k ≤ length w
   pub begins : Viable g (take k w)

@@ -5,9 +5,9 @@ ghost use mathlib.Core.Option.{some};
 ghost use Prim.Native.Nat.{_≤_, _<_};
 ghost use lib.ListN.{length, getElem?};
 ghost use Rattle.grammar.specs.Grammar.{alternatives};
-ghost use Rattle.grammar.specs.Tables.{grammarIn, nonterminalsIn};
+ghost use Rattle.grammar.specs.inside.Tables.{grammarIn, nonterminalsIn};
 ghost use Rattle.derivation.specs.Runs.{marked};
-ghost use Rattle.derivation.specs.Ready.{Ready};
+ghost use Rattle.derivation.specs.inside.Ready.{Ready};
 
 // The token at position i; behind the note's last token stands the end mark.
 pub fn token_at(note: &[u16], i: usize) -> usize

@@ -11,16 +11,16 @@ use borrow.Author.Tests.{not-true, not-false}
 use Rattle.base.proofs.Booleans.{or-assoc, or-none}
 use Rattle.grammar.specs.declared.Symbol.the-variants.{Token, Nonterminal, End}
 use Rattle.grammar.specs.Grammar.{facing}
-use Rattle.grammar.specs.Tables.{grammarIn}
-use Rattle.positions.specs.Positions.{positionCount, setWords, emptySet, member, withOf, unionOf}
-use Rattle.positions.specs.Words.{setAt}
+use Rattle.grammar.specs.inside.Tables.{grammarIn}
+use Rattle.positions.specs.inside.Positions.{positionCount, setWords, emptySet, member, withOf, unionOf}
+use Rattle.positions.specs.inside.Words.{setAt}
 use Rattle.positions.proofs.SetLaws.{member-empty, member-with, member-union}
-use Rattle.cells.specs.Chart.{spot}
-use Rattle.cells.specs.Matches.{matchesAt}
-use Rattle.cells.specs.Through.{throughOf, Through}
+use Rattle.cells.specs.inside.Chart.{spot}
+use Rattle.cells.specs.inside.Matches.{matchesAt}
+use Rattle.cells.specs.inside.Through.{throughOf, Through}
 use Rattle.cells.proofs.Spots.{cell-member}
-use Rattle.ends.specs.Ends.{endHas, leadBy, lead}
-use Rattle.ends.specs.Row.{cellsIn, leadsTo, Begun}
+use Rattle.ends.specs.inside.Ends.{endHas, leadBy, lead}
+use Rattle.ends.specs.inside.Row.{cellsIn, leadsTo, LedTo}
 use Rattle.ends.proofs.LeadLaws.{lead-place}
 use Rattle.ends.proofs.PlaceLaws.{eqb-comm, by-end, by-other, by-token, by-call, end-member, end-through}
 
@@ -48,24 +48,24 @@ module _ (t w ws : List ℕ) (i : ℕ) (ends : List ℕ) (f : ℕ) where
     last x h j l = rw (← h j l, ← lead-place (grammarIn t) w (endHas ends) (cellsIn t ws) i j p) (inv j l)
 
     stays : ((j : ℕ) → j < positionCount → led p j ≡ false)
-        → Begun t w ws i ends f r
-    unfolding Begun
+        → LedTo t w ws i ends f r
+    unfolding LedTo
     stays h j l = rw or-none at (last (λ _. false) h j l)
 
     pub leading-end : {r′ : List ℕ} → facing (grammarIn t) p ≡ End → i < positionCount → length r ≡ setWords → r′ ≡ withOf r i
-        → Begun t w ws i ends f r′
-    unfolding Begun
+        → LedTo t w ws i ends f r′
+    unfolding LedTo
     leading-end {r′} e k m d j l =
         rw (d, member-with r i j (omega arith), eqb-comm j i) (last (λ j. eqb i j) (λ j l. by-end (grammarIn t) w (endHas ends) (cellsIn t ws) i j p _ e) j l)
 
     pub leading-other : {k : ℕ} {m : Bool} → facing (grammarIn t) p ≡ Token k → m ≡ matchesAt (grammarIn t) w i k → not m ≡ true
-        → Begun t w ws i ends f r
+        → LedTo t w ws i ends f r
     leading-other {k} {m} e q n = stays (λ j l. by-other (grammarIn t) w (endHas ends) (cellsIn t ws) i j p _ e (sym q ∙ not-true m n))
 
     pub leading-token : {k P : ℕ} {m : Bool} (u : List ℕ) {r′ : List ℕ} → P ≡ grammarIn t .size → facing (grammarIn t) p ≡ Token k
         → m ≡ matchesAt (grammarIn t) w i k → not m ≡ false → u ≡ setAt ws (spot P (p + 1) (i + 1)) → r′ ≡ unionOf r u
-        → Begun t w ws i ends f r′
-    unfolding Begun
+        → LedTo t w ws i ends f r′
+    unfolding LedTo
     leading-token {k} {P} {m} u {r′} s e q n c d j l =
         rw (d, member-union r u j l, cell-member (grammarIn t .size) ws (p + 1) (i + 1) j (rw s at c) l, add-one p, add-one i)
         (last (λ j. cellsIn t ws (suc p) (suc i) j)
@@ -86,14 +86,14 @@ module _ (t w ws : List ℕ) (i : ℕ) (ends : List ℕ) (f : ℕ) where
           (last (λ j. throughOf (endHas ends b) (cellsIn t ws) (suc p) j (suc i) (length w) || (endHas ends b i && leads j (suc p)))
           (λ j l. by-call (grammarIn t) w (endHas ends) (cellsIn t ws) i j p _ e) j l)
 
-      pub leading-stops : not v ≡ true → Begun t w ws i ends f r′
-      unfolding Begun
+      pub leading-stops : not v ≡ true → LedTo t w ws i ends f r′
+      unfolding LedTo
       leading-stops n j l = rw (not-true v n, or-none) at (called j l)
 
       pub leading-goes : not v ≡ false → Leading (p + 1) r′
       unfolding Leading
       leading-goes n j l = rw add-one (rw (not-false v n) at (called j l))
 
-  pub begun-members : (r : List ℕ) → Begun t w ws i ends f r → (j : ℕ) → j < positionCount → member r j ≡ leads j f
-  unfolding Begun
+  pub begun-members : (r : List ℕ) → LedTo t w ws i ends f r → (j : ℕ) → j < positionCount → member r j ≡ leads j f
+  unfolding LedTo
   begun-members r h = h

@@ -8,16 +8,16 @@ use Rattle.base.proofs.Booleans.{clash}
 use Rattle.grammar.specs.declared.Symbol.the-variants.{Token, Nonterminal, End}
 use Rattle.grammar.specs.Limits.{maxPlaces, maxNonterminals}
 use Rattle.grammar.specs.Grammar.{facing}
-use Rattle.grammar.specs.Tables.{grammarIn}
-use Rattle.positions.specs.Positions.{positionCount}
+use Rattle.grammar.specs.inside.Tables.{grammarIn}
+use Rattle.positions.specs.inside.Positions.{positionCount}
 use Rattle.derivation.specs.Cells.{derives?}
 use Rattle.derivation.proofs.CellLaws.{derives-sound}
 use Rattle.derivation.proofs.RunLaws.{der-le, der-in}
 use Rattle.derivation.proofs.ReadyLaws.{ready-next, ready-named, ready-size}
-use Rattle.cells.specs.Chart.{cellHas, Lent, ChartedFrom}
-use Rattle.cells.specs.Through.{Ahead}
+use Rattle.cells.specs.inside.Chart.{cellHas, Lent, ChartedFrom}
+use Rattle.cells.specs.inside.Through.{Ahead}
 use Rattle.cells.proofs.Spots.{sized, lent-sized}
-use Rattle.ends.specs.Row.{Row}
+use Rattle.ends.specs.inside.Row.{Row}
 
 module _ {t w : List ℕ} {i : ℕ} {ws : List ℕ} (row : Row t w i ws) where
   pub row-short : length w < positionCount

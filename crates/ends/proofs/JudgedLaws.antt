@@ -14,20 +14,20 @@ use Rattle.base.proofs.Bits.{same?}
 use Rattle.base.proofs.Booleans.{clash, T-and, T-or-l, T-or-r}
 use Rattle.base.proofs.Lists.{anyOf-T, T-anyOf}
 use Rattle.grammar.specs.declared.Symbol.the-variants.{Nonterminal}
-use Rattle.grammar.specs.Grammar.{Grammar, facing, alternatives, first, suffix}
+use Rattle.grammar.specs.Grammar.{Grammar, facing, alternatives, first, suffix, ofPlaces}
 use Rattle.grammar.specs.Derivation.{Leftmost}
-use Rattle.grammar.specs.Tables.{grammarIn, nonterminalsIn}
+use Rattle.grammar.specs.inside.Tables.{grammarIn, nonterminalsIn}
 use Rattle.grammar.proofs.GrammarLaws.{production-is}
 use Rattle.closures.specs.Closures.{nullable?}
 use Rattle.corners.specs.Corners.{leads, move?}
 use Rattle.closures.proofs.Deriving.{nullable-iff}
 use Rattle.corners.proofs.LeftRecursion.{leads-place}
-use Rattle.derivation.specs.Runs.{DerivesBy}
+use Rattle.derivation.specs.inside.BigSteps.{DerivesBy}
 use Rattle.derivation.proofs.ViableLaws.{der→leftmost}
-use Rattle.order.specs.Order.{Among, InOrder}
-use Rattle.ends.specs.Ends.{endHas, lead, endsAt, SoundEnds, RightEnds}
-use Rattle.ends.specs.Row.{Row, cellsIn, leadsTo, offers}
-use Rattle.ends.specs.Judged.{ClosedAt, Looked, Judged}
+use Rattle.order.specs.inside.Order.{Among, InOrder}
+use Rattle.ends.specs.inside.Ends.{endHas, lead, endsAt, SoundEnds, RightEnds}
+use Rattle.ends.specs.inside.Row.{Row, cellsIn, leadsTo, offers}
+use Rattle.ends.specs.inside.Judged.{ClosedAt, Looked, Judged}
 use Rattle.ends.proofs.LeadLaws.{Led, end, token, later, here, led-in, led-out, lead-place, ends-out, Known}
 use Rattle.ends.proofs.InRange.{row-short}
 use Rattle.ends.proofs.LookLaws.{row-known, closed-right, looked-sound}
@@ -38,7 +38,7 @@ empty-end g w i b t = go (ends-out g w i b i t)
   where
     go : (c : ℕ) × (f : ℕ) × (first g b c ≡ some f) × DerivesBy g w f i i → T (nullable? g b)
     go (c, f, d, (r, x)) =
-        let y : Leftmost g (suffix g f ++ []) r [] = rw (append-nil, ← slice-empty i w) (der→leftmost x) in
+        let y : Leftmost (ofPlaces g) (suffix g f ++ []) r [] = rw (append-nil, ← slice-empty i w) (der→leftmost x) in
         nullable-iff g b .1 (c ∷ r, Leftmost.expand (production-is g b c d) y)
 
 -- ---- a look along a production reads only the ends of nonterminals that it leads to

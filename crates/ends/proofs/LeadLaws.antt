@@ -15,17 +15,17 @@ use Rattle.grammar.specs.declared.Symbol.{Symbol}
 use Rattle.grammar.specs.declared.Symbol.the-variants.{Token, Nonterminal, End}
 use Rattle.grammar.specs.Grammar.{Grammar, facing, admits, alternatives, first, before, suffix}
 use Rattle.grammar.proofs.GrammarLaws.{suffix-is, first-pos}
-use Rattle.positions.specs.Positions.{positionCount}
-use Rattle.derivation.specs.Runs.{Der, DerivesBy}
+use Rattle.positions.specs.inside.Positions.{positionCount}
+use Rattle.derivation.specs.inside.BigSteps.{Der, DerivesBy}
 use Rattle.derivation.specs.Cells.{derives?}
 use Rattle.derivation.proofs.Notes.{get-lt}
 use Rattle.derivation.proofs.RunLaws.{der-le, der-in}
 use Rattle.derivation.proofs.CellLaws.{Kept, derives-sound, derives-complete}
-use Rattle.cells.specs.Matches.{matchesAt}
-use Rattle.cells.specs.Through.{throughOf}
+use Rattle.cells.specs.inside.Matches.{matchesAt}
+use Rattle.cells.specs.inside.Through.{throughOf}
 use Rattle.cells.proofs.MatchLaws.{matches-in, matches-out}
 use Rattle.cells.proofs.ThroughLaws.{through-in, through-out}
-use Rattle.ends.specs.Ends.{leadBy, leadOf, lead, endsAt}
+use Rattle.ends.specs.inside.Ends.{leadBy, leadOf, lead, endsAt}
 
 -- ---- one place, in facts
 pub data Led (g : Grammar) (w : List ℕ) (E : ℕ → ℕ → Bool) (C : ℕ → ℕ → ℕ → Bool) (i j p : ℕ) (rest : Bool) : Type 0 where

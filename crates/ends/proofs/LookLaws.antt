@@ -13,17 +13,17 @@ use Rattle.base.proofs.Bits.{same?, test-none}
 use Rattle.base.proofs.Lists.{anyOf-T, T-anyOf}
 use Rattle.grammar.specs.Limits.{maxNonterminals}
 use Rattle.grammar.specs.Grammar.{alternatives, first}
-use Rattle.grammar.specs.Tables.{grammarIn, nonterminalsIn}
+use Rattle.grammar.specs.inside.Tables.{grammarIn, nonterminalsIn}
 use Rattle.grammar.proofs.GrammarLaws.{first-pos, first-below}
 use Rattle.grammar.proofs.WordLaws.{length-starts-in}
-use Rattle.positions.specs.Positions.{positionCount, setWords, member}
-use Rattle.positions.specs.Words.{memberAt, putAt}
+use Rattle.positions.specs.inside.Positions.{positionCount, setWords, member}
+use Rattle.positions.specs.inside.Words.{memberAt, putAt}
 use Rattle.positions.proofs.WordLaws.{put-same, put-other}
 use Rattle.derivation.proofs.ReadyLaws.{ready-kept}
-use Rattle.cells.specs.Chart.{ChartedFrom}
-use Rattle.ends.specs.Ends.{endWords, endHas, lead, endsAt, SoundEnds, RightEnds}
-use Rattle.ends.specs.Row.{Row, cellsIn, leadsTo, offers}
-use Rattle.ends.specs.Judged.{ClosedAt, Looked}
+use Rattle.cells.specs.inside.Chart.{ChartedFrom}
+use Rattle.ends.specs.inside.Ends.{endWords, endHas, lead, endsAt, SoundEnds, RightEnds}
+use Rattle.ends.specs.inside.Row.{Row, cellsIn, leadsTo, offers}
+use Rattle.ends.specs.inside.Judged.{ClosedAt, Looked}
 use Rattle.ends.proofs.LeadLaws.{Known, lead-sound, ends-in, ends-exact}
 use Rattle.ends.proofs.InRange.{row-short}
 

@@ -9,14 +9,14 @@ use lib.ListN.{length}
 use Rattle.base.proofs.Bits.{eqb-iff}
 use Rattle.grammar.specs.declared.Symbol.the-variants.{Token, Nonterminal, End}
 use Rattle.grammar.specs.Grammar.{Grammar, facing}
-use Rattle.positions.specs.Positions.{positionCount, setWords, member}
-use Rattle.positions.specs.Words.{setAt}
+use Rattle.positions.specs.inside.Positions.{positionCount, setWords, member}
+use Rattle.positions.specs.inside.Words.{setAt}
 use Rattle.positions.proofs.WordLaws.{member-set}
-use Rattle.cells.specs.Chart.{cellHas}
-use Rattle.cells.specs.Matches.{matchesAt}
-use Rattle.cells.specs.Through.{throughOf, Through}
+use Rattle.cells.specs.inside.Chart.{cellHas}
+use Rattle.cells.specs.inside.Matches.{matchesAt}
+use Rattle.cells.specs.inside.Through.{throughOf, Through}
 use Rattle.cells.proofs.ThroughLaws.{through-same}
-use Rattle.ends.specs.Ends.{endHas, leadBy}
+use Rattle.ends.specs.inside.Ends.{endHas, leadBy}
 
 pub eqb-comm : (a b : ℕ) → eqb a b ≡ eqb b a
 eqb-comm a b = eqb-iff a b b a (λ e. sym e) (λ e. sym e)

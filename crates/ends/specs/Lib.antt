@@ -1,4 +1,2 @@
 -- Where the productions that begin at one position end.
-pub mod Ends
-pub mod Row
-pub mod Judged
+pub mod inside

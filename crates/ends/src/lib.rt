@@ -2,17 +2,17 @@
 // symbols up to the first that does not vanish here, so each nonterminal is judged once, behind its left corners.
 use grammar::Symbol;
 use positions::Positions;
-ghost use Rattle.ends.specs.Ends.{RightEnds};
-ghost use Rattle.ends.specs.Row.{Begins, Looks, Settles, Begun};
-ghost use Rattle.ends.specs.Judged.{Looked};
+ghost use Rattle.ends.specs.inside.Ends.{RightEnds};
+ghost use Rattle.ends.specs.inside.Row.{LooksFrom, LooksAlong, Settles, LedTo};
+ghost use Rattle.ends.specs.inside.Judged.{Looked};
 
 // Words of the sets of all nonterminals. specs/Ends has the same.
 pub const END_WORDS: usize = positions::WORDS * grammar::MAX_NONTERMINALS;
 
 // Where the production from place f on ends when it begins at i, as far as `ends` and the cells of the later positions tell.
 fn begun(tables: &[u16], note: &[u16], ws: &[u32], ends: &[u32], i: usize, f: usize) -> Positions
-    requires { ⌜ Begins (now tables) (now note) i (now ws) (now ends) f ⌝ }
-    ensures { λ r. ⌜ Begun (now (tables .entry)) (now (note .entry)) (now (ws .entry)) i (now (ends .entry)) f (r .words) ⌝ }
+    requires { ⌜ LooksFrom (now tables) (now note) i (now ws) (now ends) f ⌝ }
+    ensures { λ r. ⌜ LedTo (now (tables .entry)) (now (note .entry)) (now (ws .entry)) i (now (ends .entry)) f (r .words) ⌝ }
 {
     let places = grammar::size(tables);
     let mut r = Positions::empty();
@@ -45,7 +45,7 @@ fn begun(tables: &[u16], note: &[u16], ws: &[u32], ends: &[u32], i: usize, f: us
 
 // The ends of nonterminal a, by every production of it.
 fn look(tables: &[u16], note: &[u16], ws: &[u32], ends: &mut [u32], i: usize, a: usize)
-    requires { ⌜ Looks (now tables) (now note) i (now ws) (now ends) a ⌝ }
+    requires { ⌜ LooksAlong (now tables) (now note) i (now ws) (now ends) a ⌝ }
     ensures { λ _. ⌜ Looked (now (tables .entry)) (now (note .entry)) (now (ws .entry)) i a (now (ends .entry)) (now (ends .exit)) ⌝ }
 {
     let start = grammar::rule_at(tables, a);

@@ -10,18 +10,18 @@ use lib.ListN.{length}
 use Rattle.base.proofs.Booleans.{clash}
 use Rattle.number.specs.declared.Refusal.{Refusal}
 use Rattle.grammar.specs.Limits.{maxPlaces}
-use Rattle.grammar.specs.Tables.{grammarIn}
+use Rattle.grammar.specs.inside.Tables.{grammarIn}
 use Rattle.soundness.specs.declared.judgement.Verdict.{Verdict}
 use Rattle.soundness.specs.declared.judgement.Verdict.the-variants.{Sound, Refused}
-use Rattle.soundness.specs.Compiled.{Compiled}
+use Rattle.soundness.specs.inside.Compiled.{Compiled}
 use Rattle.derivation.specs.Space.{maxTokens, spaceWords, spaceFixed, spaceEach}
-use Rattle.derivation.specs.Ready.{Ready}
+use Rattle.derivation.specs.inside.Ready.{Ready}
 use Rattle.derivation.specs.Demand2.{Known as AllKnown}
 use Rattle.derivation.specs.Gate as definition
 use Rattle.derivation.proofs.ReadyLaws.{ready-size, sound-judged}
 use Rattle.derivation.proofs.GateLaws.{none-known, note-8, note-9, note-11, note-passes, gate-refuses, gate-sound}
 use Rattle.gate.specs.Reading.{readingNumber, readingPlace, readingCount, tokensOf}
-use Rattle.gate.specs.Passing.{Answers, Noted, Gated}
+use Rattle.gate.specs.inside.Passing.{Answers, NoteGated, Gated}
 use Rattle.gate.specs.declared.reading.Reading.{Reading}
 use Rattle.gate.specs.declared.reading.Reading.the-variants.{Grammar, LongNote, UnknownToken, ShortWorkspace}
 use Rattle.gate.specs.declared.passing.Gate.{Gate}
@@ -57,12 +57,12 @@ module _ (t w : List ℕ) (space : ℕ) where
   abbrev said : definition.Gate
   said = definition.noteGate (grammarIn t) w space
 
-  pub long-note : maxTokens < length w → Noted t w space (Shut LongNote)
+  pub long-note : maxTokens < length w → NoteGated t w space (Shut LongNote)
   long-note l = shut-answers said t w space LongNote refl (sym (note-8 (grammarIn t) w space l))
 
   module _ (short : length w ≤ maxTokens) {kinds : ℕ} (c : kinds ≡ grammarIn t .kinds) {k : Tokens}
       (e : k ≡ tokensOf (definition.firstUnknown kinds w)) where
-    pub unknown-token : {at : ℕ} → k ≡ Unknown at → Noted t w space (Shut (UnknownToken at))
+    pub unknown-token : {at : ℕ} → k ≡ Unknown at → NoteGated t w space (Shut (UnknownToken at))
     unknown-token {at} f =
         shut-answers said t w space (UnknownToken at) refl
         (sym (note-9 (grammarIn t) w space at short (rw c at (unknown-of (definition.firstUnknown kinds w) e f))))
@@ -71,12 +71,12 @@ module _ (t w : List ℕ) (space : ℕ) where
       tokens : AllKnown (grammarIn t .kinds) w
       tokens = none-known (grammarIn t .kinds) w (rw c at (known-of (definition.firstUnknown kinds w) e f))
 
-      pub short-space : space < spaceFixed + spaceEach * (P * (length w + 1)) → Noted t w space (Shut ShortWorkspace)
+      pub short-space : space < spaceFixed + spaceEach * (P * (length w + 1)) → NoteGated t w space (Shut ShortWorkspace)
       short-space l =
           shut-answers said t w space ShortWorkspace refl
           (sym (note-11 (grammarIn t) w space short tokens (omega (arith, space-is (length w) size))))
 
-      pub note-passed : Ready t → spaceFixed + spaceEach * (P * (length w + 1)) ≤ space → Noted t w space Passed
+      pub note-passed : Ready t → spaceFixed + spaceEach * (P * (length w + 1)) ≤ space → NoteGated t w space Passed
       note-passed h l =
           let room : spaceWords (grammarIn t .size) (length w) ≤ space = omega (arith, space-is (length w) size) in
           record {
@@ -92,7 +92,7 @@ module _ (s w : List ℕ) (space : ℕ) {v : Verdict} {t : List ℕ} (c : Compil
       shut-answers (definition.gate s w space) t w space (Grammar r) refl (sym (gate-refuses s w space r (sym (c .verdict) ∙ e)))
 
   -- a sound grammar: the gate of the note decides
-  pub sound-gate : {r : Gate} → v ≡ Sound → Noted t w space r → Gated s w space t r
+  pub sound-gate : {r : Gate} → v ≡ Sound → NoteGated t w space r → Gated s w space t r
   sound-gate {r} e x =
       let j = sound-judged s c e in
       let g : definition.gate s w space ≡ definition.noteGate (grammarIn t) w space

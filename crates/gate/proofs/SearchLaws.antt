@@ -8,7 +8,7 @@ use lib.Dec.{leb}
 use lib.ListN.{length, getD}
 use borrow.Author.Tests.{le-leb, lt-leb}
 use Rattle.base.specs.Search.{lowestFrom}
-use Rattle.base.proofs.Lowest.{lowest-none, lowest-hit, lowest-miss}
+use Rattle.base.proofs.Lowest.{lowest-none, lowest-hit, lowest-next}
 use Rattle.derivation.specs.Gate.{known?, firstUnknown}
 use Rattle.gate.specs.Reading.{tokensOf}
 use Rattle.gate.specs.declared.tokens.Tokens.the-variants.{Known, Unknown}
@@ -48,8 +48,7 @@ module _ (kinds : ℕ) (w : List ℕ) where
     unfolding Looking
     looking-on n h =
         let q : unknown i ≡ false = rw (← e, le-leb 1 t (omega arith), le-leb t kinds h) in
-        let z : length w - i - 1 ≡ length w - (i + 1) = omega arith in
-        rw z at (lowest-miss unknown i (length w - i) x (omega arith) q)
+        lowest-next unknown (length w) i x (omega arith) q
 
   pub looking-ends : (i : ℕ) → Looking i → length w ≤ i → Known ≡ tokensOf (firstUnknown kinds w)
   unfolding Looking

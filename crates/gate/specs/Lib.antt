@@ -1,3 +1,3 @@
 -- The gate before every reading.
 pub mod Reading
-pub mod Passing
+pub mod inside

@@ -1,4 +1,4 @@
--- Document 01's number, place and count of a reading.
+-- The scope's number, place and count of a reading.
 use mathlib.Core.Option.{Option, none, some}
 use mathlib.Core.List.{List}
 use Prim.Native.Nat.{ℕ}

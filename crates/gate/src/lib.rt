@@ -1,4 +1,4 @@
-// The gate before every reading: document 01's refusals 1 to 9 and 11, in their order, once.
+// The gate before every reading: the scope's refusals 1 to 9 and 11, in their order, once.
 pub mod passing;
 pub mod reading;
 pub mod tokens;

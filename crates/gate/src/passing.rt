@@ -4,9 +4,9 @@ use crate::tokens::Tokens;
 use soundness::Verdict;
 ghost use mathlib.Core.Path.{_≡_};
 ghost use lib.ListN.{replicate};
-ghost use Rattle.grammar.specs.Tables.{tableWords};
-ghost use Rattle.derivation.specs.Ready.{Ready};
-ghost use Rattle.gate.specs.Passing.{Noted, Gated};
+ghost use Rattle.grammar.specs.inside.Tables.{tableWords};
+ghost use Rattle.derivation.specs.inside.Ready.{Ready};
+ghost use Rattle.gate.specs.inside.Passing.{NoteGated, Gated};
 
 // The most tokens of a note.
 pub const MAX_TOKENS: usize = 128;
@@ -25,7 +25,7 @@ pub enum Gate {
 // 8, 9 and 11, for the tables of a sound grammar.
 fn note_gate(tables: &[u16], note: &[u16], space: usize) -> Gate
     requires { ⌜ Ready (now tables) ⌝ }
-    ensures { λ r. ⌜ Noted (now (tables .entry)) (now (note .entry)) space r ⌝ }
+    ensures { λ r. ⌜ NoteGated (now (tables .entry)) (now (note .entry)) space r ⌝ }
 {
     if MAX_TOKENS < note.len() {
         return Gate::Shut(Reading::LongNote);

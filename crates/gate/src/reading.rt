@@ -1,4 +1,4 @@
-// What a reading answers, with document 01's number, place and count.
+// What a reading answers, with the scope's number, place and count.
 use number::Refusal;
 ghost use mathlib.Core.Path.{_≡_};
 ghost use Rattle.gate.specs.Reading.{readingNumber, readingPlace, readingCount};
@@ -26,7 +26,7 @@ pub enum Reading {
 }
 
 impl Reading {
-    // Document 01's number: 0 where the note was read.
+    // The scope's number: 0 where the note was read.
     pub fn number(self) -> u32
         ensures { λ r. ⌜ r ≡ readingNumber self ⌝ }
     {
@@ -43,7 +43,7 @@ impl Reading {
         }
     }
 
-    // Document 01's place: 0 where none is named.
+    // The scope's place: 0 where none is named.
     pub fn place(self) -> usize
         ensures { λ r. ⌜ r ≡ readingPlace self ⌝ }
     {

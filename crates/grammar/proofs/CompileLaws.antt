@@ -9,8 +9,9 @@ use lib.Seq.{drop-at}
 use Rattle.grammar.specs.Types.{Symbol, Token, Nonterminal, End, Place}
 use Rattle.grammar.specs.Limits.{maxPlaces, endMark, nobody}
 use Rattle.grammar.specs.Decode.{Rules, AllOf, Legal, Production, Alternatives}
-use Rattle.grammar.specs.Grammar.{Grammar, at, nowhere, oneth, first, alternatives, spell, suffix, production, layOne, layEach, layAll, sizeEach}
-use Rattle.grammar.specs.Grammar.{sizeAll, startsEach, startsAll, padded, compile, Limited}
+use Rattle.grammar.specs.Grammar.{Grammar, at, nowhere, first, alternatives, spell, suffix, production, layOne, layEach, layAll, sizeEach}
+use Rattle.grammar.specs.Grammar.{sizeAll, startsEach, startsAll, padded, compile, Limited, admits, ofPlaces}
+use Rattle.grammar.specs.Derivation.{oneth, ofRules}
 
 -- ---- how many places rules have
 pub length-one : (a : ℕ) (β : List Symbol) → length (layOne a β) ≡ suc (length β)
@@ -89,3 +90,8 @@ compile-production r h a b =
     by-first (compile r) a b
     ∙ all-spelled (r .kinds) (length (r .productions)) 0 (r .productions) []
     (replicate (maxPlaces - length (layAll 0 (r .productions))) nowhere ++ (at nobody (Token endMark) ∷ [])) 0 refl (h .each) a b
+
+-- so the table of places holds the syntax that the rules say
+pub same-syntax : (r : Rules) → Limited r → ofPlaces (compile r) ≡ ofRules r
+unfolding admits
+same-syntax r h = λ i. record { admits = ofRules r .admits; production = λ a b. compile-production r h a b i }

@@ -8,11 +8,11 @@ use lib.Seq.{slice, getD-set-same, getD-set-other, take-set-le}
 use Rattle.base.specs.Rounds.{upFrom}
 use Rattle.grammar.specs.Limits.{maxNonterminals}
 use Rattle.grammar.specs.Grammar.{Grammar, facing}
-use Rattle.grammar.specs.Tables.{placeWords, rulesAt, kindsAt, nonterminalsAt, sizeAt, cornersAt, half, cornerAt, placeOf, ruleAt, startsIn}
-use Rattle.grammar.specs.Tables.{grammarIn, nonterminalsIn, cornerRow, withCorners, Fits, Kept}
+use Rattle.grammar.specs.inside.Tables.{placeWords, rulesAt, kindsAt, nonterminalsAt, sizeAt, cornersAt, half, cornerAt, placeOf, ruleAt, startsIn}
+use Rattle.grammar.specs.inside.Tables.{grammarIn, nonterminalsIn, cornerRow, withCorners, TablesFit, SameTables}
 
 -- ---- a word behind the grammar is written
-module _ (t : List ℕ) (i v : ℕ) (behind : cornersAt ≤ i) (fits : Fits t) where
+module _ (t : List ℕ) (i v : ℕ) (behind : cornersAt ≤ i) (fits : TablesFit t) where
   abbrev after : List ℕ
   after = set t i v
 
@@ -46,7 +46,7 @@ module _ (t : List ℕ) (i v : ℕ) (behind : cornersAt ≤ i) (fits : Fits t) w
       let P = ap (map placeOf) (take-set-le placeWords t i v (omega arith)) in
       λ k. record { kinds = K k; size = Z k; starts = S k; places = P k }
 
-  fits-kept : Fits after
+  fits-kept : TablesFit after
   fits-kept =
       record {
         long = length-set t i v ∙ fits .long;
@@ -56,14 +56,14 @@ module _ (t : List ℕ) (i v : ℕ) (behind : cornersAt ≤ i) (fits : Fits t) w
       }
 
 -- ---- so is a row, in two words
-module _ (t : List ℕ) (a row : ℕ) (fits : Fits t) (named : a < maxNonterminals) where
+module _ (t : List ℕ) (a row : ℕ) (fits : TablesFit t) (named : a < maxNonterminals) where
   abbrev low : List ℕ
   low = set t (cornerAt a) (row % half)
 
-  low-fits : Fits low
+  low-fits : TablesFit low
   low-fits = fits-kept t (cornerAt a) (row % half) (omega arith) fits
 
-  pub put-kept : Kept t (withCorners t a row)
+  pub put-kept : SameTables t (withCorners t a row)
   unfolding withCorners
   put-kept =
       record {
@@ -96,10 +96,10 @@ module _ (t : List ℕ) (a row : ℕ) (fits : Fits t) (named : a < maxNontermina
       )
 
 -- tables are kept in two steps, or in none
-pub kept-none : {t : List ℕ} → Fits t → Kept t t
+pub kept-none : {t : List ℕ} → TablesFit t → SameTables t t
 kept-none f = record { says = refl; number = refl; fits = f }
 
-pub kept-on : {t₀ t t′ : List ℕ} → Kept t₀ t → Kept t t′ → Kept t₀ t′
+pub kept-on : {t₀ t t′ : List ℕ} → SameTables t₀ t → SameTables t t′ → SameTables t₀ t′
 kept-on k m = record { says = m .says ∙ k .says; number = m .number ∙ k .number; fits = m .fits }
 
 -- ---- as the code has it

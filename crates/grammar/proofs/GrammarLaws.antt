@@ -11,7 +11,7 @@ use Rattle.base.proofs.Booleans.{clash}
 use Rattle.grammar.specs.Types.{Symbol, End, Place}
 use Rattle.grammar.specs.Limits.{endMark}
 use Rattle.grammar.specs.Grammar.{Grammar, facing, admits, alternatives, first, nowhere, before, spell, suffix, production}
-use Rattle.grammar.specs.Derivation.{Leftmost}
+use Rattle.grammar.specs.Derivation.{Syntax, Leftmost}
 
 -- ---- places
 -- what a place begins, from what it faces and what the next place begins
@@ -71,7 +71,7 @@ unfolding admits
 admits-mark g k a = eqb→eq k endMark a
 
 -- two derivations, one behind the other
-pub leftmost-append : {g : Grammar} {α β : List Symbol} {r s w v : List ℕ} → Leftmost g α r w → Leftmost g β s v
+pub leftmost-append : {g : Syntax} {α β : List Symbol} {r s w v : List ℕ} → Leftmost g α r w → Leftmost g β s v
     → Leftmost g (α ++ β) (r ++ s) (w ++ v)
 leftmost-append Leftmost.done y = y
 leftmost-append (Leftmost.match c x) y = Leftmost.match c (leftmost-append x y)

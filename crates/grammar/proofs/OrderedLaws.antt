@@ -12,9 +12,10 @@ use Rattle.base.proofs.Booleans.{clash}
 use Rattle.grammar.specs.Types.{Symbol, Token, End, Place}
 use Rattle.grammar.specs.Limits.{maxPlaces, endPlace, endMark, nobody}
 use Rattle.grammar.specs.Decode.{Rules}
-use Rattle.grammar.specs.Grammar.{at, nowhere, oneth, facing, owner, alternatives}
+use Rattle.grammar.specs.Grammar.{at, nowhere, facing, owner, alternatives}
 use Rattle.grammar.specs.Grammar.{layOne, layEach, layAll, sizeEach, startsEach, startsAll, padded, compile, Limited}
-use Rattle.grammar.specs.Ordered.{Ordered}
+use Rattle.grammar.specs.Derivation.{oneth}
+use Rattle.grammar.specs.inside.Ordered.{Ordered}
 use Rattle.grammar.proofs.CompileLaws.{length-one, length-each, length-all}
 
 -- ---- productions stand together: behind a place that is no end stands one of the same owner

@@ -15,7 +15,7 @@ use Rattle.grammar.specs.Types.{Symbol, Token, Nonterminal, End, Place}
 use Rattle.grammar.specs.Limits.{endPlace, nobody}
 use Rattle.grammar.specs.Decode.{written}
 use Rattle.grammar.specs.Grammar.{Grammar, at, nowhere, placeAt, facing, alternatives}
-use Rattle.grammar.specs.Tables.{placeWords, codes, owners, codeOf, wordOf, symbolOf, placeOf, ruleAt, startsIn, grammarIn, nonterminalsIn}
+use Rattle.grammar.specs.inside.Tables.{placeWords, codes, owners, codeOf, wordOf, symbolOf, placeOf, ruleAt, startsIn, grammarIn, nonterminalsIn}
 
 -- ---- the code's ways through `symbolOf`
 pub code-end : (c : ℕ) → c ≡ 0 → End ≡ symbolOf c

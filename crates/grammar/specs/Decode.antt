@@ -76,17 +76,17 @@ module _ (s : List ℕ) (t n : ℕ) where
   symbol m = andThen (fromRead (m .places) (symbolAt s t n (m .byte))) (λ v m′. got (written v) m′)
 
   -- a production: its length, and so many symbols; it has one place more than symbols
-  unfoldable pub production : Mark → Parsed (List Symbol)
+  unfoldable pub readProduction : Mark → Parsed (List Symbol)
   unfolding andThen limited times symbol
-  production m =
+  readProduction m =
       andThen (limited s 0 maxLength m) (λ k m′.
       cond (ltb maxPlaces (m .places + suc k)) (refused (OverLimit (m .byte)))
       (andThen (times k symbol m′) (λ l m″. got l (mark (m″ .byte) (m .places + suc k)))))
 
   -- a nonterminal: the number of its productions, and so many productions
   unfoldable pub nonterminal : Mark → Parsed (List (List Symbol))
-  unfolding andThen limited times production
-  nonterminal m = andThen (limited s 1 maxProductions m) (λ k m′. times k production m′)
+  unfolding andThen limited times readProduction
+  nonterminal m = andThen (limited s 1 maxProductions m) (λ k m′. times k readProduction m′)
 
 -- nothing follows what was read, or refusal 5
 unfoldable pub ending : {A : Type 0} → List ℕ → A → Mark → Parsed A

@@ -2,12 +2,13 @@
 use mathlib.Core.Bool.{Bool}
 use mathlib.Core.Option.{Option, none, some}
 use mathlib.Core.List.{List, [], _∷_, _++_}
-use Prim.Native.Nat.{ℕ, zero, suc, _+_, _-_, _≤_}
+use Prim.Native.Nat.{ℕ, suc, _+_, _-_, _≤_}
 use lib.Dec.{eqb}
-use lib.ListN.{length, getD, getElem?, drop, replicate}
+use lib.ListN.{length, getD, drop, replicate}
 use Rattle.grammar.specs.Types.{Symbol, Token, Nonterminal, End, Place}
 use Rattle.grammar.specs.Limits.{maxKinds, maxNonterminals, maxPlaces, nobody, endMark}
 use Rattle.grammar.specs.Decode.{Rules, AllOf, Alternatives}
+use Rattle.grammar.specs.Derivation.{Syntax, oneth}
 
 -- the highest kind, T; the number of places, P; the first place of each production of each nonterminal; the places, the end place included
 pub record Grammar : Type 0 where
@@ -44,11 +45,6 @@ admits g k t = eqb k t
 unfoldable pub alternatives : Grammar → ℕ → List ℕ
 alternatives g a = getD (g .starts) a []
 
--- an element of a list, counted from 1
-abbrev pub oneth : {A : Type 0} → List A → ℕ → Option A
-oneth l zero = none
-oneth l (suc n) = getElem? l n
-
 -- the first place of alternative b of nonterminal a; alternatives count from 1
 abbrev pub first : Grammar → ℕ → ℕ → Option ℕ
 first g a b = oneth (alternatives g a) b
@@ -73,6 +69,10 @@ suffix g p = spell (drop p (g .places))
 unfoldable pub production : Grammar → ℕ → ℕ → Option (List Symbol)
 unfolding suffix alternatives
 production g a b = elim (first g a b) [ none ↦ none | some f ↦ some (suffix g f) ]
+
+-- the syntax that a table of places holds
+abbrev pub ofPlaces : Grammar → Syntax
+ofPlaces g = record { admits = admits g; production = production g }
 
 -- ---- laying rules out
 -- the places of a production of a, of the productions of a, of the nonterminals from a on

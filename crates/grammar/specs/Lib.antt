@@ -2,7 +2,8 @@
 pub mod Types
 pub mod Limits
 pub mod Decode
-pub mod Grammar
 pub mod Derivation
-pub mod Ordered
-pub mod Tables
+pub mod Grammar
+pub mod Encode
+pub mod Faults
+pub mod inside

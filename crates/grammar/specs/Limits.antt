@@ -1,4 +1,4 @@
--- The limits of a grammar (document 01, "Grammar bytes").
+-- The limits of a grammar (the scope, "Grammar bytes").
 use Prim.Native.Nat.{ℕ}
 
 -- the highest token kind, T

@@ -3,7 +3,7 @@ ghost use mathlib.Core.Path.{_≡_};
 ghost use Prim.Native.Nat.{suc, _+_, _≤_, _<_};
 ghost use lib.ListN.{length, getD};
 ghost use Rattle.grammar.specs.Grammar.{placeAt, admits};
-ghost use Rattle.grammar.specs.Tables.{codes, wordOf, symbolOf, placeOf, grammarIn, nonterminalsIn, ruleAt, tableWords, cornerRow, withCorners};
+ghost use Rattle.grammar.specs.inside.Tables.{codes, wordOf, symbolOf, placeOf, grammarIn, nonterminalsIn, ruleAt, tableWords, cornerRow, withCorners};
 ghost use Rattle.grammar.specs.Limits.{maxNonterminals};
 ghost use Rattle.grammar.specs.Decode.{written};
 

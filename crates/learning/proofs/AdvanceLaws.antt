@@ -12,53 +12,54 @@ use Rattle.grammar.specs.declared.Symbol.the-variants.{Token, Nonterminal, End}
 use Rattle.grammar.specs.declared.Place.{Place}
 use Rattle.grammar.specs.Limits.{endPlace}
 use Rattle.grammar.specs.Grammar.{Grammar, placeAt, facing, admits}
-use Rattle.grammar.specs.Tables.{grammarIn}
+use Rattle.grammar.specs.inside.Tables.{grammarIn}
 use Rattle.grammar.proofs.WordLaws.{facing-past}
 use Rattle.lookahead.specs.Configs.{Config}
 use Rattle.lookahead.specs.Order.{keep}
-use Rattle.lookahead.specs.Outcomes.{passes, onward, stepConfigs}
+use Rattle.lookahead.specs.Outcomes.{passesAt, onward, stepConfigs}
 use Rattle.configurations.specs.declared.config.Packed.{Packed}
-use Rattle.configurations.specs.Packing.{configWords, configOf, Has, packedAt, unpackAll}
+use Rattle.configurations.specs.Packing.{configWords, unpackAll}
+use Rattle.configurations.specs.inside.Packed.{configOf, Has, packedAt}
 use Rattle.configurations.proofs.WordLaws.{saidFrom, said-all, said-next, said-none}
 use Rattle.configurations.proofs.HeldLaws.{said-at}
 use Rattle.configurations.proofs.FacingLaws.{place-faces}
 
 -- ---- what a token passes
 module _ (g : Grammar) (t place : ℕ) {p : ℕ} {x : Place} (at : p ≡ place) (is : x ≡ placeAt g p) where
-  passes-at : (s : Symbol) → x .symbol ≡ s → passes g t s ≡ passes g t (facing g place)
-  passes-at s e = ap (passes g t) (sym (place-faces g place at is s e))
+  passes-at : (s : Symbol) → x .symbol ≡ s → passesAt g t s ≡ passesAt g t (facing g place)
+  passes-at s e = ap (passesAt g t) (sym (place-faces g place at is s e))
 
-  pub passes-token : {r : Bool} (k : ℕ) → x .symbol ≡ Token k → r ≡ admits g k t → r ≡ passes g t (facing g place)
-  unfolding passes
+  pub passes-token : {r : Bool} (k : ℕ) → x .symbol ≡ Token k → r ≡ admits g k t → r ≡ passesAt g t (facing g place)
+  unfolding passesAt
   passes-token k e a = a ∙ passes-at (Token k) e
 
-  pub passes-call : (a : ℕ) → x .symbol ≡ Nonterminal a → false ≡ passes g t (facing g place)
-  unfolding passes
+  pub passes-call : (a : ℕ) → x .symbol ≡ Nonterminal a → false ≡ passesAt g t (facing g place)
+  unfolding passesAt
   passes-call a e = passes-at (Nonterminal a) e
 
-  pub passes-end : x .symbol ≡ End → false ≡ passes g t (facing g place)
-  unfolding passes
+  pub passes-end : x .symbol ≡ End → false ≡ passesAt g t (facing g place)
+  unfolding passesAt
   passes-end e = passes-at End e
 
 -- what a token passes is a place of the tables
-pub passes-in : (ts : List ℕ) (t place : ℕ) {r : Bool} → r ≡ passes (grammarIn ts) t (facing (grammarIn ts) place) → r ≡ true → place ≤ endPlace
-unfolding passes
+pub passes-in : (ts : List ℕ) (t place : ℕ) {r : Bool} → r ≡ passesAt (grammarIn ts) t (facing (grammarIn ts) place) → r ≡ true → place ≤ endPlace
+unfolding passesAt
 passes-in ts t place {r} e f = go (decLe place endPlace)
   where
     go : Dec (place ≤ endPlace) → place ≤ endPlace
     go (yes l) = l
     go (no n) =
         let q : facing (grammarIn ts) place ≡ End = facing-past ts place (omega arith) in
-        let z : r ≡ false = e ∙ ap (passes (grammarIn ts) t) q in
+        let z : r ≡ false = e ∙ ap (passesAt (grammarIn ts) t) q in
         clash (cc)
 
-step-cons : (g : Grammar) (t : ℕ) (k : Config) (ks : List Config) {r : Bool} → r ≡ passes g t (facing g (k .place))
+step-cons : (g : Grammar) (t : ℕ) (k : Config) (ks : List Config) {r : Bool} → r ≡ passesAt g t (facing g (k .place))
     → stepConfigs g t (k ∷ ks) ≡ cond r (onward k ∷ stepConfigs g t ks) (stepConfigs g t ks)
 unfolding stepConfigs keep
 step-cons g t k ks {r} e = ap (λ (b : Bool). map onward (cond b (k ∷ rest) rest)) (sym e) ∙ go r
   where
     rest : List Config
-    rest = keep (λ (c : Config). passes g t (facing g (c .place))) ks
+    rest = keep (λ (c : Config). passesAt g t (facing g (c .place))) ks
 
     go : (b : Bool) → map onward (cond b (k ∷ rest) rest) ≡ cond b (onward k ∷ map onward rest) (map onward rest)
     go true = refl
@@ -76,7 +77,7 @@ module _ (ts : List ℕ) (t : ℕ) (ws : List ℕ) (j : ℕ) {n : ℕ} (count : 
   pub stepping-has : j < n → Has ws j
   stepping-has l = omega arith
 
-  module _ (l : j < n) {c : Packed} (is : c ≡ packedAt ws j) {r : Bool} (e : r ≡ passes (grammarIn ts) t (facing (grammarIn ts) (configOf c .place))) where
+  module _ (l : j < n) {c : Packed} (is : c ≡ packedAt ws j) {r : Bool} (e : r ≡ passesAt (grammarIn ts) t (facing (grammarIn ts) (configOf c .place))) where
     one : stepping ts t ws j ≡ cond r (onward (configOf c) ∷ stepping ts t ws (j + 1)) (stepping ts t ws (j + 1))
     unfolding stepping
     one =

@@ -4,6 +4,7 @@ use mathlib.Core.Logic.{_⊎_, inl, inr}
 use mathlib.Core.Bool.{Bool, true, false, _||_, not, cond}
 use mathlib.Core.List.{List, [], _∷_, List·Memᴰ·head, List·Memᴰ·tail, List·Memᴰ·not-nil, List·Memᴰ·cases-cons}
 use Prim.Native.Nat.{ℕ, _+_, _-_, _≤_, _<_}
+use native.Mathlib.Omega.{arith}
 use lib.Dec.{T, eqb}
 use borrow.Author.Tests.{eq-eqb, ne-eqb}
 use Rattle.base.specs.Rounds.{anyOf}
@@ -11,11 +12,12 @@ use Rattle.base.proofs.Booleans.{same, or-T, T-or-l, T-or-r}
 use Rattle.learning.specs.declared.rules.Outcome.the-variants.{Full, Alternative, State}
 use Rattle.lookahead.specs.Configs.{Config, In}
 use Rattle.configurations.specs.declared.config.Packed.{Packed}
-use Rattle.configurations.specs.Packing.{configOf, packedAt}
-use Rattle.lookahead.specs.Outcomes.{alternative, rivals, conflicts, agreed, shared, settled, resolved, judged}
-use Rattle.configurations.specs.Held.{heldAt, held}
-use Rattle.learning.specs.Told.{Judges}
+use Rattle.configurations.specs.inside.Packed.{configOf, packedAt}
+use Rattle.lookahead.specs.Outcomes.{alternative, state, rivals, conflicts, agreed, shared, settled, resolved, judged}
+use Rattle.configurations.specs.inside.Held.{configAt, configsFrom}
+use Rattle.learning.specs.inside.Told.{Tells, Judges}
 use Rattle.lookahead.proofs.TestLaws.{rivals-right, conflicts-right, shared-out, shared-in, any-out, any-in}
+use Rattle.configurations.proofs.StandLaws.{Words, words-stand}
 use Rattle.configurations.proofs.HeldLaws.{length-held, held-first, held-none, said-at, test-at, any-hit, any-next, any-end}
 
 -- ---- each pair once
@@ -59,12 +61,13 @@ shared-pairs ks = same (pairs ks) (shared ks) (λ t. let h = pairs-out ks t in s
 pub record Paired (ws : List ℕ) (f n i : ℕ) (c : Config) (j : ℕ) : Type 0 where
   pub outer : i ≤ n
   pub inner : j ≤ n
-  pub same : (anyOf (conflicts c) (held ws j (n - j)) || pairs (held ws i (n - i))) ≡ shared (held ws f (n - f))
+  pub behind : i ≤ j
+  pub same : (anyOf (conflicts c) (configsFrom ws j (n - j)) || pairs (configsFrom ws i (n - i))) ≡ shared (configsFrom ws f (n - f))
 
 -- ---- searches among the members
 module _ (ws : List ℕ) where
   -- all have alternative b
-  module _ (b k n : ℕ) {v : Bool} (h : agreed b (held ws k (n - k)) ≡ v) where
+  module _ (b k n : ℕ) {v : Bool} (h : agreed b (configsFrom ws k (n - k)) ≡ v) where
     other : Config → Bool
     other c = not (eqb (c .alternative) b)
 
@@ -79,25 +82,25 @@ module _ (ws : List ℕ) where
         twice true = refl
         twice false = refl
 
-    asked : anyOf other (held ws k (n - k)) ≡ not v
+    asked : anyOf other (configsFrom ws k (n - k)) ≡ not v
     unfolding agreed other
-    asked = flip (anyOf (λ (c : Config). not (eqb (c .alternative) b)) (held ws k (n - k))) h
+    asked = flip (anyOf (λ (c : Config). not (eqb (c .alternative) b)) (configsFrom ws k (n - k))) h
 
     module _ (l : k < n) {c : Packed} {a : ℕ} (is : c ≡ packedAt ws k) (e : a ≡ configOf c .alternative) where
       pub agreed-not : (a ≡ b → ⊥) → false ≡ v
       unfolding other
       agreed-not z = back true (any-hit ws other k n asked l (test-at ws other k is refl (ap not (ne-eqb (configOf c .alternative) b (λ y. z (e ∙ y))))))
 
-      pub agreed-next : a ≡ b → agreed b (held ws (k + 1) (n - (k + 1))) ≡ v
+      pub agreed-next : a ≡ b → agreed b (configsFrom ws (k + 1) (n - (k + 1))) ≡ v
       unfolding agreed other
-      agreed-next z = back (anyOf (λ (c : Config). not (eqb (c .alternative) b)) (held ws (k + 1) (n - (k + 1))))
+      agreed-next z = back (anyOf (λ (c : Config). not (eqb (c .alternative) b)) (configsFrom ws (k + 1) (n - (k + 1))))
           (any-next ws other k n asked l (test-at ws other k is refl (ap not (eq-eqb (configOf c .alternative) b (sym e ∙ z)))))
 
     pub agreed-end : n ≤ k → true ≡ v
     agreed-end l = back false (any-end ws other k n asked l)
 
   -- no rival of c
-  module _ (c : Config) (k n : ℕ) {v : Bool} (h : not (anyOf (rivals c) (held ws k (n - k))) ≡ v) where
+  module _ (c : Config) (k n : ℕ) {v : Bool} (h : not (anyOf (rivals c) (configsFrom ws k (n - k))) ≡ v) where
     turn : (w : Bool) → not w ≡ v → w ≡ not v
     turn true e = ap not e
     turn false e = ap not e
@@ -108,17 +111,17 @@ module _ (ws : List ℕ) where
 
     module _ (l : k < n) {d : Packed} {r : Bool} (is : d ≡ packedAt ws k) (e : r ≡ rivals c (configOf d)) where
       pub alone-not : r ≡ true → false ≡ v
-      alone-not z = turn-back true v (any-hit ws (rivals c) k n (turn (anyOf (rivals c) (held ws k (n - k))) h) l (test-at ws (rivals c) k is e z))
+      alone-not z = turn-back true v (any-hit ws (rivals c) k n (turn (anyOf (rivals c) (configsFrom ws k (n - k))) h) l (test-at ws (rivals c) k is e z))
 
-      pub alone-next : r ≡ false → not (anyOf (rivals c) (held ws (k + 1) (n - (k + 1)))) ≡ v
-      alone-next z = turn-back (anyOf (rivals c) (held ws (k + 1) (n - (k + 1)))) v
-          (any-next ws (rivals c) k n (turn (anyOf (rivals c) (held ws k (n - k))) h) l (test-at ws (rivals c) k is e z))
+      pub alone-next : r ≡ false → not (anyOf (rivals c) (configsFrom ws (k + 1) (n - (k + 1)))) ≡ v
+      alone-next z = turn-back (anyOf (rivals c) (configsFrom ws (k + 1) (n - (k + 1)))) v
+          (any-next ws (rivals c) k n (turn (anyOf (rivals c) (configsFrom ws k (n - k))) h) l (test-at ws (rivals c) k is e z))
 
     pub alone-end : n ≤ k → true ≡ v
-    alone-end l = turn-back false v (any-end ws (rivals c) k n (turn (anyOf (rivals c) (held ws k (n - k))) h) l)
+    alone-end l = turn-back false v (any-end ws (rivals c) k n (turn (anyOf (rivals c) (configsFrom ws k (n - k))) h) l)
 
   -- some place of one alternative only, among ks
-  module _ (ks : List Config) (k n : ℕ) {v : Bool} (h : anyOf (λ (c : Config). not (anyOf (rivals c) ks)) (held ws k (n - k)) ≡ v) where
+  module _ (ks : List Config) (k n : ℕ) {v : Bool} (h : anyOf (λ (c : Config). not (anyOf (rivals c) ks)) (configsFrom ws k (n - k)) ≡ v) where
     lone : Config → Bool
     lone c = not (anyOf (rivals c) ks)
 
@@ -127,7 +130,7 @@ module _ (ws : List ℕ) where
       unfolding lone
       settled-hit z = any-hit ws lone k n h l (test-at ws lone k is e z)
 
-      pub settled-next : r ≡ false → anyOf (λ (c : Config). not (anyOf (rivals c) ks)) (held ws (k + 1) (n - (k + 1))) ≡ v
+      pub settled-next : r ≡ false → anyOf (λ (c : Config). not (anyOf (rivals c) ks)) (configsFrom ws (k + 1) (n - (k + 1))) ≡ v
       unfolding lone
       settled-next z = any-next ws lone k n h l (test-at ws lone k is e z)
 
@@ -135,71 +138,84 @@ module _ (ws : List ℕ) where
     unfolding lone
     settled-end l = any-end ws lone k n h l
 
-  pub settled-whole : (f n : ℕ) → anyOf (λ (c : Config). not (anyOf (rivals c) (held ws f (n - f)))) (held ws f (n - f)) ≡ settled (held ws f (n - f))
+  pub settled-whole : (f n : ℕ) → anyOf (λ (c : Config). not (anyOf (rivals c) (configsFrom ws f (n - f)))) (configsFrom ws f (n - f))
+      ≡ settled (configsFrom ws f (n - f))
   unfolding settled
   settled-whole f n = refl
 
   -- pairs from i on
-  module _ (i n : ℕ) {v : Bool} (h : pairs (held ws i (n - i)) ≡ v) where
+  module _ (i n : ℕ) {v : Bool} (h : pairs (configsFrom ws i (n - i)) ≡ v) where
     pub pairs-first : i < n → {c : Packed} → c ≡ packedAt ws i
-        → (anyOf (conflicts (configOf c)) (held ws (i + 1) (n - (i + 1))) || pairs (held ws (i + 1) (n - (i + 1)))) ≡ v
+        → (anyOf (conflicts (configOf c)) (configsFrom ws (i + 1) (n - (i + 1))) || pairs (configsFrom ws (i + 1) (n - (i + 1)))) ≡ v
     unfolding pairs
     pairs-first l e =
-        ap (λ (k : Config). anyOf (conflicts k) (held ws (i + 1) (n - (i + 1))) || pairs (held ws (i + 1) (n - (i + 1)))) (said-at ws i e)
+        ap (λ (k : Config). anyOf (conflicts k) (configsFrom ws (i + 1) (n - (i + 1))) || pairs (configsFrom ws (i + 1) (n - (i + 1)))) (said-at ws i e)
         ∙ ap pairs (sym (held-first ws i n l)) ∙ h
 
     pub pairs-none : n ≤ i → false ≡ v
     unfolding pairs
     pairs-none l = ap pairs (sym (held-none ws i n l)) ∙ h
 
-  module _ (c : Config) (j n : ℕ) (w : Bool) {v : Bool} (h : (anyOf (conflicts c) (held ws j (n - j)) || w) ≡ v) where
+  module _ (c : Config) (j n : ℕ) (w : Bool) {v : Bool} (h : (anyOf (conflicts c) (configsFrom ws j (n - j)) || w) ≡ v) where
     module _ (l : j < n) {d : Packed} {r : Bool} (is : d ≡ packedAt ws j) (e : r ≡ conflicts c (configOf d)) where
       pub pair-hit : r ≡ true → true ≡ v
-      pair-hit z = let y : true ≡ anyOf (conflicts c) (held ws j (n - j)) = any-hit ws (conflicts c) j n refl l (test-at ws (conflicts c) j is e z) in
+      pair-hit z = let y : true ≡ anyOf (conflicts c) (configsFrom ws j (n - j)) = any-hit ws (conflicts c) j n refl l (test-at ws (conflicts c) j is e z) in
           ap (λ (b : Bool). b || w) y ∙ h
 
-      pub pair-next : r ≡ false → (anyOf (conflicts c) (held ws (j + 1) (n - (j + 1))) || w) ≡ v
-      pair-next z = let y : anyOf (conflicts c) (held ws (j + 1) (n - (j + 1))) ≡ anyOf (conflicts c) (held ws j (n - j)) =
+      pub pair-next : r ≡ false → (anyOf (conflicts c) (configsFrom ws (j + 1) (n - (j + 1))) || w) ≡ v
+      pair-next z = let y : anyOf (conflicts c) (configsFrom ws (j + 1) (n - (j + 1))) ≡ anyOf (conflicts c) (configsFrom ws j (n - j)) =
           any-next ws (conflicts c) j n refl l (test-at ws (conflicts c) j is e z) in ap (λ (b : Bool). b || w) y ∙ h
 
     pub pair-end : n ≤ j → w ≡ v
-    pair-end l = let y : false ≡ anyOf (conflicts c) (held ws j (n - j)) = any-end ws (conflicts c) j n refl l in ap (λ (b : Bool). b || w) y ∙ h
+    pair-end l = let y : false ≡ anyOf (conflicts c) (configsFrom ws j (n - j)) = any-end ws (conflicts c) j n refl l in ap (λ (b : Bool). b || w) y ∙ h
 
   -- ---- the rules in order, on those from f up to n
   module _ (f n : ℕ) where
     abbrev ks : List Config
-    ks = held ws f (n - f)
+    ks = configsFrom ws f (n - f)
 
-    pub judge-none : n ≤ f → Judges Full ks (judged ks)
-    unfolding Judges judged
+    -- their words are those of a state
+    tells-state : Judges ws f n → Words ws → judged ks ≡ state ks → Tells (State f (n - f)) ws (judged ks)
+    unfolding Tells
+    tells-state j small e = record {
+      configs = ks;
+      is = e;
+      count = length-held ws f (n - f);
+      few = j .few;
+      within = omega (arith, j .within, j .room .few, j .room .long);
+      words = words-stand (j .room) small f (n - f) (omega (arith, j .within));
+    }
+
+    pub judge-none : n ≤ f → Tells Full ws (judged ks)
+    unfolding Tells judged
     judge-none l = rw (held-none ws f n l)
 
     module _ (l : f < n) {c : Packed} {a : ℕ} (at : c ≡ packedAt ws f) (e : a ≡ configOf c .alternative) {r : Bool}
-        (d : r ≡ agreed a (held ws (f + 1) (n - (f + 1)))) where
-      is : heldAt ws f .alternative ≡ a
+        (d : r ≡ agreed a (configsFrom ws (f + 1) (n - (f + 1)))) where
+      is : configAt ws f .alternative ≡ a
       is = ap (λ (k : Config). k .alternative) (sym (said-at ws f at)) ∙ sym e
 
       split : judged ks ≡ cond r (alternative a) (resolved ks)
       unfolding judged
       split =
           let s = held-first ws f n l in
-          let z : judged (heldAt ws f ∷ held ws (f + 1) (n - (f + 1)))
-          ≡ cond r (alternative a) (resolved (heldAt ws f ∷ held ws (f + 1) (n - (f + 1)))) = rw (is, ← d) in
+          let z : judged (configAt ws f ∷ configsFrom ws (f + 1) (n - (f + 1)))
+          ≡ cond r (alternative a) (resolved (configAt ws f ∷ configsFrom ws (f + 1) (n - (f + 1)))) = rw (is, ← d) in
           ap judged s ∙ z ∙ ap (λ (m : List Config). cond r (alternative a) (resolved m)) (sym s)
 
-      pub judge-agreed : r ≡ true → Judges (Alternative a) ks (judged ks)
-      unfolding Judges
+      pub judge-agreed : r ≡ true → Tells (Alternative a) ws (judged ks)
+      unfolding Tells
       judge-agreed z = rw (split, z)
 
       module _ (o : r ≡ false) {s : Bool} (g : s ≡ shared ks) where
-        pub judge-apart : s ≡ false → Judges (State (n - f)) ks (judged ks)
-        unfolding Judges resolved
-        judge-apart z = (rw (split, o, ← g, z), length-held ws f (n - f))
+        pub judge-apart : s ≡ false → Judges ws f n → Words ws → Tells (State f (n - f)) ws (judged ks)
+        unfolding resolved
+        judge-apart z j small = tells-state j small (rw (split, o, ← g, z))
 
-        pub judge-conflict : s ≡ true → {t : Bool} → t ≡ settled ks → t ≡ false → Judges Full ks (judged ks)
-        unfolding Judges resolved
+        pub judge-conflict : s ≡ true → {t : Bool} → t ≡ settled ks → t ≡ false → Tells Full ws (judged ks)
+        unfolding Tells resolved
         judge-conflict z w y = rw (split, o, ← g, z, ← w, y)
 
-        pub judge-settled : s ≡ true → {t : Bool} → t ≡ settled ks → t ≡ true → Judges (State (n - f)) ks (judged ks)
-        unfolding Judges resolved
-        judge-settled z w y = (rw (split, o, ← g, z, ← w, y), length-held ws f (n - f))
+        pub judge-settled : s ≡ true → {t : Bool} → t ≡ settled ks → t ≡ true → Judges ws f n → Words ws → Tells (State f (n - f)) ws (judged ks)
+        unfolding resolved
+        judge-settled z w y j small = tells-state j small (rw (split, o, ← g, z, ← w, y))

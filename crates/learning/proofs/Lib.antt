@@ -3,3 +3,4 @@ pub mod JudgeLaws
 pub mod StartLaws
 pub mod AdvanceLaws
 pub mod OutcomeLaws
+pub mod StackLaws

@@ -2,24 +2,25 @@
 use mathlib.Core.Path.{_≡_, refl, sym, subst, ap, _∙_}
 use mathlib.Core.Option.{Option, none, some}
 use mathlib.Core.List.{List, []}
-use Prim.Native.Nat.{ℕ, _+_, _-_, _*_, _≤_, _<_}
+use Prim.Native.Nat.{ℕ, _-_, _<_}
 use native.Mathlib.Omega.{arith}
-use lib.ListN.{length, take}
+use lib.ListN.{length}
 use borrow.Author.Tests.{lt-ltb, le-ltb}
 use Rattle.grammar.specs.Grammar.{Grammar}
 use Rattle.lookahead.specs.Configs.{Config}
 use Rattle.lookahead.specs.Closing.{maxMembers, maxKept, addAll, closeFrom, close}
 use Rattle.lookahead.specs.Order.{kept}
-use Rattle.lookahead.specs.Outcomes.{Outcome, full, state, judged, limited, outcome, startConfigs, stepConfigs, startOutcome, stepOutcome}
+use Rattle.lookahead.specs.Outcomes.{Outcome, full, judged, withinKept, outcome, startConfigs, stepConfigs, startOutcome, stepOutcome}
+use Rattle.lookahead.proofs.OrderLaws.{Rising, kept-rising}
 use Rattle.configurations.specs.declared.members.Added.{Added}
 use Rattle.configurations.specs.declared.members.Added.the-variants.{Count, Full}
-use Rattle.configurations.specs.Packing.{configWords, keptWords, packAll}
-use Rattle.configurations.specs.Held.{held, Room, heldAfter, Grows, Stands, Sorted}
+use Rattle.configurations.specs.inside.Held.{configsFrom, heldAfter, Grows, Stands, Sorted}
 use Rattle.configurations.proofs.HeldLaws.{length-held}
 use Rattle.configurations.proofs.GrowSteps.{then, then-on}
 use Rattle.learning.specs.declared.rules.Outcome as told
 use Rattle.learning.specs.declared.rules.Outcome.the-variants as tells
-use Rattle.learning.specs.Told.{Tells, Judges, outcomeOf}
+use Rattle.learning.specs.inside.Told.{Tells, Judges, outcomeOf}
+use Rattle.learning.proofs.StackLaws.{stacks-rise}
 
 -- ---- the outcome as a whole
 -- the close gave nothing
@@ -31,62 +32,44 @@ finish-over {r} {ms} {o} g a e ws =
     ap (outcomeOf g) (sym q)
 
 module _ (g : Grammar) {r : Added} {ms : List ℕ} {o : Option (List Config)} (a : Grows r ms o) (n : ℕ) (e : r ≡ Count n) where
-  closed : outcomeOf g o ≡ limited (kept g (held ms 0 n))
+  closed : outcomeOf g o ≡ withinKept (kept g (configsFrom ms 0 n))
   unfolding outcomeOf heldAfter
-  closed = let q : some (held ms 0 n) ≡ o = subst (λ (y : Added). heldAfter y ms ≡ o) e (a .is) in ap (outcomeOf g) (sym q)
+  closed = let q : some (configsFrom ms 0 n) ≡ o = subst (λ (y : Added). heldAfter y ms ≡ o) e (a .is) in ap (outcomeOf g) (sym q)
 
-  module _ {s : Added} (ms′ : List ℕ) (b : Sorted s ms′ n (kept g (held ms 0 n))) where
+  module _ {s : Added} (ms′ : List ℕ) (b : Sorted s ms′ n (kept g (configsFrom ms 0 n))) where
     pub finish-many : s ≡ Full → (ws : List ℕ) → Tells tells.Full ws (outcomeOf g o)
-    unfolding Tells Sorted limited
+    unfolding Tells Sorted withinKept
     finish-many d ws =
-        let l : maxKept < length (kept g (held ms 0 n)) = subst (λ (y : Added). Sorted y ms′ n (kept g (held ms 0 n))) d b in
-        closed ∙ rw (lt-ltb maxKept (length (kept g (held ms 0 n))) l)
+        let l : maxKept < length (kept g (configsFrom ms 0 n)) = subst (λ (y : Added). Sorted y ms′ n (kept g (configsFrom ms 0 n))) d b in
+        closed ∙ rw (lt-ltb maxKept (length (kept g (configsFrom ms 0 n))) l)
 
     module _ (f : ℕ) (d : s ≡ Count f) where
       abbrev ks : List Config
-      ks = held ms′ f (n - f)
+      ks = configsFrom ms′ f (n - f)
 
-      pub finish-stands : Stands ms′ f n (kept g (held ms 0 n))
+      finish-stands : Stands ms′ f n (kept g (configsFrom ms 0 n))
       unfolding Sorted
-      finish-stands = subst (λ (y : Added). Sorted y ms′ n (kept g (held ms 0 n))) d b
+      finish-stands = subst (λ (y : Added). Sorted y ms′ n (kept g (configsFrom ms 0 n))) d b
 
-      judged-is : outcomeOf g o ≡ judged (held ms′ f (n - f))
-      unfolding limited
+      judged-is : outcomeOf g o ≡ judged (configsFrom ms′ f (n - f))
+      unfolding withinKept
       judged-is =
-          let z : limited (kept g (held ms 0 n)) ≡ judged (kept g (held ms 0 n)) = rw (le-ltb maxKept (length (kept g (held ms 0 n))) (finish-stands .few)) in
+          let z : withinKept (kept g (configsFrom ms 0 n)) ≡ judged (kept g (configsFrom ms 0 n)) =
+          rw (le-ltb maxKept (length (kept g (configsFrom ms 0 n))) (finish-stands .few)) in
           closed ∙ z ∙ ap judged (sym (finish-stands .are))
 
-      module _ {x : told.Outcome} (j : Judges x ks (judged ks)) where
-        pub finish-full : x ≡ tells.Full → (ws : List ℕ) → Tells tells.Full ws (outcomeOf g o)
-        unfolding Tells Judges
-        finish-full q ws = judged-is ∙ subst (λ (y : told.Outcome). Judges y ks (judged ks)) q j
+      -- they can be judged, and what is told of them is told of the outcome
+      pub finish-judges : Judges ms′ f n
+      finish-judges = record {
+        within = finish-stands .within;
+        room = finish-stands .room;
+        few = omega (arith, ap length (finish-stands .are), length-held ms′ f (n - f), finish-stands .few);
+        stacks = λ i j a b h.
+            stacks-rise ms′ f (n - f) (subst Rising (sym (finish-stands .are)) (kept-rising g (configsFrom ms 0 n))) i j a b (omega arith);
+      }
 
-        pub finish-alternative : (b : ℕ) → x ≡ tells.Alternative b → (ws : List ℕ) → Tells (tells.Alternative b) ws (outcomeOf g o)
-        unfolding Tells Judges
-        finish-alternative b q ws = judged-is ∙ subst (λ (y : told.Outcome). Judges y ks (judged ks)) q j
-
-        module _ (m : ℕ) (q : x ≡ tells.State m) where
-          state-is : (judged ks ≡ state ks) × (length ks ≡ m)
-          unfolding Judges
-          state-is = subst (λ (y : told.Outcome). Judges y ks (judged ks)) q j
-
-          pub state-count : n - f ≡ m
-          state-count = sym (length-held ms′ f (n - f)) ∙ state-is .1
-
-          pub state-room : Room ms′ (f + m)
-          state-room = let z : f + m ≡ n = omega (arith, state-count, finish-stands .within) in rw z (finish-stands .room)
-
-          pub state-few : configWords * m ≤ keptWords
-          state-few = omega (arith, state-count, ap length (finish-stands .are), length-held ms′ f (n - f), finish-stands .few)
-
-          pub finish-state : (ws : List ℕ) → take (configWords * m) ws ≡ packAll (held ms′ f m) → Tells (tells.State m) ws (outcomeOf g o)
-          unfolding Tells
-          finish-state ws w = record {
-            configs = held ms′ f (n - f);
-            is = judged-is ∙ state-is .0;
-            count = state-is .1;
-            words = w ∙ ap (λ (k : ℕ). packAll (held ms′ f k)) (sym state-count);
-          }
+      pub finish-judged : (x : told.Outcome) → Tells x ms′ (judged ks) → Tells x ms′ (outcomeOf g o)
+      finish-judged x t = subst (Tells x ms′) (sym judged-is) t
 
 -- ---- starts and steps
 module _ (g : Grammar) (start : List Config) where
@@ -96,11 +79,11 @@ module _ (g : Grammar) (start : List Config) where
     where
       go : (o : Option (List Config))
           → (elim (elim o as (λ _. Option (List Config)) [ none ↦ none | some ms ↦ closeFrom g maxMembers 0 ms ]) as (λ _. Outcome)
-          [ none ↦ full | some ms ↦ limited (kept g ms) ]) ≡ outcomeOf g (then o (λ ms. closeFrom g maxMembers 0 ms))
+          [ none ↦ full | some ms ↦ withinKept (kept g ms) ]) ≡ outcomeOf g (then o (λ ms. closeFrom g maxMembers 0 ms))
       go none = refl
       go (some ms) = inner (closeFrom g maxMembers 0 ms)
         where
-          inner : (o : Option (List Config)) → (elim o as (λ _. Outcome) [ none ↦ full | some ms ↦ limited (kept g ms) ]) ≡ outcomeOf g o
+          inner : (o : Option (List Config)) → (elim o as (λ _. Outcome) [ none ↦ full | some ms ↦ withinKept (kept g ms) ]) ≡ outcomeOf g o
           inner none = refl
           inner (some ms) = refl
 
@@ -111,10 +94,10 @@ module _ (g : Grammar) (start : List Config) where
         let q : none ≡ addAll [] start = subst (λ (y : Added). heldAfter y ms ≡ addAll [] start) e (a .is) in
         outcome-is ∙ ap (λ (o : Option (List Config)). outcomeOf g (then o (λ ms. closeFrom g maxMembers 0 ms))) (sym q)
 
-    learn-on : (n : ℕ) → r ≡ Count n → (x : told.Outcome) (ws : List ℕ) → Tells x ws (outcomeOf g (closeFrom g maxMembers 0 (held ms 0 n)))
+    learn-on : (n : ℕ) → r ≡ Count n → (x : told.Outcome) (ws : List ℕ) → Tells x ws (outcomeOf g (closeFrom g maxMembers 0 (configsFrom ms 0 n)))
         → Tells x ws (outcome g start)
     learn-on n e x ws t =
-        let q : closeFrom g maxMembers 0 (held ms 0 n) ≡ then (addAll [] start) (λ ms. closeFrom g maxMembers 0 ms) =
+        let q : closeFrom g maxMembers 0 (configsFrom ms 0 n) ≡ then (addAll [] start) (λ ms. closeFrom g maxMembers 0 ms) =
         then-on a (λ ms. closeFrom g maxMembers 0 ms) refl n e in
         subst (Tells x ws) (ap (outcomeOf g) q ∙ sym outcome-is) t
 
@@ -123,7 +106,7 @@ module _ (g : Grammar) (a : ℕ) {r : Added} {ms : List ℕ} (A : Grows r ms (ad
   unfolding startOutcome
   start-full e ws = learn-full g (startConfigs g a) A e ws
 
-  pub start-on : (n : ℕ) → r ≡ Count n → (x : told.Outcome) (ws : List ℕ) → Tells x ws (outcomeOf g (closeFrom g maxMembers 0 (held ms 0 n)))
+  pub start-on : (n : ℕ) → r ≡ Count n → (x : told.Outcome) (ws : List ℕ) → Tells x ws (outcomeOf g (closeFrom g maxMembers 0 (configsFrom ms 0 n)))
       → Tells x ws (startOutcome g a)
   unfolding startOutcome
   start-on n e x ws t = learn-on g (startConfigs g a) A n e x ws t
@@ -133,7 +116,7 @@ module _ (g : Grammar) (t : ℕ) (ks : List Config) {r : Added} {ms : List ℕ} 
   unfolding stepOutcome
   step-full e ws = learn-full g (stepConfigs g t ks) A e ws
 
-  pub step-on : (n : ℕ) → r ≡ Count n → (x : told.Outcome) (ws : List ℕ) → Tells x ws (outcomeOf g (closeFrom g maxMembers 0 (held ms 0 n)))
+  pub step-on : (n : ℕ) → r ≡ Count n → (x : told.Outcome) (ws : List ℕ) → Tells x ws (outcomeOf g (closeFrom g maxMembers 0 (configsFrom ms 0 n)))
       → Tells x ws (stepOutcome g t ks)
   unfolding stepOutcome
   step-on n e x ws t′ = learn-on g (stepConfigs g t ks) A n e x ws t′

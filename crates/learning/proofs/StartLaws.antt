@@ -7,15 +7,15 @@ use lib.ListN.{length, getD, take, length-take, drop-of-length-le}
 use lib.Seq.{slice, slice-cons, length-slice}
 use Rattle.grammar.specs.Limits.{maxProductions}
 use Rattle.grammar.specs.Grammar.{alternatives}
-use Rattle.grammar.specs.Tables.{ruleAt, grammarIn, nonterminalsIn}
-use Rattle.derivation.specs.Ready.{Ready}
+use Rattle.grammar.specs.inside.Tables.{ruleAt, grammarIn, nonterminalsIn}
+use Rattle.derivation.specs.inside.Ready.{Ready}
 use Rattle.derivation.proofs.FirstLaws.{rule-within, rules-are}
 use Rattle.lookahead.specs.Configs.{Config, config}
 use Rattle.lookahead.specs.Closing.{addAll}
 use Rattle.lookahead.specs.Outcomes.{numbered, startConfigs}
 use Rattle.lookahead.proofs.Bounds.{compile-bounded}
-use Rattle.configurations.specs.Packing.{memberWords}
-use Rattle.configurations.specs.Held.{held, Room}
+use Rattle.configurations.specs.inside.Packed.{memberWords}
+use Rattle.configurations.specs.inside.Held.{configsFrom, Room}
 use Rattle.configurations.proofs.GrowSteps.{Left}
 
 -- ---- before any member
@@ -23,7 +23,7 @@ blank-room : (ws : List ℕ) → length ws ≡ memberWords → Room ws 0
 blank-room ws e = record { few = omega arith; long = e; exact = λ k l. absurd (omega arith) }
 
 pub blank-left : (ws : List ℕ) {l m : List Config} → length ws ≡ memberWords → l ≡ m → Left ws 0 l (addAll [] m)
-unfolding held
+unfolding configsFrom
 blank-left ws long e = record { room = blank-room ws long; same = ap (addAll []) e }
 
 -- ---- starts

@@ -1,2 +1,2 @@
 -- What the code's answers tell.
-pub mod Told
+pub mod inside

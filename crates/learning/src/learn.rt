@@ -1,5 +1,5 @@
-// The outcomes of starts and steps: their configurations are gathered in a row of words and closed there, the kept ones are sorted and judged, and only
-// a state is written out.
+// The outcomes of starts and steps: their configurations are gathered in a row of words and closed there, the kept ones are sorted and judged. They are
+// left as they stand, which is how a state keeps them.
 use crate::rules::Outcome;
 use configurations::Added;
 use configurations::Packed;
@@ -10,19 +10,20 @@ ghost use Prim.Native.Nat.{_≤_};
 ghost use lib.ListN.{length};
 ghost use Rattle.grammar.specs.Limits.{endPlace};
 ghost use Rattle.grammar.specs.Grammar.{facing};
-ghost use Rattle.grammar.specs.Tables.{grammarIn, tableWords};
-ghost use Rattle.derivation.specs.Ready.{Ready};
+ghost use Rattle.grammar.specs.inside.Tables.{grammarIn, tableWords};
+ghost use Rattle.derivation.specs.inside.Ready.{Ready};
 ghost use Rattle.lookahead.specs.Closing.{maxMembers, add, addAll, closeFrom};
-ghost use Rattle.lookahead.specs.Outcomes.{onward, passes, startConfigs, stepConfigs, startOutcome, stepOutcome};
-ghost use Rattle.configurations.specs.Packing.{configOf, keptWords, memberWords, unpackAll};
-ghost use Rattle.configurations.specs.Held.{held, Room, Grows};
-ghost use Rattle.learning.specs.Told.{Tells, outcomeOf, Begins, Starts, Finishes};
+ghost use Rattle.lookahead.specs.Outcomes.{onward, passesAt, startConfigs, stepConfigs, startOutcome, stepOutcome};
+ghost use Rattle.configurations.specs.Packing.{unpackAll};
+ghost use Rattle.configurations.specs.inside.Packed.{configOf, memberWords};
+ghost use Rattle.configurations.specs.inside.Held.{configsFrom, Room, Grows};
+ghost use Rattle.learning.specs.inside.Told.{Tells, outcomeOf, Gathers};
 
 // The outcome of the first members.
-fn finish(tables: &[u16], members: &mut [u32], from: usize, kept: &mut [u32]) -> Outcome
-    requires { ⌜ Finishes (now tables) (now members) from (now kept) ⌝ }
-    ensures { λ r. ⌜ Tells r (now (kept .exit)) (outcomeOf (grammarIn (now (tables .entry)))
-        (closeFrom (grammarIn (now (tables .entry))) maxMembers 0 (held (now (members .entry)) 0 from))) ⌝ }
+fn finish(tables: &[u16], members: &mut [u32], from: usize) -> Outcome
+    requires { ⌜ Ready (now tables) × Room (now members) from ⌝ }
+    ensures { λ r. ⌜ Tells r (now (members .exit)) (outcomeOf (grammarIn (now (tables .entry)))
+        (closeFrom (grammarIn (now (tables .entry))) maxMembers 0 (configsFrom (now (members .entry)) 0 from))) ⌝ }
 {
     let Added::Count(n) = closing::close(tables, members, from) else {
         return Outcome::Full;
@@ -30,20 +31,12 @@ fn finish(tables: &[u16], members: &mut [u32], from: usize, kept: &mut [u32]) ->
     let Added::Count(first) = configurations::sort(tables, members, n) else {
         return Outcome::Full;
     };
-    let outcome = crate::rules::judge(members, first, n);
-    match outcome {
-        Outcome::Full => Outcome::Full,
-        Outcome::Alternative(b) => Outcome::Alternative(b),
-        Outcome::State(m) => {
-            configurations::write(members, first, m, kept);
-            Outcome::State(m)
-        }
-    }
+    crate::rules::judge(members, first, n)
 }
 
 // The first place of each production of nonterminal a; alternatives count from 1.
 fn begin(tables: &[u16], members: &mut [u32], a: usize) -> Added
-    requires { ⌜ Begins (now tables) (now members) a ⌝ }
+    requires { ⌜ Gathers (now tables) (now members) a ⌝ }
     ensures { λ r. ⌜ Grows r (now (members .exit)) (addAll [] (startConfigs (grammarIn (now (tables .entry))) a)) ⌝ }
 {
     let start = grammar::rule_at(tables, a);
@@ -65,7 +58,7 @@ fn begin(tables: &[u16], members: &mut [u32], a: usize) -> Added
 // Whether token t may stand where c is.
 fn passes(tables: &[u16], t: usize, c: Packed) -> bool
     requires { ⌜ length (now tables) ≡ tableWords ⌝ }
-    ensures { λ r. ⌜ r ≡ passes (grammarIn (now (tables .entry))) t (facing (grammarIn (now (tables .entry))) (configOf c .place)) ⌝ }
+    ensures { λ r. ⌜ r ≡ passesAt (grammarIn (now (tables .entry))) t (facing (grammarIn (now (tables .entry))) (configOf c .place)) ⌝ }
 {
     let place = grammar::place_at(tables, c.place());
     let symbol = place.symbol;
@@ -79,7 +72,7 @@ fn passes(tables: &[u16], t: usize, c: Packed) -> bool
 // One place behind c, unless its stack is too deep.
 fn pass(members: &mut [u32], n: usize, c: Packed) -> Added
     requires { ⌜ Room (now members) n × (configOf c .place ≤ endPlace) ⌝ }
-    ensures { λ r. ⌜ Grows r (now (members .exit)) (add (held (now (members .entry)) 0 n) (onward (configOf c))) ⌝ }
+    ensures { λ r. ⌜ Grows r (now (members .exit)) (add (configsFrom (now (members .entry)) 0 n) (onward (configOf c))) ⌝ }
 {
     if configurations::ENTRIES < c.entries() {
         return Added::Full;
@@ -109,26 +102,24 @@ fn advance(tables: &[u16], t: usize, configs: &[u32], members: &mut [u32]) -> Ad
     Added::Count(n)
 }
 
-// The outcome of the start of decision a; of a state that it is, the words are left in `kept`.
-pub fn start(tables: &[u16], a: usize, kept: &mut [u32]) -> Outcome
-    requires { ⌜ Starts (now tables) a (now kept) ⌝ }
-    ensures { λ r. ⌜ Tells r (now (kept .exit)) (startOutcome (grammarIn (now (tables .entry))) a) ⌝ }
+// The outcome of the start of decision a. It is worked out in `members`, and so the words of a state are left there.
+pub fn start(tables: &[u16], a: usize, members: &mut [u32]) -> Outcome
+    requires { ⌜ Gathers (now tables) (now members) a ⌝ }
+    ensures { λ r. ⌜ Tells r (now (members .exit)) (startOutcome (grammarIn (now (tables .entry))) a) ⌝ }
 {
-    let mut members = [0u32; configurations::MEMBER_WORDS];
-    let Added::Count(n) = begin(tables, &mut members, a) else {
+    let Added::Count(n) = begin(tables, members, a) else {
         return Outcome::Full;
     };
-    finish(tables, &mut members, n, kept)
+    finish(tables, members, n)
 }
 
 // The outcome of a step over token t from the state whose words are `configs`. Any words say configurations.
-pub fn step(tables: &[u16], t: usize, configs: &[u32], kept: &mut [u32]) -> Outcome
-    requires { ⌜ Ready (now tables) × (length (now kept) ≡ keptWords) ⌝ }
-    ensures { λ r. ⌜ Tells r (now (kept .exit)) (stepOutcome (grammarIn (now (tables .entry))) t (unpackAll (now (configs .entry)))) ⌝ }
+pub fn step(tables: &[u16], t: usize, configs: &[u32], members: &mut [u32]) -> Outcome
+    requires { ⌜ Ready (now tables) × (length (now members) ≡ memberWords) ⌝ }
+    ensures { λ r. ⌜ Tells r (now (members .exit)) (stepOutcome (grammarIn (now (tables .entry))) t (unpackAll (now (configs .entry)))) ⌝ }
 {
-    let mut members = [0u32; configurations::MEMBER_WORDS];
-    let Added::Count(n) = advance(tables, t, configs, &mut members) else {
+    let Added::Count(n) = advance(tables, t, configs, members) else {
         return Outcome::Full;
     };
-    finish(tables, &mut members, n, kept)
+    finish(tables, members, n)
 }

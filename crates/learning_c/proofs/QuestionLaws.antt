@@ -7,16 +7,16 @@ use borrow.Author.Tests.{lt-ltb, le-ltb}
 use Rattle.number.specs.declared.Refusal.{Refusal}
 use Rattle.grammar.specs.Limits.{maxKinds}
 use Rattle.grammar.specs.Grammar.{Grammar}
-use Rattle.grammar.specs.Tables.{grammarIn, nonterminalsIn}
+use Rattle.grammar.specs.inside.Tables.{grammarIn, nonterminalsIn}
 use Rattle.grammar.proofs.WordLaws.{length-starts-in}
 use Rattle.soundness.specs.declared.judgement.Verdict.{Verdict}
 use Rattle.soundness.specs.declared.judgement.Verdict.the-variants.{Sound, Refused}
-use Rattle.soundness.specs.Compiled.{Compiled}
+use Rattle.soundness.specs.inside.Compiled.{Compiled}
 use Rattle.derivation.proofs.ReadyLaws.{compiled-refuses, compiled-passes}
 use Rattle.words.specs.Layout.{minWords, slots, slotAt}
 use Rattle.words.specs.Words.{decision}
 use Rattle.cache.specs.Recording.{Learned, learned, askStart, askStep}
-use Rattle.learning_c.specs.Questions.{startIn, stepIn, startOf, stepOf}
+use Rattle.learning_c.specs.Questions.{startIn, stepIn, startAsked, stepAsked}
 
 -- ---- for a sound grammar
 module _ (t c : List ℕ) (a : ℕ) where
@@ -54,18 +54,18 @@ module _ (g : Grammar) (c : List ℕ) (s t : ℕ) where
 
 -- ---- for any bytes
 module _ (s c : List ℕ) {v : Verdict} {t : List ℕ} (k : Compiled s v t) where
-  pub start-refused : (a : ℕ) {q : Refusal} → v ≡ Refused q → learned 0 c ≡ startOf s c a
-  unfolding startOf
+  pub start-refused : (a : ℕ) {q : Refusal} → v ≡ Refused q → learned 0 c ≡ startAsked s c a
+  unfolding startAsked
   start-refused a e = rw (compiled-refuses s k e)
 
-  pub start-asked : {a b : ℕ} {x : Learned} → v ≡ Sound → b ≡ a → x ≡ startIn (grammarIn t) c b → x ≡ startOf s c a
-  unfolding startOf
+  pub start-asked : {a b : ℕ} {x : Learned} → v ≡ Sound → b ≡ a → x ≡ startIn (grammarIn t) c b → x ≡ startAsked s c a
+  unfolding startAsked
   start-asked {a} e f q = rw (compiled-passes s k e) (rw f at q)
 
-  pub step-refused : (n i : ℕ) {q : Refusal} → v ≡ Refused q → learned 0 c ≡ stepOf s c n i
-  unfolding stepOf
+  pub step-refused : (n i : ℕ) {q : Refusal} → v ≡ Refused q → learned 0 c ≡ stepAsked s c n i
+  unfolding stepAsked
   step-refused n i e = rw (compiled-refuses s k e)
 
-  pub step-asked : {n m i j : ℕ} {x : Learned} → v ≡ Sound → m ≡ n → j ≡ i → x ≡ stepIn (grammarIn t) c m j → x ≡ stepOf s c n i
-  unfolding stepOf
+  pub step-asked : {n m i j : ℕ} {x : Learned} → v ≡ Sound → m ≡ n → j ≡ i → x ≡ stepIn (grammarIn t) c m j → x ≡ stepAsked s c n i
+  unfolding stepAsked
   step-asked {n} {m} {i} e f h q = rw (compiled-passes s k e) (rw (f, h) at q)

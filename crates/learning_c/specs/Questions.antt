@@ -28,10 +28,10 @@ stepIn g c s t =
     cond (ltb maxKinds t) (learned 0 c) known
 
 -- asked of any bytes
-unfoldable pub startOf : List ℕ → List ℕ → ℕ → Learned
+unfoldable pub startAsked : List ℕ → List ℕ → ℕ → Learned
 unfolding soundGate startIn
-startOf bytes c a = atGate (λ n p. learned 0 c) (λ g. startIn g c a) (soundGate bytes)
+startAsked bytes c a = atGate (λ n p. learned 0 c) (λ g. startIn g c a) (soundGate bytes)
 
-unfoldable pub stepOf : List ℕ → List ℕ → ℕ → ℕ → Learned
+unfoldable pub stepAsked : List ℕ → List ℕ → ℕ → ℕ → Learned
 unfolding soundGate stepIn
-stepOf bytes c s t = atGate (λ n p. learned 0 c) (λ g. stepIn g c s t) (soundGate bytes)
+stepAsked bytes c s t = atGate (λ n p. learned 0 c) (λ g. stepIn g c s t) (soundGate bytes)

@@ -2,10 +2,10 @@
 // answered by 0, and changes nothing.
 use soundness::Verdict;
 ghost use mathlib.Core.Path.{_≡_};
-ghost use Rattle.grammar.specs.Tables.{grammarIn};
-ghost use Rattle.derivation.specs.Ready.{Ready};
+ghost use Rattle.grammar.specs.inside.Tables.{grammarIn};
+ghost use Rattle.derivation.specs.inside.Ready.{Ready};
 ghost use Rattle.cache.specs.Recording.{learned};
-ghost use Rattle.learning_c.specs.Questions.{startIn, stepIn, startOf, stepOf};
+ghost use Rattle.learning_c.specs.Questions.{startIn, stepIn, startAsked, stepAsked};
 
 // The start of decision a, for a sound grammar.
 fn start(tables: &[u16], cache: &mut [u32], a: usize) -> u32
@@ -39,7 +39,7 @@ fn step(tables: &[u16], cache: &mut [u32], s: usize, t: usize) -> u32
 // Asks for the start of a decision.
 #[no_mangle]
 pub extern "C" fn learning_start(grammar: &[u8], cache: &mut [u32], decision: u32) -> u32
-    ensures { λ r. ⌜ learned r (now (cache .exit)) ≡ startOf (now (grammar .entry)) (now (cache .entry)) decision ⌝ }
+    ensures { λ r. ⌜ learned r (now (cache .exit)) ≡ startAsked (now (grammar .entry)) (now (cache .entry)) decision ⌝ }
 {
     let mut tables = [0u16; grammar::TABLE_WORDS];
     let verdict = soundness::compile(grammar, &mut tables);
@@ -52,7 +52,7 @@ pub extern "C" fn learning_start(grammar: &[u8], cache: &mut [u32], decision: u3
 // Asks for the step from a state over a token. The decision is the one that the state's slot says.
 #[no_mangle]
 pub extern "C" fn learning_step(grammar: &[u8], cache: &mut [u32], state: u32, token: u32) -> u32
-    ensures { λ r. ⌜ learned r (now (cache .exit)) ≡ stepOf (now (grammar .entry)) (now (cache .entry)) state token ⌝ }
+    ensures { λ r. ⌜ learned r (now (cache .exit)) ≡ stepAsked (now (grammar .entry)) (now (cache .entry)) state token ⌝ }
 {
     let mut tables = [0u16; grammar::TABLE_WORDS];
     let verdict = soundness::compile(grammar, &mut tables);

@@ -14,20 +14,20 @@ use borrow.Author.Tests.{leb-true, leb-false}
 use Rattle.base.proofs.Booleans.{clash, and-T, true→T}
 use Rattle.base.proofs.Bits.{same?}
 use Rattle.lines.proofs.LineLaws.{at-blank, at-digit, at-other}
-use Rattle.lines.specs.Line.{maxTokens, maxDigits, maxToken, maxKept, blank, fits?, grown, put, ended, tokensFrom, few, lineOf}
+use Rattle.lines.specs.Line.{maxLineTokens, maxDigits, maxToken, maxKeptBytes, blank, fits?, grown, put, tokenEnded, tokensFrom, few, lineOf}
 
 -- ---- keeping a byte
-pub kept-full : (s : List ℕ) (k b : ℕ) → maxKept ≤ k → k ≤ maxKept → maxKept ≤ length s → take k s ≡ take maxKept (take k s ++ (b ∷ []))
-kept-full s k b h l e = sym (take-at (take k s) (b ∷ []) maxKept (omega (arith, length-take k s)))
+pub kept-full : (s : List ℕ) (k b : ℕ) → maxKeptBytes ≤ k → k ≤ maxKeptBytes → maxKeptBytes ≤ length s → take k s ≡ take maxKeptBytes (take k s ++ (b ∷ []))
+kept-full s k b h l e = sym (take-at (take k s) (b ∷ []) maxKeptBytes (omega (arith, length-take k s)))
 
-pub kept-more : (s : List ℕ) (k b : ℕ) → k < maxKept → maxKept ≤ length s → take (k + 1) (set s k b) ≡ take maxKept (take k s ++ (b ∷ []))
+pub kept-more : (s : List ℕ) (k b : ℕ) → k < maxKeptBytes → maxKeptBytes ≤ length s → take (k + 1) (set s k b) ≡ take maxKeptBytes (take k s ++ (b ∷ []))
 kept-more s k b h e =
     rw (add-one k, take-suc-set s k b (omega arith))
-    (sym (take-all maxKept (take k s ++ (b ∷ [])) (omega (arith, length-append (take k s) (b ∷ []), length-take k s))))
+    (sym (take-all maxKeptBytes (take k s ++ (b ∷ [])) (omega (arith, length-append (take k s) (b ∷ []), length-take k s))))
 
 -- ---- a good line is short
-ended-some : (d v : ℕ) (o : Option (List ℕ)) {w : List ℕ} → ended d v o ≡ some w → (u : List ℕ) × (o ≡ some u) × (length w ≡ suc (length u))
-unfolding ended
+ended-some : (d v : ℕ) (o : Option (List ℕ)) {w : List ℕ} → tokenEnded d v o ≡ some w → (u : List ℕ) × (o ≡ some u) × (length w ≡ suc (length u))
+unfolding tokenEnded
 ended-some d v o {w} e = go (eqb d 0) o e
   where
     go : (t : Bool) (o : Option (List ℕ)) → cond t none (put v o) ≡ some w → (u : List ℕ) × (o ≡ some u) × (length w ≡ suc (length u))
@@ -66,16 +66,16 @@ unfolding tokensFrom
 good-short [] d v w e h = let (u, q, n) = ended-some d v (some []) e in omega arith
 good-short (b ∷ s) d v w e h = short-step b s (good-short s) d v w e h
 
-few-some : (o : Option (List ℕ)) {w : List ℕ} → few o ≡ some w → (o ≡ some w) × (length w ≤ maxTokens)
+few-some : (o : Option (List ℕ)) {w : List ℕ} → few o ≡ some w → (o ≡ some w) × (length w ≤ maxLineTokens)
 unfolding few
 few-some none e = clash (cc)
-few-some (some u) {w} e = go (leb (length u) maxTokens) refl e
+few-some (some u) {w} e = go (leb (length u) maxLineTokens) refl e
   where
-    go : (t : Bool) → leb (length u) maxTokens ≡ t → cond t (some u) none ≡ some w → (some u ≡ some w) × (length w ≤ maxTokens)
-    go true q x = let z : u ≡ w = cc in (x, rw z at (leb-true (length u) maxTokens q))
+    go : (t : Bool) → leb (length u) maxLineTokens ≡ t → cond t (some u) none ≡ some w → (some u ≡ some w) × (length w ≤ maxLineTokens)
+    go true q x = let z : u ≡ w = cc in (x, rw z at (leb-true (length u) maxLineTokens q))
     go false q x = clash (cc)
 
-pub long-bad : (s : List ℕ) → maxKept ≤ length s → lineOf s ≡ none
+pub long-bad : (s : List ℕ) → maxKeptBytes ≤ length s → lineOf s ≡ none
 unfolding lineOf
 long-bad [] h = absurd (omega arith)
 long-bad (b ∷ s) h = go (few (tokensFrom 0 0 (b ∷ s))) refl
@@ -88,11 +88,11 @@ long-bad (b ∷ s) h = go (few (tokensFrom 0 0 (b ∷ s))) refl
         absurd (omega arith)
 
 -- what is kept of a line says what the line says
-pub kept-says : (s : List ℕ) → lineOf (take maxKept s) ≡ lineOf s
-kept-says s = go (leb (length s) maxKept) refl
+pub kept-says : (s : List ℕ) → lineOf (take maxKeptBytes s) ≡ lineOf s
+kept-says s = go (leb (length s) maxKeptBytes) refl
   where
-    go : (t : Bool) → leb (length s) maxKept ≡ t → lineOf (take maxKept s) ≡ lineOf s
-    go true q = ap lineOf (take-all maxKept s (leb-true (length s) maxKept q))
+    go : (t : Bool) → leb (length s) maxKeptBytes ≡ t → lineOf (take maxKeptBytes s) ≡ lineOf s
+    go true q = ap lineOf (take-all maxKeptBytes s (leb-true (length s) maxKeptBytes q))
     go false q =
-        let h = leb-false (length s) maxKept q in
-        long-bad (take maxKept s) (omega (arith, length-take maxKept s)) ∙ sym (long-bad s (omega arith))
+        let h = leb-false (length s) maxKeptBytes q in
+        long-bad (take maxKeptBytes s) (omega (arith, length-take maxKeptBytes s)) ∙ sym (long-bad s (omega arith))

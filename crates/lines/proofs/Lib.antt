@@ -3,3 +3,4 @@ pub mod LineLaws
 pub mod KeptLaws
 pub mod CountLaws
 pub mod LineCases
+pub mod OpenLaws

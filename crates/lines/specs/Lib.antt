@@ -1,3 +1,4 @@
 -- What a line says.
 pub mod Line
-pub mod Parsed
+pub mod Kept
+pub mod inside

@@ -7,8 +7,8 @@ use lib.ListN.{length}
 use lib.Dec.{eqb, leb, ltb}
 
 -- the most tokens of a line, the most digits of a token, and the highest token
-abbrev pub maxTokens : ℕ
-maxTokens = 16
+abbrev pub maxLineTokens : ℕ
+maxLineTokens = 16
 
 abbrev pub maxDigits : ℕ
 maxDigits = 5
@@ -34,23 +34,23 @@ put v none = none
 put v (some w) = some (v ∷ w)
 
 -- a token of d digits and the number v ends, and others follow: it has a digit
-unfoldable pub ended : ℕ → ℕ → Option (List ℕ) → Option (List ℕ)
-ended d v o = cond (eqb d 0) none (put v o)
+unfoldable pub tokenEnded : ℕ → ℕ → Option (List ℕ) → Option (List ℕ)
+tokenEnded d v o = cond (eqb d 0) none (put v o)
 
 -- the tokens of the rest of a line, behind d digits of the number v
 unfoldable pub tokensFrom : ℕ → ℕ → List ℕ → Option (List ℕ)
-unfolding ended fits?
-tokensFrom d v [] = ended d v (some [])
+unfolding tokenEnded fits?
+tokensFrom d v [] = tokenEnded d v (some [])
 tokensFrom d v (b ∷ s) =
     elim (eqb b blank) [
-      | true ↦ ended d v (tokensFrom 0 0 s)
+      | true ↦ tokenEnded d v (tokensFrom 0 0 s)
       | false ↦ elim (fits? d v b) [ true ↦ tokensFrom (suc d) (grown v b) s | false ↦ none ]
     ]
 
 -- no more tokens than a line may have
 unfoldable pub few : Option (List ℕ) → Option (List ℕ)
 few none = none
-few (some w) = cond (leb (length w) maxTokens) (some w) none
+few (some w) = cond (leb (length w) maxLineTokens) (some w) none
 
 -- the note of a line, or none where it is bad; an empty line is the empty note
 unfoldable pub lineOf : List ℕ → Option (List ℕ)
@@ -59,5 +59,5 @@ lineOf [] = some []
 lineOf (b ∷ s) = few (tokensFrom 0 0 (b ∷ s))
 
 -- the bytes of a line that are kept: a good line has its digits for each token and a blank between two, and so fewer
-abbrev pub maxKept : ℕ
-maxKept = maxTokens * suc maxDigits
+abbrev pub maxKeptBytes : ℕ
+maxKeptBytes = maxLineTokens * suc maxDigits

@@ -3,8 +3,8 @@ ghost use mathlib.Core.Path.{_≡_};
 ghost use mathlib.Core.List.{_++_, _∷_, []};
 ghost use Prim.Native.Nat.{_≤_};
 ghost use lib.ListN.{length, take};
-ghost use Rattle.lines.specs.Line.{maxTokens, maxKept, lineOf};
-ghost use Rattle.lines.specs.Parsed.{noteIn, lineCount};
+ghost use Rattle.lines.specs.Line.{maxLineTokens, maxKeptBytes, lineOf};
+ghost use Rattle.lines.specs.inside.Parsed.{noteIn, lineCount};
 
 // The most tokens of a line, the most digits of a token, and the highest token. specs/Line has the same.
 pub const MAX_TOKENS: usize = 16;
@@ -27,9 +27,9 @@ pub enum Line {
 // Reads a line, without its end: up to MAX_TOKENS tokens, each of 1 to MAX_DIGITS digits and at most MAX_TOKEN, single blanks between. The tokens are put at
 // the note's start.
 pub fn parse(line: &[u8], note: &mut [u16]) -> Line
-    requires { ⌜ maxTokens ≤ length (now note) ⌝ }
+    requires { ⌜ maxLineTokens ≤ length (now note) ⌝ }
     ensures { λ r. ⌜ noteIn r (now (note .exit)) ≡ lineOf (now (line .entry)) ⌝ }
-    ensures { λ r. ⌜ lineCount r ≤ maxTokens ⌝ }
+    ensures { λ r. ⌜ lineCount r ≤ maxLineTokens ⌝ }
 {
     let n = line.len();
     if n == 0 {
@@ -82,9 +82,9 @@ pub fn parse(line: &[u8], note: &mut [u16]) -> Line
 
 // Keeps one more byte of a line, if there is room, and answers how many are kept.
 pub fn keep(line: &mut [u8], kept: usize, byte: u8) -> usize
-    requires { ⌜ (kept ≤ maxKept) × (maxKept ≤ length (now line)) ⌝ }
-    ensures { λ r. ⌜ take r (now (line .exit)) ≡ take maxKept (take kept (now (line .entry)) ++ (byte ∷ [])) ⌝ }
-    ensures { λ r. ⌜ r ≤ maxKept ⌝ }
+    requires { ⌜ (kept ≤ maxKeptBytes) × (maxKeptBytes ≤ length (now line)) ⌝ }
+    ensures { λ r. ⌜ take r (now (line .exit)) ≡ take maxKeptBytes (take kept (now (line .entry)) ++ (byte ∷ [])) ⌝ }
+    ensures { λ r. ⌜ r ≤ maxKeptBytes ⌝ }
 {
     if KEPT_BYTES <= kept {
         return kept;

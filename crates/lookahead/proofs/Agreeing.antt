@@ -11,18 +11,18 @@ use borrow.Author.Tests.{ltb-true, ltb-false}
 use Rattle.base.proofs.Booleans.{clash, true→T}
 use Rattle.grammar.specs.Limits.{endPlace, endMark}
 use Rattle.grammar.specs.Grammar.{Grammar, admits, first}
-use Rattle.grammar.specs.Ordered.{Ordered}
+use Rattle.grammar.specs.inside.Ordered.{Ordered}
 use Rattle.derivation.specs.Runs.{Run}
 use Rattle.derivation.proofs.Notes.{get-lt}
 use Rattle.lookahead.specs.Configs.{Config, config, In, Closes, from}
 use Rattle.lookahead.specs.Closing.{maxKept, close}
 use Rattle.lookahead.specs.Order.{kept?, kept}
-use Rattle.lookahead.specs.Outcomes.{Outcome, full, alternative, state, agreed, shared, settled, resolved, judged, limited, outcome}
+use Rattle.lookahead.specs.Outcomes.{Outcome, full, alternative, state, agreed, shared, settled, resolved, judged, withinKept, outcome}
 use Rattle.lookahead.specs.Outcomes.{onward, startConfigs, stepConfigs, startOutcome, stepOutcome}
 use Rattle.lookahead.proofs.Bounds.{Bounded}
 use Rattle.lookahead.proofs.CloseLaws.{close-some}
 use Rattle.lookahead.proofs.OrderLaws.{kept-right}
-use Rattle.lookahead.specs.Rules.{Waits}
+use Rattle.lookahead.specs.Rules.{ToKeep}
 use Rattle.lookahead.proofs.TestLaws.{waits-right, agreed-first}
 use Rattle.lookahead.proofs.StepLaws.{start-exact, step-exact}
 use Rattle.lookahead.proofs.StateLaws.{state-exact}
@@ -46,8 +46,8 @@ judged-alternative (k ∷ ks) {b} e c m = go (agreed (k .alternative) ks) refl e
     go true t q = let z : k .alternative ≡ b = cc in agreed-first k ks (true→T (agreed (k .alternative) ks) t) c m ∙ z
     go false t q = absurd (unresolved q)
 
-limited-alternative : (ks : List Config) {b : ℕ} → limited ks ≡ alternative b → judged ks ≡ alternative b
-unfolding limited
+limited-alternative : (ks : List Config) {b : ℕ} → withinKept ks ≡ alternative b → judged ks ≡ alternative b
+unfolding withinKept
 limited-alternative ks {b} e = go (ltb maxKept (length ks)) e
   where
     go : (x : Bool) → cond x full (judged ks) ≡ alternative b → judged ks ≡ alternative b
@@ -60,7 +60,7 @@ module _ (g : Grammar) where
   unfolding outcome
   outcome-alternative start {b} e c x t = go (close g start) refl e
     where
-      go : (o : Option (List Config)) → close g start ≡ o → (elim o as (λ _. Outcome) [ none ↦ full | some ms ↦ limited (kept g ms) ])
+      go : (o : Option (List Config)) → close g start ≡ o → (elim o as (λ _. Outcome) [ none ↦ full | some ms ↦ withinKept (kept g ms) ])
           ≡ alternative b → c .alternative ≡ b
       go none q e = clash (cc)
       go (some ms) q e = judged-alternative (kept g ms) (limited-alternative (kept g ms) e) c (kept-right g ms c .1 (close-some g start ms q .exact c .1 x, t))
@@ -85,7 +85,7 @@ module _ (g : Grammar) (ordered : Ordered g) where
   outcome-allows start {b} {w} {i = i} x l va v = go (outcome g start) refl (face g ordered x refl l va v)
     where
       waits : (f : Faced g ordered start b w i) → T (kept? g (f .member))
-      waits f = waits-right g (f .member) .1 (Waits.faces (f .kind) (f .faces))
+      waits f = waits-right g (f .member) .1 (ToKeep.faces (f .kind) (f .faces))
 
       go : (o : Outcome) → outcome g start ≡ o → Faced g ordered start b w i → Allows b w i o
       go full e f = any
@@ -147,7 +147,7 @@ module _ (g : Grammar) (ordered : Ordered g) where
         go full q = any
         go (alternative b′) q =
             let z : b′ ≡ b = sym (outcome-alternative g (stepConfigs g (f .token) ks) q (onward (f .member)) closes
-            (waits-right g (onward (f .member)) .1 (Waits.past (ap suc place)))) ∙ f .same in
+            (waits-right g (onward (f .member)) .1 (ToKeep.past (ap suc place)))) ∙ f .same in
             rw z this
         go (state ls) q = over l
 

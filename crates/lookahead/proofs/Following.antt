@@ -11,7 +11,7 @@ use Rattle.base.proofs.Booleans.{clash}
 use Rattle.grammar.specs.declared.Symbol.the-variants.{Token, Nonterminal, End}
 use Rattle.grammar.specs.Limits.{endPlace}
 use Rattle.grammar.specs.Grammar.{Grammar, facing, owner, admits, first}
-use Rattle.grammar.specs.Ordered.{Ordered}
+use Rattle.grammar.specs.inside.Ordered.{Ordered}
 use Rattle.derivation.specs.Runs.{Run}
 use Rattle.lookahead.specs.Configs.{Config, config, enter, pop, behind, end, Closes, move}
 

@@ -8,10 +8,12 @@ pub mod OrderLaws
 pub mod StepLaws
 pub mod Bounds
 pub mod Standing
+pub mod Low
 pub mod StateLaws
 pub mod TestLaws
 pub mod EndLaws
 pub mod RuleLaws
+pub mod GivenLaws
 pub mod Learned
 pub mod WorkedCases
 pub mod Following

@@ -3,7 +3,7 @@ use mathlib.Core.Path.{_≡_, refl, sym, ap, subst, _∙_}
 use mathlib.Core.Logic.{_↔_, _⊎_, inl, inr}
 use mathlib.Core.Bool.{Bool, true, false, cond}
 use mathlib.Core.List.{List, [], _∷_, List·Memᴰ·head, List·Memᴰ·tail, List·Memᴰ·not-nil, List·Memᴰ·cases-cons}
-use Prim.Native.Nat.{_<_}
+use Prim.Native.Nat.{_≤_, _<_}
 use native.Mathlib.Omega.{arith}
 use lib.Dec.{T, leb}
 use borrow.Author.Tests.{leb-true, leb-false}
@@ -110,25 +110,40 @@ insert-in c (d ∷ l) x m = go (leb (key c) (key d)) (List·Memᴰ·cases-cons m
         pick (inl e) = List·Memᴰ·head e
         pick (inr k) = List·Memᴰ·tail (rec (List·Memᴰ·tail k))
 
-insert-ascending : (c : Config) {l : List Config} → Ascending l → Each (λ (d : Config). ¬ (key c ≡ key d)) l → Ascending (insert c l)
-unfolding insert
-insert-ascending c none h = next (λ x m. absurd (List·Memᴰ·not-nil m)) none
-insert-ascending c (next {c = d} {l = l} a s) h = go (leb (key c) (key d)) refl (insert-ascending c s (λ x m. h x (List·Memᴰ·tail m)))
-  where
-    apart : ¬ (key c ≡ key d)
-    apart = h d (List·Memᴰ·head refl)
+-- ascending, equal values included
+unfoldable pub Rising : List Config → Type 0
+Rising [] = Unit {0}
+Rising (c ∷ l) = Each (λ (d : Config). key c ≤ key d) l × Rising l
 
-    above : key c < key d → (x : Config) → (x ≡ d) ⊎ In x l → key c < key x
+insert-rising : (c : Config) (l : List Config) → Rising l → Rising (insert c l)
+unfolding insert Rising
+insert-rising c [] r = (λ x m. absurd (List·Memᴰ·not-nil m), tt)
+insert-rising c (d ∷ l) (a, s) = go (leb (key c) (key d)) refl (insert-rising c l s)
+  where
+    above : key c ≤ key d → (x : Config) → (x ≡ d) ⊎ In x l → key c ≤ key x
     above q x (inl e) = rw e q
     above q x (inr n) = let i = a x n in omega arith
 
-    under : key d < key c → (x : Config) → (x ≡ c) ⊎ In x l → key d < key x
-    under q x (inl e) = rw e q
+    under : key d < key c → (x : Config) → (x ≡ c) ⊎ In x l → key d ≤ key x
+    under q x (inl e) = let z : key x ≡ key c = ap key e in omega arith
     under q x (inr n) = a x n
 
-    go : (b : Bool) → leb (key c) (key d) ≡ b → Ascending (insert c l) → Ascending (cond b (c ∷ d ∷ l) (d ∷ insert c l))
-    go true e rec = next (λ x m. above (let q = leb-true (key c) (key d) e in let n = apart in omega arith) x (List·Memᴰ·cases-cons m)) (next a s)
-    go false e rec = next (λ x m. under (leb-false (key c) (key d) e) x (List·Memᴰ·cases-cons (insert-out c l x m))) rec
+    go : (b : Bool) → leb (key c) (key d) ≡ b → Rising (insert c l) → Rising (cond b (c ∷ d ∷ l) (d ∷ insert c l))
+    go true e rec = (λ x m. above (leb-true (key c) (key d) e) x (List·Memᴰ·cases-cons m), (a, s))
+    go false e rec = (λ x m. under (leb-false (key c) (key d) e) x (List·Memᴰ·cases-cons (insert-out c l x m)), rec)
+
+insert-distinct : (c : Config) {l : List Config} → ¬ In c l → Distinct l → Distinct (insert c l)
+unfolding insert
+insert-distinct c n nil = also n nil
+insert-distinct c n (also {x = d} {l = l} z s) = go (leb (key c) (key d)) (insert-distinct c (λ m. n (List·Memᴰ·tail m)) s)
+  where
+    out : (d ≡ c) ⊎ In d l → ⊥
+    out (inl e) = n (List·Memᴰ·head (sym e))
+    out (inr m) = z m
+
+    go : (b : Bool) → Distinct (insert c l) → Distinct (cond b (c ∷ d ∷ l) (d ∷ insert c l))
+    go true rec = also n (also z s)
+    go false rec = also (λ m. out (List·Memᴰ·cases-cons (insert-out c l d m))) rec
 
 pub sort-out : (l : List Config) → Sub (sort l) l
 unfolding sort
@@ -148,13 +163,30 @@ sort-in (c ∷ l) x m = pick (List·Memᴰ·cases-cons m) (λ n. sort-in l x n)
     pick (inl e) rec = insert-in c (sort l) x (List·Memᴰ·head e)
     pick (inr n) rec = insert-in c (sort l) x (List·Memᴰ·tail (rec n))
 
-pub sort-ascending : {l : List Config} → Distinct l → Each Packable l → Ascending (sort l)
+sort-rising : (l : List Config) → Rising (sort l)
+unfolding sort Rising
+sort-rising [] = tt
+sort-rising (c ∷ l) = insert-rising c (sort l) (sort-rising l)
+
+sort-distinct : {l : List Config} → Distinct l → Distinct (sort l)
 unfolding sort
-sort-ascending nil h = none
-sort-ascending (also {x = c} {l = l} n d) h =
-    insert-ascending c (sort-ascending d (λ x m. h x (List·Memᴰ·tail m)))
-    (λ x m e. let k = sort-out l x m in
-    n (subst (λ (y : Config). In y l) (sym (key-one c x (h c (List·Memᴰ·head refl)) (h x (List·Memᴰ·tail k)) e)) k))
+sort-distinct nil = nil
+sort-distinct (also {x = c} {l = l} n d) = insert-distinct c (λ m. n (sort-out l c m)) (sort-distinct d)
+
+-- different ones have different values
+rising-ascending : {l : List Config} → Distinct l → Rising l → Each Packable l → Ascending l
+unfolding Rising
+rising-ascending nil r h = none
+rising-ascending (also {x = c} {l = l} n d) (a, r) h = next below (rising-ascending d r (λ x m. h x (List·Memᴰ·tail m)))
+  where
+    below : (x : Config) → In x l → key c < key x
+    below x m =
+        let i = a x m in
+        let z : ¬ (key c ≡ key x) = λ e. n (subst (λ (y : Config). In y l) (sym (key-one c x (h c (List·Memᴰ·head refl)) (h x (List·Memᴰ·tail m)) e)) m) in
+        omega arith
+
+pub sort-ascending : {l : List Config} → Distinct l → Each Packable l → Ascending (sort l)
+sort-ascending {l} d h = rising-ascending (sort-distinct d) (sort-rising l) (λ x m. h x (sort-out l x m))
 
 -- ---- the kept members of a closed set
 module _ (g : Grammar) where
@@ -164,6 +196,10 @@ module _ (g : Grammar) where
   kept-right ms c = (λ m. keep-out (kept? g) ms (sort-out (keep (kept? g) ms) c m), λ h. sort-in (keep (kept? g) ms) c (keep-in (kept? g) ms (h .0) (h .1)))
 
   -- in ascending order
+  pub kept-rising : (ms : List Config) → Rising (kept g ms)
+  unfolding kept
+  kept-rising ms = sort-rising (keep (kept? g) ms)
+
   pub kept-ascending : (ms : List Config) → Distinct ms → Each Packable ms → Ascending (kept g ms)
   unfolding kept
   kept-ascending ms d h = sort-ascending (keep-distinct (kept? g) d) (λ c m. h c (keep-out (kept? g) ms m .0))

@@ -14,15 +14,14 @@ use Rattle.grammar.specs.Grammar.{Grammar}
 use Rattle.lookahead.specs.Configs.{Config, In}
 use Rattle.lookahead.specs.Closing.{maxKept}
 use Rattle.lookahead.specs.Order.{kept, Ascending, none, next}
-use Rattle.lookahead.specs.Outcomes.{Outcome, full, alternative, state, rivals, agreed, shared, settled, resolved, judged, limited, outcome}
+use Rattle.lookahead.specs.Outcomes.{Outcome, full, alternative, state, rivals, agreed, shared, settled, resolved, judged, withinKept, outcome}
 use Rattle.lookahead.specs.Rules.{Distinct, nil, also, Each, Keeps, TooLarge, closed-over, kept-many, Nothing, Agreed, Rival, Conflict, Kept, Gives}
 use Rattle.lookahead.specs.Rules.{rule1, rule2, rule3, rule4, rule5}
 use Rattle.lookahead.proofs.ListLaws.{distinct-short}
 use Rattle.lookahead.proofs.CloseLaws.{Closure, Closed, over, whole, close-right, within}
 use Rattle.lookahead.proofs.OrderLaws.{ascending-one, kept-right, kept-ascending}
 use Rattle.lookahead.proofs.Bounds.{Bounded}
-use Rattle.lookahead.proofs.Standing.{Standing}
-use Rattle.lookahead.proofs.StateLaws.{members-packable}
+use Rattle.lookahead.proofs.Low.{Low, Digit, members-packable}
 use Rattle.lookahead.proofs.TestLaws.{waits-right, rivals-right, conflicts-right, agreed-not, agreed-first, shared-out, shared-in, settled-out}
 use Rattle.lookahead.proofs.TestLaws.{settled-in}
 
@@ -120,10 +119,10 @@ module _ (g : Grammar) (start : List Config) where
             resolved-gives (k ∷ ks) h one (λ b x. n (x .all d (h .exact d .0 (List·Memᴰ·tail m)) ∙ sym (x .all k k-keeps)))
 
   -- ---- rule 1
-  module _ (bounded : Bounded g) (stands : Each (Standing g) start) where
+  module _ (bounded : Bounded g) (low : Each (Low Digit) start) where
     whole-kept : (ms : List Config) → Closure g start ms → Kept g start (kept g ms)
     whole-kept ms x = record {
-      ascending = kept-ascending g ms (x .distinct) (members-packable g bounded start ms stands x);
+      ascending = kept-ascending g ms (x .distinct) (members-packable g bounded start ms low x);
       exact = λ c. (
         λ m. let y = kept-right g ms c .0 m in (x .exact c .0 (y .0), waits-right g c .0 (y .1)),
         λ y. kept-right g ms c .1 (x .exact c .1 (y .0), waits-right g c .1 (y .1)),
@@ -135,8 +134,8 @@ module _ (g : Grammar) (start : List Config) where
     fits ms x l (kept-many y) = let k = distinct-short (y .distinct) (kept g ms) (λ c m. whole-kept ms x .exact c .1 (y .each c m)) in
         absurd (omega (arith, y .more))
 
-    limited-gives : (ms : List Config) → Closure g start ms → Gives g start (limited (kept g ms))
-    unfolding limited
+    limited-gives : (ms : List Config) → Closure g start ms → Gives g start (withinKept (kept g ms))
+    unfolding withinKept
     limited-gives ms x = go (ltb maxKept (length (kept g ms))) refl
       where
         go : (b : Bool) → ltb maxKept (length (kept g ms)) ≡ b → Gives g start (cond b full (judged (kept g ms)))
@@ -153,7 +152,7 @@ module _ (g : Grammar) (start : List Config) where
     unfolding outcome
     outcome-gives = go (close-right g start)
       where
-        go : {o : Option (List Config)} → Closed g start o → Gives g start (elim o as (λ _. Outcome) [ none ↦ full | some ms ↦ limited (kept g ms) ])
+        go : {o : Option (List Config)} → Closed g start o → Gives g start (elim o as (λ _. Outcome) [ none ↦ full | some ms ↦ withinKept (kept g ms) ])
         go (over x) = rule1 (closed-over x)
         go (whole {ms = ms} x) = limited-gives ms x
 

@@ -10,8 +10,7 @@ use Rattle.grammar.specs.declared.Symbol.the-variants.{Token}
 use Rattle.grammar.specs.Limits.{maxProductions, endPlace}
 use Rattle.grammar.specs.Grammar.{Grammar, facing, alternatives}
 use Rattle.lookahead.specs.Configs.{Config, config, In, Moves, enter, pop, behind, end, Closes, from, move}
-use Rattle.lookahead.specs.Closing.{maxEntries}
-use Rattle.lookahead.specs.Order.{placeRadix, pastEnd, Packable}
+use Rattle.lookahead.specs.Order.{pastEnd}
 use Rattle.lookahead.specs.Outcomes.{numbered, startConfigs, onward, stepConfigs}
 use Rattle.lookahead.specs.Rules.{Each}
 use Rattle.lookahead.proofs.ListLaws.{in-get}
@@ -59,20 +58,6 @@ module _ (g : Grammar) (bounded : Bounded g) where
   pub closes-standing : {start : List Config} → Each (Standing g) start → {c : Config} → Closes g start c → Standing g c
   closes-standing h (from {c = c} m) = h c m
   closes-standing h (move r m) = moved (closes-standing h r) m
-
-  -- ---- packed values
-  pub packable : (c : Config) → Standing g c → length (c .stack) ≤ maxEntries → Packable c
-  packable c s l = record {
-    place = go (s .stands);
-    alternative = omega (arith, s .most);
-    entries = omega arith;
-    returns = λ r m. let h = s .returns r m in omega (arith, bounded .small);
-  }
-    where
-      go : {p : ℕ} {t : List ℕ} → At g p t → p < placeRadix
-      go (inside h) = omega (arith, bounded .small)
-      go (last h _) = omega arith
-      go (past h _) = omega arith
 
   -- ---- starts
   numbered-standing : (l : List ℕ) (b : ℕ) → 1 ≤ b → b + length l ≤ suc maxProductions → Each (λ (f : ℕ). f < g .size) l

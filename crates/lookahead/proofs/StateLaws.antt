@@ -5,6 +5,7 @@ use mathlib.Core.Bool.{Bool, true, false, _&&_, not, cond}
 use mathlib.Core.Option.{Option, none, some}
 use mathlib.Core.List.{List, [], _∷_}
 use Prim.Native.Nat.{ℕ, _≤_}
+use native.Mathlib.Omega.{arith}
 use lib.Dec.{T, ltb}
 use lib.ListN.{length}
 use borrow.Author.Tests.{ltb-false}
@@ -14,12 +15,13 @@ use Rattle.lookahead.specs.Configs.{Config, In, Closes}
 use Rattle.lookahead.specs.Closing.{maxKept, close}
 use Rattle.lookahead.specs.Order.{kept?, Packable, Ascending, kept}
 use Rattle.lookahead.specs.Outcomes.{Outcome, full, alternative, state, agreed, shared, settled, resolved, judged}
-use Rattle.lookahead.specs.Outcomes.{limited, outcome, startConfigs, stepConfigs, startOutcome, stepOutcome, States, begun, stepped}
+use Rattle.lookahead.specs.Outcomes.{withinKept, outcome, startConfigs, stepConfigs, startOutcome, stepOutcome, States, begun, stepped}
 use Rattle.lookahead.specs.Rules.{Each}
 use Rattle.lookahead.proofs.CloseLaws.{Closure, close-some}
 use Rattle.lookahead.proofs.OrderLaws.{kept-right, kept-ascending, kept-equal}
 use Rattle.lookahead.proofs.Bounds.{Bounded}
-use Rattle.lookahead.proofs.Standing.{Standing, closes-standing, packable, start-standing, step-standing}
+use Rattle.lookahead.proofs.Standing.{Standing, closes-standing, start-standing, step-standing}
+use Rattle.lookahead.proofs.Low.{Digit, standing-low, members-packable}
 
 -- ---- the rules give no other state than the kept configurations, and not more than 64
 resolved-state : (ks : List Config) {ls : List Config} → resolved ks ≡ state ls → ks ≡ ls
@@ -39,8 +41,8 @@ judged-state (k ∷ ks) {ls} e = go (agreed (k .alternative) ks) e
     go true e = clash (cc)
     go false e = resolved-state (k ∷ ks) e
 
-limited-state : (ks : List Config) {ls : List Config} → limited ks ≡ state ls → (ks ≡ ls) × (length ks ≤ maxKept) × (judged ls ≡ state ls)
-unfolding limited
+limited-state : (ks : List Config) {ls : List Config} → withinKept ks ≡ state ls → (ks ≡ ls) × (length ks ≤ maxKept) × (judged ls ≡ state ls)
+unfolding withinKept
 limited-state ks {ls} e = go (ltb maxKept (length ks)) refl e
   where
     go : (b : Bool) → ltb maxKept (length ks) ≡ b → cond b full (judged ks) ≡ state ls → (ks ≡ ls) × (length ks ≤ maxKept)
@@ -61,7 +63,7 @@ module _ (g : Grammar) where
   unfolding outcome
   outcome-state start ks e = go (close g start) refl e
     where
-      go : (o : Option (List Config)) → close g start ≡ o → (elim o as (λ _. Outcome) [ none ↦ full | some ms ↦ limited (kept g ms) ]) ≡ state ks
+      go : (o : Option (List Config)) → close g start ≡ o → (elim o as (λ _. Outcome) [ none ↦ full | some ms ↦ withinKept (kept g ms) ]) ≡ state ks
           → Holds g start ks
       go none q e = clash (cc)
       go (some ms) q e =
@@ -83,14 +85,14 @@ module _ (g : Grammar) where
       )
 
   module _ (bounded : Bounded g) where
-    pub members-packable : (start ms : List Config) → Each (Standing g) start → Closure g start ms → Each Packable ms
-    members-packable start ms s h c m = packable g bounded c (closes-standing g bounded s (h .exact c .0 m)) (h .small c m)
+    standing-packable : (start ms : List Config) → Each (Standing g) start → Closure g start ms → Each Packable ms
+    standing-packable start ms s h = members-packable g bounded start ms (λ c m. standing-low g bounded Digit (λ b h l. omega arith) c (s c m)) h
 
     -- a state is in ascending order
     pub state-ascending : (start ks : List Config) → Each (Standing g) start → outcome g start ≡ state ks → Ascending ks
     state-ascending start ks s e =
         let h = outcome-state start ks e in
-        subst Ascending (h .same) (kept-ascending g (h .members) (h .closure .distinct) (members-packable start (h .members) s (h .closure)))
+        subst Ascending (h .same) (kept-ascending g (h .members) (h .closure .distinct) (standing-packable start (h .members) s (h .closure)))
 
     -- equal lists exactly if equal sets
     pub closed-equal : (s t ms ns : List Config) → Each (Standing g) s → Each (Standing g) t → close g s ≡ some ms → close g t ≡ some ns
@@ -104,7 +106,7 @@ module _ (g : Grammar) where
         y = close-some g t ns et
 
         law : (kept g ms ≡ kept g ns) ↔ ((c : Config) → T (kept? g c) → In c ms ↔ In c ns)
-        law = kept-equal g ms ns (x .distinct) (y .distinct) (members-packable s ms hs x) (members-packable t ns ht y)
+        law = kept-equal g ms ns (x .distinct) (y .distinct) (standing-packable s ms hs x) (standing-packable t ns ht y)
 
         there : (c : Config) → In c ms ↔ In c ns → Closes g s c ↔ Closes g t c
         there c (f, b) = (λ r. y .exact c .0 (f (x .exact c .1 r)), λ r. x .exact c .0 (b (y .exact c .1 r)))
@@ -129,7 +131,7 @@ module _ (g : Grammar) where
     state-packable : (start ks : List Config) → Each (Standing g) start → outcome g start ≡ state ks → Each Packable ks
     state-packable start ks s e c m =
         let h = outcome-state start ks e in
-        members-packable start (h .members) s (h .closure) c (kept-right g (h .members) c .0 (subst (In c) (sym (h .same)) m) .0)
+        standing-packable start (h .members) s (h .closure) c (kept-right g (h .members) c .0 (subst (In c) (sym (h .same)) m) .0)
 
     pub states-packable : {a : ℕ} {ks : List Config} → States g a ks → Each Packable ks
     unfolding startOutcome stepOutcome

@@ -13,8 +13,8 @@ use Rattle.grammar.specs.declared.Symbol.the-variants.{Token, Nonterminal, End}
 use Rattle.grammar.specs.Grammar.{Grammar, facing, admits, alternatives, first}
 use Rattle.lookahead.specs.Configs.{Config, config, In}
 use Rattle.lookahead.specs.Order.{keep}
-use Rattle.lookahead.specs.Outcomes.{numbered, startConfigs, passes, onward, stepConfigs}
-use Rattle.lookahead.specs.Rules.{Starts, Steps}
+use Rattle.lookahead.specs.Outcomes.{numbered, startConfigs, passesAt, onward, stepConfigs}
+use Rattle.lookahead.specs.Rules.{Starts, StepsOver}
 use Rattle.lookahead.proofs.ListLaws.{map-in, in-map}
 use Rattle.lookahead.proofs.OrderLaws.{keep-in, keep-out}
 
@@ -54,28 +54,28 @@ module _ (g : Grammar) where
 
   -- ---- steps
   -- what passes faces a kind that admits it
-  passes-out : (t : ℕ) (s : Symbol) → T (passes g t s) → (k : ℕ) × (s ≡ Token k) × T (admits g k t)
-  unfolding passes
+  passes-out : (t : ℕ) (s : Symbol) → T (passesAt g t s) → (k : ℕ) × (s ≡ Token k) × T (admits g k t)
+  unfolding passesAt
   passes-out t (Token k) h = (k, refl, h)
   passes-out t (Nonterminal a) h = absurd h
   passes-out t End h = absurd h
 
-  passes-in : (t k : ℕ) {s : Symbol} → s ≡ Token k → T (admits g k t) → T (passes g t s)
-  unfolding passes
+  passes-in : (t k : ℕ) {s : Symbol} → s ≡ Token k → T (admits g k t) → T (passesAt g t s)
+  unfolding passesAt
   passes-in t k e h = rw e h
 
-  pub step-exact : (t : ℕ) (ks : List Config) (c : Config) → In c (stepConfigs g t ks) ↔ Steps g t ks c
+  pub step-exact : (t : ℕ) (ks : List Config) (c : Config) → In c (stepConfigs g t ks) ↔ StepsOver g t ks c
   unfolding stepConfigs
   step-exact t ks c = (out, back)
     where
-      out : In c (stepConfigs g t ks) → Steps g t ks c
+      out : In c (stepConfigs g t ks) → StepsOver g t ks c
       out m =
-          let u = in-map onward (keep (λ (d : Config). passes g t (facing g (d .place))) ks) m in
-          let v = keep-out (λ (d : Config). passes g t (facing g (d .place))) ks (u .1) in
+          let u = in-map onward (keep (λ (d : Config). passesAt g t (facing g (d .place))) ks) m in
+          let v = keep-out (λ (d : Config). passesAt g t (facing g (d .place))) ks (u .1) in
           let w = passes-out t (facing g (u .0 .place)) (v .1) in
           record { source = u .0; held = v .0; kind = w .0; faces = w .1; passes = w .2; is = u .2 }
 
-      back : Steps g t ks c → In c (stepConfigs g t ks)
+      back : StepsOver g t ks c → In c (stepConfigs g t ks)
       back x =
           Memᴰ·cast (x .is)
-          (map-in onward (keep-in (λ (d : Config). passes g t (facing g (d .place))) ks (x .held) (passes-in t (x .kind) (x .faces) (x .passes))))
+          (map-in onward (keep-in (λ (d : Config). passesAt g t (facing g (d .place))) ks (x .held) (passes-in t (x .kind) (x .faces) (x .passes))))

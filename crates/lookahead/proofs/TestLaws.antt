@@ -16,7 +16,7 @@ use Rattle.lookahead.specs.Configs.{Config, In}
 use Rattle.lookahead.specs.Closing.{sameList}
 use Rattle.lookahead.specs.Order.{pastEnd, token?, kept?}
 use Rattle.lookahead.specs.Outcomes.{rivals, conflicts, agreed, shared, settled}
-use Rattle.lookahead.specs.Rules.{Waits, faces, past}
+use Rattle.lookahead.specs.Rules.{ToKeep, faces, past}
 use Rattle.lookahead.proofs.ListLaws.{get-in, in-get}
 use Rattle.lookahead.proofs.AddLaws.{same-list, list-same}
 
@@ -48,15 +48,15 @@ token-out (Token k) t = (k, refl)
 token-out (Nonterminal a) t = absurd t
 token-out End t = absurd t
 
-pub waits-right : (g : Grammar) (c : Config) → T (kept? g c) ↔ Waits g c
+pub waits-right : (g : Grammar) (c : Config) → T (kept? g c) ↔ ToKeep g c
 unfolding kept?
 waits-right g c = (λ t. out (or-T (eqb (c .place) pastEnd) (token? (facing g (c .place))) t), back)
   where
-    out : T (eqb (c .place) pastEnd) ⊎ T (token? (facing g (c .place))) → Waits g c
+    out : T (eqb (c .place) pastEnd) ⊎ T (token? (facing g (c .place))) → ToKeep g c
     out (inl t) = past (eqb→eq (c .place) pastEnd t)
     out (inr t) = let h = token-out (facing g (c .place)) t in faces (h .0) (h .1)
 
-    back : Waits g c → T (eqb (c .place) pastEnd || token? (facing g (c .place)))
+    back : ToKeep g c → T (eqb (c .place) pastEnd || token? (facing g (c .place)))
     back (past e) = T-or-l (eqb (c .place) pastEnd) (token? (facing g (c .place))) (same-out (c .place) pastEnd e)
     back (faces k e) = T-or-r (eqb (c .place) pastEnd) (token? (facing g (c .place))) (rw e tt)
 

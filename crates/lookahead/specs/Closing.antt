@@ -1,4 +1,4 @@
--- The closure of some configurations, worked out by a worklist within document 01's limits.
+-- The closure of some configurations, worked out by a worklist within the scope's limits.
 use mathlib.Core.Bool.{Bool, true, false, _&&_, cond}
 use mathlib.Core.Option.{Option, none, some}
 use mathlib.Core.List.{List, [], _∷_, _++_}

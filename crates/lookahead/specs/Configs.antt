@@ -1,4 +1,4 @@
--- Configurations and the moves that close them (document 01, "What the cache learns"): once as the relation that the paper describes, once as a list
+-- Configurations and the moves that close them (the scope, "What the cache learns"): once as the relation that the scope describes, once as a list
 -- that is computed.
 use mathlib.Core.Path.{_≡_}
 use mathlib.Core.Bool.{Bool, false, cond}
@@ -11,6 +11,8 @@ use Rattle.grammar.specs.declared.Symbol.the-variants.{Token, Nonterminal, End}
 use Rattle.grammar.specs.declared.Place.{Place}
 use Rattle.grammar.specs.Limits.{endPlace}
 use Rattle.grammar.specs.Grammar.{Grammar, facing, owner, alternatives, first}
+use Prim.Native.Nat.{_<_}
+use lib.ListN.{length}
 
 -- an ATN configuration: a place, the alternative of the decision that led to it, and the return places over an unknown caller, innermost first
 pub record Config : Type 0 where
@@ -86,3 +88,7 @@ movesAt g c End = returned g c (c .stack)
 unfoldable pub moves : Grammar → Config → List Config
 unfolding movesAt facing
 moves g c = movesAt g c (facing g (c .place))
+
+-- a nonterminal of two or more productions
+abbrev pub Decides : Grammar → ℕ → Type 0
+Decides g a = 1 < length (alternatives g a)

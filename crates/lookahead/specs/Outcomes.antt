@@ -1,4 +1,4 @@
--- The outcome of a start or a step: document 01's rules 1 to 5, in order.
+-- The outcome of a start or a step: the scope's rules 1 to 5, in order.
 use mathlib.Core.Path.{_≡_}
 use mathlib.Core.Bool.{Bool, false, _&&_, not, cond}
 use mathlib.Core.Option.{none, some}
@@ -58,14 +58,14 @@ judged [] = full
 judged (k ∷ ks) = cond (agreed (k .alternative) ks) (alternative (k .alternative)) (resolved (k ∷ ks))
 
 -- rule 1 for the kept configurations, then the others
-unfoldable pub limited : List Config → Outcome
+unfoldable pub withinKept : List Config → Outcome
 unfolding judged
-limited ks = cond (ltb maxKept (length ks)) full (judged ks)
+withinKept ks = cond (ltb maxKept (length ks)) full (judged ks)
 
 -- the outcome of some configurations: rule 1 for the closed set, then the others
 unfoldable pub outcome : Grammar → List Config → Outcome
-unfolding close kept limited
-outcome g start = elim (close g start) [ none ↦ full | some ms ↦ limited (kept g ms) ]
+unfolding close kept withinKept
+outcome g start = elim (close g start) [ none ↦ full | some ms ↦ withinKept (kept g ms) ]
 
 -- ---- starts and steps
 -- these first places with an empty stack, the first of them alternative b
@@ -79,11 +79,11 @@ unfolding numbered alternatives
 startConfigs g a = numbered 1 (alternatives g a)
 
 -- token t passes where this symbol is called for
-unfoldable pub passes : Grammar → ℕ → Symbol → Bool
+unfoldable pub passesAt : Grammar → ℕ → Symbol → Bool
 unfolding admits
-passes g t (Token k) = admits g k t
-passes g t (Nonterminal a) = false
-passes g t End = false
+passesAt g t (Token k) = admits g k t
+passesAt g t (Nonterminal a) = false
+passesAt g t End = false
 
 -- one place on
 abbrev pub onward : Config → Config
@@ -91,8 +91,8 @@ onward c = config (suc (c .place)) (c .alternative) (c .stack)
 
 -- a step over token t: the kept configurations that face it, one place on
 unfoldable pub stepConfigs : Grammar → ℕ → List Config → List Config
-unfolding keep passes facing
-stepConfigs g t ks = map onward (keep (λ (c : Config). passes g t (facing g (c .place))) ks)
+unfolding keep passesAt facing
+stepConfigs g t ks = map onward (keep (λ (c : Config). passesAt g t (facing g (c .place))) ks)
 
 -- the outcome of the start of decision a
 unfoldable pub startOutcome : Grammar → ℕ → Outcome

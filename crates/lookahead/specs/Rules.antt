@@ -1,4 +1,4 @@
--- Document 01's five rules, told of the set that the moves reach: no computed test stands in them, and no order in which members were found.
+-- The scope's five rules, told of the set that the moves reach: no computed test stands in them, and no order in which members were found.
 use mathlib.Core.Path.{_≡_}
 use mathlib.Core.Logic.{_↔_}
 use mathlib.Core.Option.{some}
@@ -22,7 +22,7 @@ pub record Starts (g : Grammar) (a : ℕ) (c : Config) : Type 0 where
   pub is : c ≡ config begins number []
 
 -- a step over token t takes the configurations facing it, one place on
-pub record Steps (g : Grammar) (t : ℕ) (ks : List Config) (c : Config) : Type 0 where
+pub record StepsOver (g : Grammar) (t : ℕ) (ks : List Config) (c : Config) : Type 0 where
   pub source : Config
   pub held : In source ks
   pub kind : ℕ
@@ -54,13 +54,13 @@ pub data Over (g : Grammar) (start : List Config) : Type 0 where
   many : MoreThan maxMembers (Closes g start) → Over g start
 
 -- to be kept: facing a token or the end mark, or past the end mark
-pub data Waits (g : Grammar) (c : Config) : Type 0 where
-  faces : (k : ℕ) → facing g (c .place) ≡ Token k → Waits g c
-  past : c .place ≡ pastEnd → Waits g c
+pub data ToKeep (g : Grammar) (c : Config) : Type 0 where
+  faces : (k : ℕ) → facing g (c .place) ≡ Token k → ToKeep g c
+  past : c .place ≡ pastEnd → ToKeep g c
 
 -- kept of the closed set
 abbrev pub Keeps : Grammar → List Config → Config → Type 0
-Keeps g start c = Closes g start c × Waits g c
+Keeps g start c = Closes g start c × ToKeep g c
 
 -- rule 1, with more than 64 kept
 pub data TooLarge (g : Grammar) (start : List Config) : Type 0 where

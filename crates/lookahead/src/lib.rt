@@ -1,2 +1,2 @@
-// Nothing runs here: what lookahead learns of a grammar (document 01, "What the cache learns"), as definitions and laws. The crates above cite them:
+// Nothing runs here: what lookahead learns of a grammar (the scope, "What the cache learns"), as definitions and laws. The crates above cite them:
 // `configurations` and `closing` work on packed configurations, `learning` gives the outcomes.

@@ -13,12 +13,12 @@ use Rattle.base.proofs.Booleans.{clash}
 use Rattle.grammar.specs.declared.Symbol.{Symbol}
 use Rattle.grammar.specs.declared.Symbol.the-variants.{Token, Nonterminal, End}
 use Rattle.grammar.specs.Grammar.{Grammar, facing, admits, first}
-use Rattle.grammar.specs.Tables.{placeWords, grammarIn}
+use Rattle.grammar.specs.inside.Tables.{placeWords, grammarIn}
 use Rattle.grammar.proofs.WordLaws.{facing-past}
 use Rattle.derivation.specs.Runs.{marked}
-use Rattle.derivation.specs.Space.{frameWords}
+use Rattle.derivation.specs.inside.Frames.{frameWords}
 use Rattle.derivation.proofs.MarkedCells.{length-marked}
-use Rattle.machine.specs.Moves.{Moves, popped, matched, over, other, early, ToCall, ToStop, ToEnd, Advanced, Entered}
+use Rattle.machine.specs.inside.Moves.{MovesOn, popped, matched, over, other, early, ToCall, ToStop, ToEnd, Advanced, Entered}
 use Rattle.machine.specs.declared.steps.Turn.{Turn}
 use Rattle.machine.specs.declared.steps.At.{At}
 
@@ -32,18 +32,18 @@ no-token (y ∷ v) (suc i) l = no-token v i (omega arith)
 pub place-small : (t : List ℕ) (p : ℕ) {s : Symbol} → facing (grammarIn t) p ≡ s → (s ≡ End → ⊥) → p < placeWords
 place-small t p e n = elim (decLt p placeWords) [ yes l ↦ l | no l ↦ absurd (n (sym e ∙ facing-past t p (omega arith))) ]
 
-module _ {g : Grammar} (w : List ℕ) {ws : List ℕ} {base p₀ d₀ i₀ p d i : ℕ} (x : Moves g (marked w) ws base p₀ d₀ i₀ p d i) where
+module _ {g : Grammar} (w : List ℕ) {ws : List ℕ} {base p₀ d₀ i₀ p d i : ℕ} (x : MovesOn g (marked w) ws base p₀ d₀ i₀ p d i) where
   -- ---- turns
   pub turn-pop : {r : ℕ} → facing g p ≡ End → (d ≡ 0 → ⊥) → r ≡ getD ws (base + frameWords * (d - 1)) 0
-      → Moves g (marked w) ws base p₀ d₀ i₀ r (d - 1) i
+      → MovesOn g (marked w) ws base p₀ d₀ i₀ r (d - 1) i
   turn-pop {r} e n q = go d refl x
     where
-      go : (k : ℕ) → d ≡ k → Moves g (marked w) ws base p₀ d₀ i₀ p k i → Moves g (marked w) ws base p₀ d₀ i₀ r (d - 1) i
+      go : (k : ℕ) → d ≡ k → MovesOn g (marked w) ws base p₀ d₀ i₀ p k i → MovesOn g (marked w) ws base p₀ d₀ i₀ r (d - 1) i
       go zero z y = absurd (n z)
       go (suc k) z y = let u : d - 1 ≡ k = omega arith in rw (q, u) (popped y e)
 
   pub turn-match : {k u : ℕ} {b : Bool} → facing g p ≡ Token k → getElem? (marked w) i ≡ some u → b ≡ admits g k u → not b ≡ false
-      → Moves g (marked w) ws base p₀ d₀ i₀ (p + 1) d (i + 1)
+      → MovesOn g (marked w) ws base p₀ d₀ i₀ (p + 1) d (i + 1)
   turn-match {k} {u} {b} e f q n = rw (add-one p, add-one i) (matched x e f (go b q n))
     where
       go : (b : Bool) → b ≡ admits g k u → not b ≡ false → T (admits g k u)

@@ -13,17 +13,18 @@ use Rattle.base.specs.Search.{lowestFrom, LowestIs, this, nothing}
 use Rattle.base.proofs.Booleans.{clash}
 use Rattle.base.proofs.Lowest as search
 use Rattle.grammar.specs.Grammar.{alternatives, first}
-use Rattle.grammar.specs.Tables.{cornersAt, grammarIn, nonterminalsIn, ruleAt}
+use Rattle.grammar.specs.inside.Tables.{cornersAt, grammarIn, nonterminalsIn, ruleAt}
 use Rattle.grammar.proofs.GrammarLaws.{first-below}
 use Rattle.grammar.proofs.WordLaws.{length-starts-in}
 use Rattle.derivation.specs.Runs.{marked}
-use Rattle.derivation.specs.Machine.{Serves, lowest}
-use Rattle.derivation.specs.Ready.{Ready}
+use Rattle.derivation.specs.Machine.{lowest}
+use Rattle.derivation.specs.Runs.{Serves}
+use Rattle.derivation.specs.inside.Ready.{Ready}
 use Rattle.derivation.proofs.Notes.{get-lt}
 use Rattle.derivation.proofs.LowestLaws.{lowest-serves}
 use Rattle.derivation.proofs.FirstLaws.{rule-within, rules-are, first-at}
-use Rattle.machine.specs.Choice.{endsIn, orZero, lowestIn}
-use Rattle.machine.specs.Space.{Named}
+use Rattle.machine.specs.inside.Choice.{endsIn, orZero, lowestIn}
+use Rattle.machine.specs.inside.Space.{Named}
 
 -- ---- alternatives in the tables
 module _ (t : List ℕ) (h : Ready t) (a b : ℕ) (named : Named t a b) where

@@ -5,21 +5,21 @@ use Prim.Native.Nat.{ℕ, zero, suc, _+_, _-_, _*_, _≤_, _<_}
 use native.Mathlib.Omega.{arith}
 use lib.ListN.{length}
 use Rattle.base.proofs.Booleans.{clash}
-use Rattle.grammar.specs.Tables.{grammarIn}
-use Rattle.positions.specs.Positions.{emptySet, withOf}
-use Rattle.positions.specs.Words.{setAt}
+use Rattle.grammar.specs.inside.Tables.{grammarIn}
+use Rattle.positions.specs.inside.Positions.{emptySet, withOf}
+use Rattle.positions.specs.inside.Words.{setAt}
 use Rattle.positions.proofs.SetLaws.{Fit}
 use Rattle.derivation.specs.Runs.{marked}
 use Rattle.derivation.specs.Machine.{lowest}
-use Rattle.derivation.specs.Space.{frameWords, returnsOf}
-use Rattle.derivation.specs.Ready.{Ready}
+use Rattle.derivation.specs.inside.Frames.{frameWords, returnsOf}
+use Rattle.derivation.specs.inside.Ready.{Ready}
 use Rattle.derivation.proofs.ReadyLaws.{ready-first}
 use Rattle.derivation.proofs.MarkedCells.{derives-inside}
-use Rattle.cells.specs.Chart.{Lent, LentAt, EndsOf}
-use Rattle.machine.specs.Frames.{EveryFrame, Serving, pushOf}
-use Rattle.machine.specs.Choice.{Leading, orZero, lowestIn}
-use Rattle.machine.specs.Space.{Named, pushIf, ground, opened}
-use Rattle.machine.specs.Waits.{Waits, begins, called, Calling, Choosing, Called}
+use Rattle.cells.specs.inside.Chart.{Lent, LentAt, EndsOf}
+use Rattle.machine.specs.inside.Frames.{EveryFrame, Serving, pushOf}
+use Rattle.machine.specs.inside.Choice.{Leading, orZero, lowestIn}
+use Rattle.machine.specs.inside.Space.{Named, pushIf, ground, opened}
+use Rattle.machine.specs.inside.Waits.{Waits, begins, called, Calling, Choosing, Called}
 use Rattle.machine.specs.declared.steps.At.{At}
 use Rattle.machine.specs.declared.steps.Space.{Space}
 use Rattle.machine.proofs.ServingLaws.{lowest-is, serving-end, serving-over}
@@ -58,18 +58,18 @@ module _ (t w ws : List ℕ) (fit : Fit ws) (space : Space) (at : At) (a : ℕ) 
       }
 
   -- the set s says from where what stays open derives the rest
-  abbrev pub Right : List ℕ → Type 0
-  Right s = Serving (grammarIn t) (marked w) (returnsOf ws (ground t w) (at .depth)) (at .place) a (at .position) s
+  abbrev pub RightChoice : List ℕ → Type 0
+  RightChoice s = Serving (grammarIn t) (marked w) (returnsOf ws (ground t w) (at .depth)) (at .place) a (at .position) s
 
   -- ---- the set is right: of the end place, and of a return place over frames
-  pub ahead-end : {e s : List ℕ} → at .depth ≡ 0 → e ≡ emptySet → s ≡ withOf e (length w) → Right s
+  pub ahead-end : {e s : List ℕ} → at .depth ≡ 0 → e ≡ emptySet → s ≡ withOf e (length w) → RightChoice s
   unfolding returnsOf
   ahead-end z m n =
       let (y, u, v) = waits-first t (x .ready) w (x .waits) z in
       rw (z, y, u, v, n, m) (serving-end t (x .ready) w ws (x .charted) (x .lent .short) fit 0 (omega arith))
 
   pub ahead-over : (ends rest s : List ℕ) → (at .depth ≡ 0 → ⊥) → EndsOf t ws a (at .position) ends
-      → rest ≡ setAt ws (space .base + frameWords * (at .depth - 1) + 1) → Leading (space .places) ws (length w) ends (at .place) rest s → Right s
+      → rest ≡ setAt ws (space .base + frameWords * (at .depth - 1) + 1) → Leading (space .places) ws (length w) ends (at .place) rest s → RightChoice s
   ahead-over ends rest s n e c l = go (x .waits) (at .depth) refl
     where
       c′ : rest ≡ setAt ws (ground t w + frameWords * (at .depth - 1) + 1)
@@ -78,7 +78,7 @@ module _ (t w ws : List ℕ) (fit : Fit ws) (space : Space) (at : At) (a : ℕ) 
       l′ : Leading (grammarIn t .size) ws (length w) ends (at .place) rest s
       l′ = rw (x .spaced .places) at l
 
-      go : Waits t w ws EveryFrame (at .depth) (at .place) a (at .position) → (k : ℕ) → at .depth ≡ k → Right s
+      go : Waits t w ws EveryFrame (at .depth) (at .place) a (at .position) → (k : ℕ) → at .depth ≡ k → RightChoice s
       go (begins z y u v) k j = absurd (n z)
       go (called p y f held good) zero j = absurd (n j)
       go (called p y f held good) (suc k) j =
@@ -87,7 +87,7 @@ module _ (t w ws : List ℕ) (fit : Fit ws) (space : Space) (at : At) (a : ℕ) 
           (rw j at good) e (rw i at c′) (rw y at l′))
 
   -- ---- what the choice leaves
-  module _ (s : List ℕ) {r : ℕ} (right : Right s) (e : r ≡ lowestIn t ws a (at .position) s) where
+  module _ (s : List ℕ) {r : ℕ} (right : RightChoice s) (e : r ≡ lowestIn t ws a (at .position) s) where
     chosen-is : r ≡ orZero (lowest (grammarIn t) (marked w) (opened t w ws (at .depth) (at .place)) a (at .position))
     chosen-is =
         e ∙ lowest-is t (x .ready) w ws (x .charted) (x .lent .short) fit (returnsOf ws (ground t w) (at .depth)) (at .place) a (at .position) s

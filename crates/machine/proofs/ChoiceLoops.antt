@@ -16,14 +16,14 @@ use Rattle.base.proofs.Bits.{same?}
 use Rattle.base.proofs.Booleans.{or-none, or-true}
 use Rattle.base.proofs.Lowest.{lowest-none, lowest-hit, lowest-miss}
 use Rattle.grammar.specs.Grammar.{alternatives, first}
-use Rattle.grammar.specs.Tables.{grammarIn, nonterminalsIn, ruleAt}
-use Rattle.positions.specs.Positions.{positionCount, emptySet, member, withOf, meetsOf, NextOf}
-use Rattle.positions.specs.Words.{setAt}
+use Rattle.grammar.specs.inside.Tables.{grammarIn, nonterminalsIn, ruleAt}
+use Rattle.positions.specs.inside.Positions.{positionCount, emptySet, member, withOf, meetsOf, NextOf}
+use Rattle.positions.specs.inside.Words.{setAt}
 use Rattle.positions.proofs.SetLaws.{member-empty, member-with, length-with}
-use Rattle.derivation.specs.Ready.{Ready}
-use Rattle.cells.specs.Chart.{spot}
+use Rattle.derivation.specs.inside.Ready.{Ready}
+use Rattle.cells.specs.inside.Chart.{spot}
 use Rattle.derivation.proofs.FirstLaws.{rule-within, rules-are, first-at}
-use Rattle.machine.specs.Choice.{Leading, endsIn, orZero, lowestIn}
+use Rattle.machine.specs.inside.Choice.{Leading, endsIn, orZero, lowestIn}
 
 -- ---- over the members of `ends`: m is the next one, r what was kept before it
 module _ (P : ℕ) (ws : List ℕ) (n : ℕ) (ends : List ℕ) (q : ℕ) (rest : List ℕ) where
@@ -96,9 +96,6 @@ module _ (t ws : List ℕ) (a i : ℕ) (s : List ℕ) where
 
   pub Seeking : ℕ → ℕ → ℕ → Type 0
   Seeking from to k = lowestFrom test (suc (k - from)) (to - k) ≡ lowestFrom test 0 (suc (length (alternatives (grammarIn t) a)))
-
-  pub seeking-at : (from to k k′ : ℕ) → k ≡ k′ → Seeking from to k → Seeking from to k′
-  seeking-at from to k k′ e x = rw e at x
 
   module _ (h : Ready t) (named : a < nonterminalsIn t) {from to : ℕ} (p : from ≡ ruleAt t a) (q : to ≡ ruleAt t (a + 1)) where
     pub seeking-begins : Seeking from to from

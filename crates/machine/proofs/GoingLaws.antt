@@ -10,17 +10,17 @@ use lib.ListN.{length, getD, take, set, length-set}
 use Rattle.grammar.specs.Limits.{endPlace}
 use Rattle.grammar.specs.declared.Symbol.the-variants.{End}
 use Rattle.grammar.specs.Grammar.{Grammar, facing, first}
-use Rattle.grammar.specs.Tables.{grammarIn}
+use Rattle.grammar.specs.inside.Tables.{grammarIn}
 use Rattle.derivation.specs.Runs.{marked}
-use Rattle.derivation.specs.Machine.{Chooser, Outcome, accepted, stuck, full, after, Ended, ended, beyond, prefixed, run, runCall, reading}
-use Rattle.derivation.specs.Choosers.{names, thence}
-use Rattle.derivation.specs.Space.{frameWords, returnsOf}
+use Rattle.derivation.specs.Machine.{Chooser, Conclusion, accepted, stuck, full, after, Ended, ended, beyond, prefixed, run, runCall, reading}
+use Rattle.derivation.specs.inside.Choosers.{names, thence}
+use Rattle.derivation.specs.inside.Frames.{frameWords, returnsOf}
 use Rattle.derivation.proofs.Notes.{get-lt}
 use Rattle.derivation.proofs.MachineSteps.{after-accepted, after-stuck, after-full, beyond-entry, run-end, run-match, run-none, run-other, run-calls}
 use Rattle.derivation.proofs.MachineSteps.{call-full, call-unserved, call-pick, run-nothing, run-left}
-use Rattle.machine.specs.Space.{ground, opened}
-use Rattle.machine.specs.Moves.{Moves, stay, popped, matched, Dead, over, other, early, ToCall, ToStop, ToEnd, Advanced, Entered}
-use Rattle.machine.specs.Going.{callSteps, Going}
+use Rattle.machine.specs.inside.Space.{ground, opened}
+use Rattle.machine.specs.inside.Moves.{MovesOn, stay, popped, matched, Dead, over, other, early, ToCall, ToStop, ToEnd, Advanced, Entered}
+use Rattle.machine.specs.inside.Going.{callSteps, Going}
 use Rattle.machine.specs.declared.steps.At.{At}
 use Rattle.machine.specs.declared.steps.Turn.{Turn}
 use Rattle.machine.specs.declared.steps.Turn.the-variants.{Calls, Stuck, Ended as Over}
@@ -28,21 +28,21 @@ use Rattle.machine.specs.declared.steps.Turn.the-variants.{Calls, Stuck,
 -- ---- outcomes behind the alternatives that the row holds
 module _ {C : Type 0} (l : List ℕ) (c : C) where
   beyond-stuck : beyond l (ended stuck c) ≡ ended stuck c
-  beyond-stuck = ap (λ (o : Outcome). ended o c) (after-stuck l)
+  beyond-stuck = ap (λ (o : Conclusion). ended o c) (after-stuck l)
 
   beyond-full : beyond l (ended full c) ≡ ended full c
-  beyond-full = ap (λ (o : Outcome). ended o c) (after-full l)
+  beyond-full = ap (λ (o : Conclusion). ended o c) (after-full l)
 
   beyond-accepted : beyond l (ended (accepted []) c) ≡ ended (accepted l) c
-  beyond-accepted = ap (λ (o : Outcome). ended o c) (after-accepted l)
+  beyond-accepted = ap (λ (o : Conclusion). ended o c) (after-accepted l)
 
 -- ---- moves that need no choice are steps of the machine, one each
 module _ {C : Type 0} (g : Grammar) (w : List ℕ) (choose : Chooser C) (ws : List ℕ) (base room : ℕ) (c : C) where
   -- from place p over d frames at position i, with steps that are enough
-  abbrev onward : ℕ → ℕ → ℕ → Ended C
-  onward p d i = run g w choose (suc (callSteps w room (p ∷ returnsOf ws base d) i)) (p ∷ returnsOf ws base d) i room c
+  abbrev runFrom : ℕ → ℕ → ℕ → Ended C
+  runFrom p d i = run g w choose (suc (callSteps w room (p ∷ returnsOf ws base d) i)) (p ∷ returnsOf ws base d) i room c
 
-  pub moves-run : {p₀ d₀ i₀ p d i : ℕ} → Moves g w ws base p₀ d₀ i₀ p d i → onward p₀ d₀ i₀ ≡ onward p d i
+  pub moves-run : {p₀ d₀ i₀ p d i : ℕ} → MovesOn g w ws base p₀ d₀ i₀ p d i → runFrom p₀ d₀ i₀ ≡ runFrom p d i
   unfolding returnsOf
   moves-run stay = refl
   moves-run (popped {p = p} {d = d} {i = i} x e) =
@@ -56,13 +56,13 @@ module _ {C : Type 0} (g : Grammar) (w : List ℕ) (choose : Chooser C) (ws : Li
       moves-run x
       ∙ (run-match g w choose (callSteps w room (p ∷ S) i) p S i room c e f a ∙ ap (λ (k : ℕ). run g w choose k (suc p ∷ S) (suc i) room c) z)
 
-  dead-run : {p d i : ℕ} → Dead g w p d i → onward p d i ≡ ended stuck c
+  dead-run : {p d i : ℕ} → Dead g w p d i → runFrom p d i ≡ ended stuck c
   unfolding returnsOf
   dead-run {p} {d} {i} (over e f) = run-none g w choose (callSteps w room (p ∷ returnsOf ws base d) i) p (returnsOf ws base d) i room c e f
   dead-run {p} {d} {i} (other e f a) = run-other g w choose (callSteps w room (p ∷ returnsOf ws base d) i) p (returnsOf ws base d) i room c e f a
   dead-run {p} {d} {i} (early e z n) = rw z (left e n)
     where
-      left : facing g p ≡ End → ¬ (i ≡ length w) → onward p 0 i ≡ ended stuck c
+      left : facing g p ≡ End → ¬ (i ≡ length w) → runFrom p 0 i ≡ ended stuck c
       left e n =
           let y : callSteps w room (p ∷ []) i ≡ suc (2 * room + (length w - i)) = omega arith in
           run-end g w choose (callSteps w room (p ∷ []) i) p [] i room c e
@@ -71,17 +71,17 @@ module _ {C : Type 0} (g : Grammar) (w : List ℕ) (choose : Chooser C) (ws : Li
   -- where the moves lead to
   module _ {p₀ d₀ i₀ : ℕ} where
     to-call : {q d i a : ℕ} → ToCall g w ws base p₀ d₀ i₀ q d i a
-        → onward p₀ d₀ i₀ ≡ runCall g w choose (callSteps w room (q ∷ returnsOf ws base d) i) (q ∷ returnsOf ws base d) a i room c
+        → runFrom p₀ d₀ i₀ ≡ runCall g w choose (callSteps w room (q ∷ returnsOf ws base d) i) (q ∷ returnsOf ws base d) a i room c
     to-call {q} {d} {i} {a} to =
         let S : List ℕ = returnsOf ws base d in
         moves-run (to .moves)
         ∙ (run-calls g w choose (callSteps w room (to .place ∷ S) i) (to .place) S i room c (to .faces)
         ∙ ap (λ (q : ℕ). runCall g w choose (callSteps w room (q ∷ S) i) (q ∷ S) a i room c) (sym (to .behind)))
 
-    to-stop : ToStop g w ws base p₀ d₀ i₀ → onward p₀ d₀ i₀ ≡ ended stuck c
+    to-stop : ToStop g w ws base p₀ d₀ i₀ → runFrom p₀ d₀ i₀ ≡ ended stuck c
     to-stop to = moves-run (to .moves) ∙ dead-run (to .dead)
 
-    to-end : ToEnd g w ws base p₀ d₀ i₀ → onward p₀ d₀ i₀ ≡ ended (accepted []) c
+    to-end : ToEnd g w ws base p₀ d₀ i₀ → runFrom p₀ d₀ i₀ ≡ ended (accepted []) c
     unfolding returnsOf
     to-end to =
         let p = to .place in

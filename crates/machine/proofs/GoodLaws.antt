@@ -9,15 +9,15 @@ use lib.ListN.{length, getD, getElem?}
 use Rattle.base.specs.Bits.{testBit}
 use Rattle.grammar.specs.declared.Symbol.the-variants.{Token, Nonterminal, End}
 use Rattle.grammar.specs.Grammar.{Grammar, facing, admits, first}
-use Rattle.positions.specs.Positions.{positionCount}
-use Rattle.positions.specs.Words.{memberAt}
-use Rattle.derivation.specs.Runs.{Der}
+use Rattle.positions.specs.inside.Positions.{positionCount}
+use Rattle.positions.specs.inside.Words.{memberAt}
+use Rattle.derivation.specs.inside.BigSteps.{Der}
 use Rattle.derivation.specs.Cells.{derives?, runs?}
-use Rattle.derivation.specs.Space.{frameWords, returnsOf, Pushed}
+use Rattle.derivation.specs.inside.Frames.{frameWords, returnsOf, Pushed}
 use Rattle.derivation.proofs.CellLaws.{derives-sound, derives-complete}
 use Rattle.derivation.proofs.RunLaws.{der-in}
 use Rattle.derivation.proofs.FrameWords.{returns-same, pushed-returns}
-use Rattle.machine.specs.Frames.{frameHas, Good}
+use Rattle.machine.specs.inside.Frames.{frameHas, Good}
 
 module _ (g : Grammar) (w : List ℕ) (base : ℕ) where
   derives-end : (p i : ℕ) → facing g p ≡ End → i ≤ length w → T (derives? g w p i i)

@@ -9,37 +9,38 @@ use lib.ListN.{length}
 use Rattle.base.proofs.Booleans.{clash}
 use Rattle.grammar.specs.declared.Symbol.the-variants.{Nonterminal}
 use Rattle.grammar.specs.Limits.{endPlace}
-use Rattle.grammar.specs.Grammar.{Grammar, facing, first}
-use Rattle.grammar.specs.Tables.{grammarIn}
+use Rattle.grammar.specs.Grammar.{Grammar, facing, first, ofPlaces}
+use Rattle.grammar.specs.inside.Tables.{grammarIn}
 use Rattle.closures.specs.Textbook.{LeftRecursive}
 use Rattle.derivation.specs.Runs.{marked}
-use Rattle.derivation.specs.Steps.{Quiet, Reads}
-use Rattle.derivation.specs.Space.{frameWords, spareWords}
-use Rattle.derivation.specs.Ready.{Ready}
-use Rattle.derivation.proofs.Entries.{Open, Below}
+use Rattle.derivation.specs.inside.Steps.{Quiet, Reads}
+use Rattle.derivation.specs.inside.Frames.{frameWords, spareWords}
+use Rattle.derivation.specs.inside.Ready.{Ready}
+use Rattle.derivation.specs.inside.Entries.{Open, Below}
 use Rattle.derivation.proofs.CompiledDepth.{end-quiet, compile-reads}
-use Rattle.derivation.proofs.FrameWords.{Held, held-pop, held-match, held-room, room, returns-length}
+use Rattle.derivation.proofs.FrameWords.{held-pop, held-match, held-room, room, returns-length}
+use Rattle.derivation.specs.inside.Entries.{FramesOpen}
 use Rattle.derivation.proofs.Notes.{get-lt}
 use Rattle.derivation.proofs.ReadyLaws.{ready-ordered, ready-call}
-use Rattle.cells.specs.Chart.{Lent}
-use Rattle.machine.specs.Frames.{Good}
-use Rattle.machine.specs.Space.{ground}
-use Rattle.machine.specs.Moves.{Moves, stay, popped, matched}
+use Rattle.cells.specs.inside.Chart.{Lent}
+use Rattle.machine.specs.inside.Frames.{Good}
+use Rattle.machine.specs.inside.Space.{ground}
+use Rattle.machine.specs.inside.Moves.{MovesOn, stay, popped, matched}
 use Rattle.machine.proofs.GoodLaws.{good-match, good-pop}
 
 -- ---- frames are only left, positions only passed
 module _ {g : Grammar} {w ws : List ℕ} {base p₀ d₀ i₀ : ℕ} where
-  pub moves-depth : {p d i : ℕ} → Moves g w ws base p₀ d₀ i₀ p d i → d ≤ d₀
+  pub moves-depth : {p d i : ℕ} → MovesOn g w ws base p₀ d₀ i₀ p d i → d ≤ d₀
   moves-depth stay = omega arith
   moves-depth (popped {d = d} x e) = let l = moves-depth x in omega arith
   moves-depth (matched x e f a) = moves-depth x
 
-  pub moves-position : {p d i : ℕ} → Moves g w ws base p₀ d₀ i₀ p d i → i₀ ≤ length w → i ≤ length w
+  pub moves-position : {p d i : ℕ} → MovesOn g w ws base p₀ d₀ i₀ p d i → i₀ ≤ length w → i ≤ length w
   moves-position stay h = h
   moves-position (popped x e) h = moves-position x h
   moves-position (matched {i = i} x e f a) h = let l = get-lt w i f in omega arith
 
-  pub moves-good : {p d i : ℕ} (K : ℕ → Type 0) → Moves g w ws base p₀ d₀ i₀ p d i → i₀ ≤ length w → Good g w ws base K d₀ p₀ i₀
+  pub moves-good : {p d i : ℕ} (K : ℕ → Type 0) → MovesOn g w ws base p₀ d₀ i₀ p d i → i₀ ≤ length w → Good g w ws base K d₀ p₀ i₀
       → Good g w ws base K d p i
   moves-good K stay l h = h
   moves-good K (popped {p = p} {d = d} {i = i} x e) l h = good-pop g w base ws K d p i e (moves-position x l) (moves-good K x l h)
@@ -66,15 +67,15 @@ module _ (t : List ℕ) (h : Ready t) (w : List ℕ) where
   pub reads : Reads (grammarIn t) (marked w) (length w)
   reads = rw (h .says) (compile-reads (h .rules) (h .limited) w)
 
-  straight : (a : ℕ) → ¬ LeftRecursive (grammarIn t) a
+  straight : (a : ℕ) → ¬ LeftRecursive (ofPlaces (grammarIn t)) a
   straight = rw (h .says) (h .straight)
 
   pub quiet : Quiet (grammarIn t) (endPlace ∷ [])
   quiet = end-quiet (grammarIn t) (ready-ordered t h)
 
   -- ---- moves keep the frames
-  pub moves-held : {ws : List ℕ} {base p₀ d₀ i₀ p d i : ℕ} → Moves (grammarIn t) (marked w) ws base p₀ d₀ i₀ p d i
-      → Held (grammarIn t) (endPlace ∷ []) (length w) ws base d₀ p₀ i₀ → Held (grammarIn t) (endPlace ∷ []) (length w) ws base d p i
+  pub moves-held : {ws : List ℕ} {base p₀ d₀ i₀ p d i : ℕ} → MovesOn (grammarIn t) (marked w) ws base p₀ d₀ i₀ p d i
+      → FramesOpen (grammarIn t) (endPlace ∷ []) (length w) ws base d₀ p₀ i₀ → FramesOpen (grammarIn t) (endPlace ∷ []) (length w) ws base d p i
   moves-held stay x = x
   moves-held {ws} {base} (popped {d = d} m e) x =
       held-pop (grammarIn t) (ready-ordered t h) (marked w) (length w) reads (endPlace ∷ []) quiet base ws d e (moves-held m x)
@@ -83,7 +84,7 @@ module _ (t : List ℕ) (h : Ready t) (w : List ℕ) where
 
   -- ---- the frames have room
   module _ (ws : List ℕ) (lent : Lent (grammarIn t .size) (length w) ws) (d p i : ℕ)
-      (held : Held (grammarIn t) (endPlace ∷ []) (length w) ws (ground t w) d p i) where
+      (held : FramesOpen (grammarIn t) (endPlace ∷ []) (length w) ws (ground t w) d p i) where
     pub frames-in : ground t w + frameWords * d + spareWords ≤ length ws
     frames-in =
         let z = room straight (ready-ordered t h) (grammarIn t .size) (ready-call t h) held (omega arith) (lent .short) in

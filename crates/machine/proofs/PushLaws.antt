@@ -7,14 +7,14 @@ use native.Mathlib.Omega.{arith}
 use lib.ListN.{length, getD, set, length-set}
 use lib.Seq.{getD-set-same, getD-set-other}
 use Rattle.base.specs.Bits.{testBit}
-use Rattle.grammar.specs.Tables.{grammarIn}
-use Rattle.positions.specs.Positions.{positionCount, member}
-use Rattle.positions.specs.Words.{memberAt, putAt}
+use Rattle.grammar.specs.inside.Tables.{grammarIn}
+use Rattle.positions.specs.inside.Positions.{positionCount, member}
+use Rattle.positions.specs.inside.Words.{memberAt, putAt}
 use Rattle.positions.proofs.WordLaws.{length-put, put-word, put-same}
-use Rattle.derivation.specs.Space.{frameWords, Pushed}
+use Rattle.derivation.specs.inside.Frames.{frameWords, Pushed}
 use Rattle.cells.proofs.Spots.{spot-below}
-use Rattle.cells.specs.Chart.{spot, cellsEnd, cellHas, ChartedFrom, Charted}
-use Rattle.machine.specs.Frames.{frameHas, pushOf}
+use Rattle.cells.specs.inside.Chart.{spot, cellsEnd, cellHas, ChartedFrom, Charted}
+use Rattle.machine.specs.inside.Frames.{frameHas, pushOf}
 
 -- words that agree below the frames have the same cells
 pub low-charted : (t w ws vs : List ℕ) → ((j : ℕ) → j < cellsEnd (grammarIn t .size) (length w) → getD vs j 0 ≡ getD ws j 0) → Charted t w ws

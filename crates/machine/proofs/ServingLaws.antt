@@ -13,24 +13,25 @@ use Rattle.base.proofs.Lowest.{lowest-same}
 use Rattle.grammar.specs.declared.Symbol.the-variants.{Nonterminal}
 use Rattle.grammar.specs.Limits.{endPlace, endMark}
 use Rattle.grammar.specs.Grammar.{Grammar, facing, alternatives, first}
-use Rattle.grammar.specs.Tables.{grammarIn}
+use Rattle.grammar.specs.inside.Tables.{grammarIn}
 use Rattle.grammar.proofs.GrammarLaws.{first-pos, admits-self}
-use Rattle.positions.specs.Positions.{member, emptySet, withOf, meetsOf}
-use Rattle.positions.specs.Words.{setAt}
+use Rattle.positions.specs.inside.Positions.{member, emptySet, withOf, meetsOf}
+use Rattle.positions.specs.inside.Words.{setAt}
 use Rattle.positions.proofs.SetLaws.{Fit, meets-out, meets-in, member-with, member-empty}
 use Rattle.positions.proofs.WordLaws.{member-set, fit-at}
 use Rattle.derivation.specs.Runs.{Run, marked}
 use Rattle.derivation.specs.Cells.{cuts, derives?, runs?}
 use Rattle.derivation.specs.Machine.{serves?, lowest}
-use Rattle.derivation.specs.Space.{maxTokens, frameWords, returnsOf}
-use Rattle.derivation.specs.Ready.{Ready}
+use Rattle.derivation.specs.Space.{maxTokens}
+use Rattle.derivation.specs.inside.Frames.{frameWords, returnsOf}
+use Rattle.derivation.specs.inside.Ready.{Ready}
 use Rattle.derivation.proofs.CellLaws.{derives-sound, runs-iff}
 use Rattle.derivation.proofs.RunLaws.{der-le, der-in, run-token, run-end, run-empty}
 use Rattle.derivation.proofs.ReadyLaws.{ready-first, ready-next, ready-call, ready-ordered}
 use Rattle.derivation.proofs.MarkedCells.{length-marked, get-mark, derives-inside, derives-marked}
-use Rattle.cells.specs.Chart.{spot, cellHas, ChartedFrom, Charted, EndsOf}
-use Rattle.machine.specs.Frames.{frameHas, EveryFrame, Good, Serving}
-use Rattle.machine.specs.Choice.{Leading, endsIn, orZero, lowestIn}
+use Rattle.cells.specs.inside.Chart.{spot, cellHas, ChartedFrom, Charted, EndsOf}
+use Rattle.machine.specs.inside.Frames.{frameHas, EveryFrame, Good, Serving}
+use Rattle.machine.specs.inside.Choice.{Leading, endsIn, orZero, lowestIn}
 use Rattle.machine.proofs.GoodLaws.{derives-call}
 
 -- ---- the end place

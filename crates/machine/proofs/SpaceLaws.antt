@@ -6,11 +6,11 @@ use native.Mathlib.Nat.{mul-comm}
 use native.Mathlib.Numerals.{add-one}
 use native.Mathlib.Omega.{arith}
 use lib.ListN.{length}
-use Rattle.grammar.specs.Tables.{grammarIn}
+use Rattle.grammar.specs.inside.Tables.{grammarIn}
 use Rattle.derivation.specs.Space.{maxTokens}
-use Rattle.derivation.specs.Ready.{Ready}
+use Rattle.derivation.specs.inside.Ready.{Ready}
 use Rattle.gate.proofs.PassingLaws.{space-small}
-use Rattle.machine.specs.Space.{Spaced}
+use Rattle.machine.specs.inside.Space.{Spaced}
 
 pub cells-small : (t w : List ℕ) → Ready t → {P : ℕ} → P ≡ grammarIn t .size → length w ≤ maxTokens → (length w + 1) * P ≤ 32895
 cells-small t w h {P} e l = omega (arith, mul-comm P (length w + 1), space-small t w h e l)

@@ -10,22 +10,23 @@ use lib.ListN.{length}
 use Rattle.base.proofs.Booleans.{clash}
 use Rattle.grammar.specs.Limits.{endPlace}
 use Rattle.grammar.specs.Grammar.{Grammar, first, compile}
-use Rattle.grammar.specs.Tables.{grammarIn, nonterminalsIn}
+use Rattle.grammar.specs.inside.Tables.{grammarIn, nonterminalsIn}
 use Rattle.grammar.proofs.WordLaws.{length-starts-in}
 use Rattle.grammar.proofs.PlaceLaws.{length-startsAll}
 use Rattle.derivation.specs.Runs.{marked}
 use Rattle.derivation.specs.Cells.{derives?, runs?}
-use Rattle.derivation.specs.Space.{frameWords, spareWords, returnsOf, Pushed}
-use Rattle.derivation.specs.Ready.{Ready}
+use Rattle.derivation.specs.inside.Frames.{frameWords, spareWords, returnsOf, Pushed}
+use Rattle.derivation.specs.inside.Ready.{Ready}
 use Rattle.derivation.proofs.Entries.{open-start}
-use Rattle.derivation.proofs.FrameWords.{Held, held-pick, pushed-returns}
+use Rattle.derivation.proofs.FrameWords.{held-pick, pushed-returns}
+use Rattle.derivation.specs.inside.Entries.{FramesOpen}
 use Rattle.derivation.proofs.ReadyLaws.{ready-ordered, ready-size, ready-call, ready-next}
 use Rattle.derivation.proofs.MarkedCells.{length-marked}
-use Rattle.cells.specs.Chart.{Lent}
-use Rattle.machine.specs.Frames.{frameHas, Good}
-use Rattle.machine.specs.Space.{Roomy, ground, opened}
-use Rattle.machine.specs.Moves.{ToCall}
-use Rattle.machine.specs.Waits.{Waits, begins, called}
+use Rattle.cells.specs.inside.Chart.{Lent}
+use Rattle.machine.specs.inside.Frames.{frameHas, Good}
+use Rattle.machine.specs.inside.Space.{Roomy, ground, opened}
+use Rattle.machine.specs.inside.Moves.{ToCall}
+use Rattle.machine.specs.inside.Waits.{Waits, begins, called}
 use Rattle.machine.proofs.GoodLaws.{good-fewer, good-push}
 use Rattle.machine.proofs.MoveLaws.{moves-good, moves-held, open-calls, reads, quiet, frames-in, frame-room}
 
@@ -86,7 +87,7 @@ module _ (t : List ℕ) (h : Ready t) (w : List ℕ) {ws : List ℕ} {K : ℕ �
 
   -- ---- alternative b is entered: vs is the working space with q as frame d, whose set is looked at only if it is to stand
   module _ (vs : List ℕ) (b f : ℕ) (e : first (grammarIn t) a b ≡ some f) (pushed : Pushed ws vs (ground t w) d q) where
-    pub waits-held : Waits t w ws K d q a i → Held (grammarIn t) (endPlace ∷ []) (length w) vs (ground t w) (suc d) f i
+    pub waits-held : Waits t w ws K d q a i → FramesOpen (grammarIn t) (endPlace ∷ []) (length w) vs (ground t w) (suc d) f i
     unfolding returnsOf
     waits-held (begins z y x v) =
         let s : returnsOf vs (ground t w) (suc d) ≡ endPlace ∷ []

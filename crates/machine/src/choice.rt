@@ -2,8 +2,8 @@
 use positions::Positions;
 ghost use mathlib.Core.Path.{_≡_};
 ghost use Prim.Native.Nat.{_<_};
-ghost use Rattle.cells.specs.Chart.{Lent, Awaits};
-ghost use Rattle.machine.specs.Choice.{Leading, lowestIn};
+ghost use Rattle.cells.specs.inside.Chart.{Lent, Awaits};
+ghost use Rattle.machine.specs.inside.Choice.{Leading, lowestIn};
 
 // The members of `ends`, up to the note's end at n, from which place q derives up to a member of `rest`.
 pub fn serving(
@@ -30,8 +30,7 @@ pub fn serving(
     r
 }
 
-// The lowest alternative of a by which a position in s is come to from i, counted from 1; 0 if there is none. `left` counts those not yet looked at, on
-// top of `start`.
+// The lowest alternative of a by which a position in s is come to from i, counted from 1; 0 if there is none.
 pub fn lowest(tables: &[u16], ws: &[u32], a: usize, i: usize, s: Positions) -> usize
     requires { ⌜ Awaits (now tables) (now ws) a i ⌝ }
     ensures { λ r. ⌜ r ≡ lowestIn (now (tables .entry)) (now (ws .entry)) a i (s .words) ⌝ }
@@ -39,15 +38,14 @@ pub fn lowest(tables: &[u16], ws: &[u32], a: usize, i: usize, s: Positions) -> u
     let places = grammar::size(tables);
     let start = grammar::rule_at(tables, a);
     let end = grammar::rule_at(tables, a + 1);
-    let mut left = end;
-    while start < left {
-        let k = start + (end - left);
+    let mut k = start;
+    while k < end {
         let f = grammar::first_place(tables, k);
         let t = cells::cell(ws, places, f, i);
-        left -= 1;
         if t.meets(s) {
             return k + 1 - start;
         }
+        k += 1;
     }
     0
 }

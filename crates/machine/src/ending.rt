@@ -5,15 +5,15 @@ ghost use mathlib.Core.Path.{_≡_};
 ghost use mathlib.Core.List.{_++_};
 ghost use Prim.Native.Nat.{_-_, _≤_};
 ghost use lib.ListN.{length, take, replicate};
-ghost use Rattle.grammar.specs.Tables.{grammarIn};
-ghost use Rattle.derivation.specs.Plain.{sentence?, clear, onOutcome};
+ghost use Rattle.grammar.specs.inside.Tables.{grammarIn};
+ghost use Rattle.derivation.specs.Plain.{sentence?, clear, onConclusion};
 ghost use Rattle.derivation.specs.ReachRounds.{wrongPlace};
 ghost use Rattle.gate.specs.Reading.{answered};
-ghost use Rattle.reach.specs.Passes.{Given};
-ghost use Rattle.machine.specs.Ending.{outcomeIn, Counted};
+ghost use Rattle.reach.specs.inside.Passes.{Given};
+ghost use Rattle.machine.specs.inside.Ending.{outcomeIn, Counted};
 
 // How the machine stops: with so many entries of the row written; where nothing fits; where the row is full and a nonterminal waits.
-pub enum Outcome {
+pub enum Conclusion {
     Accepted(usize),
     Stuck,
     Full,
@@ -57,19 +57,19 @@ pub fn finish(
     note: &[u16],
     row: &mut [u16],
     ws: &[u32],
-    outcome: Outcome,
+    outcome: Conclusion,
 ) -> Reading
     requires { ⌜ Given (now tables) (now note) (now ws) × Counted outcome (now row) ⌝ }
     ensures { λ r. ⌜ answered r (now (row .exit))
-        ≡ onOutcome (grammarIn (now (tables .entry))) (now (note .entry)) (now (row .entry)) (outcomeIn outcome (now (row .entry))) ⌝ }
+        ≡ onConclusion (grammarIn (now (tables .entry))) (now (note .entry)) (now (row .entry)) (outcomeIn outcome (now (row .entry))) ⌝ }
 {
     match outcome {
-        Outcome::Accepted(entries) => {
+        Conclusion::Accepted(entries) => {
             clear_from(row, entries);
             Reading::Accepted(entries)
         }
-        Outcome::Stuck => no_sentence(tables, note, row, ws),
-        Outcome::Full => {
+        Conclusion::Stuck => no_sentence(tables, note, row, ws),
+        Conclusion::Full => {
             if is_sentence(tables, note, ws) {
                 clear_from(row, 0);
                 return Reading::ShortRow;

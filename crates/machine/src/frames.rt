@@ -4,9 +4,9 @@ use positions::Positions;
 ghost use mathlib.Core.Path.{_≡_};
 ghost use Prim.Native.Nat.{suc, _+_, _*_, _≤_, _<_};
 ghost use lib.ListN.{length, getD};
-ghost use Rattle.positions.specs.Words.{setAt, putAt};
-ghost use Rattle.derivation.specs.Space.{frameWords};
-ghost use Rattle.machine.specs.Frames.{pushOf};
+ghost use Rattle.positions.specs.inside.Words.{setAt, putAt};
+ghost use Rattle.derivation.specs.inside.Frames.{frameWords};
+ghost use Rattle.machine.specs.inside.Frames.{pushOf};
 
 // Words of a frame.
 pub const FRAME: usize = 6;

@@ -5,7 +5,7 @@ pub mod ending;
 pub mod frames;
 pub mod steps;
 
-pub use ending::Outcome;
+pub use ending::Conclusion;
 pub use ending::finish;
 pub use steps::At;
 pub use steps::Space;

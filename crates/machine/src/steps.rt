@@ -6,14 +6,15 @@ ghost use mathlib.Core.Option.{some};
 ghost use Prim.Native.Nat.{suc, _+_, _*_, _≤_};
 ghost use lib.ListN.{length};
 ghost use Rattle.grammar.specs.Grammar.{first};
-ghost use Rattle.grammar.specs.Tables.{grammarIn};
+ghost use Rattle.grammar.specs.inside.Tables.{grammarIn};
 ghost use Rattle.derivation.specs.Runs.{marked};
-ghost use Rattle.derivation.specs.Space.{maxTokens, frameWords};
-ghost use Rattle.derivation.specs.Ready.{Ready};
-ghost use Rattle.machine.specs.Choice.{lowestIn};
-ghost use Rattle.machine.specs.Space.{Named, pushIf, Spaced};
-ghost use Rattle.machine.specs.Moves.{Advanced, Entered};
-ghost use Rattle.machine.specs.Waits.{Calling, Choosing, Enters, Called};
+ghost use Rattle.derivation.specs.Space.{maxTokens};
+ghost use Rattle.derivation.specs.inside.Frames.{frameWords};
+ghost use Rattle.derivation.specs.inside.Ready.{Ready};
+ghost use Rattle.machine.specs.inside.Choice.{lowestIn};
+ghost use Rattle.machine.specs.inside.Space.{Named, pushIf, Spaced};
+ghost use Rattle.machine.specs.inside.Moves.{Advanced, Entered};
+ghost use Rattle.machine.specs.inside.Waits.{Calling, Choosing, Enters, Called};
 
 // Where the machine stands: a place, a position of the note, and how many frames are open. Where a nonterminal waits, the place is the one behind it.
 pub struct At {

@@ -1,17 +1,19 @@
-// Reads notes on standard input, one to a line, and prints a line for each: `ok` and the entries of the row, or `no`, document 01's number and the place,
+// Reads notes on standard input, one to a line, and prints a line for each: `ok` and the entries of the row, or `no`, the refusal's number and the place,
 // or `bad` where the line is no note. Each is read quickly by grammar G1, over one cache throughout.
 use libc::STDIN_FILENO;
 use libc::STDOUT_FILENO;
 use lines::Line;
+ghost use mathlib.Core.Path.{_≡_};
 ghost use Prim.Native.Nat.{_≤_};
-ghost use lib.ListN.{length};
-ghost use Rattle.lines.specs.Line.{maxKept};
+ghost use lib.ListN.{length, take};
+ghost use Rattle.lines.specs.Line.{maxKeptBytes};
+ghost use Rattle.lines.specs.Kept.{keptOn, keptAfter};
 
 // The entries of a row: by G1 a note has as many as tokens.
 const ROW_ENTRIES: usize = lines::MAX_TOKENS;
 
 // The words of the cache: it has six slots.
-const CACHE_WORDS: usize = words::layout::FIXED_WORDS + 6 * words::layout::SLOT_WORDS;
+const CACHE_WORDS: usize = allstar::FIXED_WORDS + 6 * allstar::SLOT_WORDS;
 
 // Grammar G1: tokens 1 and 2; nonterminal 0 is [1] or [1, less], nonterminal 1 is [grade] or [grade, less].
 const G1: [u8; 14] = [2, 2, 2, 1, 3, 2, 3, 4, 2, 1, 2, 2, 2, 4];
@@ -20,8 +22,8 @@ const G1: [u8; 14] = [2, 2, 2, 1, 3, 2, 3, 4, 2, 1, 2, 2, 2, 4];
 const G1_PLACES: usize = 10;
 
 // The words that refusal 11 asks for.
-const SPACE_WORDS: usize = gate::SPACE_WORDS
-    + gate::SPACE_WORDS_EACH * (G1_PLACES * (lines::MAX_TOKENS + 1));
+const SPACE_WORDS: usize = allstar::SPACE_WORDS
+    + allstar::SPACE_WORDS_EACH * (G1_PLACES * (lines::MAX_TOKENS + 1));
 
 // Writes a blank and a number.
 fn write_number(n: u64) {
@@ -45,7 +47,7 @@ fn write_entries(row: &[u16], count: usize) {
 // Reads a note and writes its line.
 fn tell(note: &[u16], cache: &mut [u32], space: &mut [u32]) {
     let mut row = [0u16; ROW_ENTRIES];
-    let reading = quick::quick(&G1, note, &mut row, cache, space);
+    let reading = allstar::quick(&G1, note, &mut row, cache, space);
     let number = reading.number();
     if number == 0 {
         io::write_all(STDOUT_FILENO, b"ok");
@@ -74,8 +76,9 @@ fn answer(line: &[u8], cache: &mut [u32], space: &mut [u32]) {
 
 // One byte more: a line that it ends is answered, and answers how many bytes are kept of the line that is open then.
 fn step(byte: u8, line: &mut [u8], kept: usize, cache: &mut [u32], space: &mut [u32]) -> usize
-    requires { ⌜ (kept ≤ maxKept) × (maxKept ≤ length (now line)) ⌝ }
-    ensures { λ r. ⌜ r ≤ maxKept ⌝ }
+    requires { ⌜ (kept ≤ maxKeptBytes) × (maxKeptBytes ≤ length (now line)) ⌝ }
+    ensures { λ r. ⌜ take r (now (line .exit)) ≡ keptOn (take kept (now (line .entry))) byte ⌝ }
+    ensures { λ r. ⌜ r ≤ maxKeptBytes ⌝ }
 {
     if byte != 10 {
         return lines::keep(line, kept, byte);
@@ -84,10 +87,11 @@ fn step(byte: u8, line: &mut [u8], kept: usize, cache: &mut [u32], space: &mut [
     0
 }
 
-// The bytes of one reading of the input.
+// The bytes of one reading of the input. What is then kept of the open line says what all of it says (`kept-open-says` of `lines`).
 fn feed(bytes: &[u8], line: &mut [u8], kept: usize, cache: &mut [u32], space: &mut [u32]) -> usize
-    requires { ⌜ (kept ≤ maxKept) × (maxKept ≤ length (now line)) ⌝ }
-    ensures { λ r. ⌜ r ≤ maxKept ⌝ }
+    requires { ⌜ (kept ≤ maxKeptBytes) × (maxKeptBytes ≤ length (now line)) ⌝ }
+    ensures { λ r. ⌜ take r (now (line .exit)) ≡ keptAfter (take kept (now (line .entry))) (now (bytes .entry)) ⌝ }
+    ensures { λ r. ⌜ r ≤ maxKeptBytes ⌝ }
 {
     let n = bytes.len();
     let mut k = kept;
@@ -130,6 +134,6 @@ fn answer_all(cache: &mut [u32], space: &mut [u32]) {
 fn main() {
     let mut cache = [0u32; CACHE_WORDS];
     let mut space = [0u32; SPACE_WORDS];
-    cache::begin(&G1, &mut cache);
+    allstar::begin(&G1, &mut cache);
     answer_all(&mut cache, &mut space);
 }

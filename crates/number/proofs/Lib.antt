@@ -1,3 +1,4 @@
 -- Laws on numbers.
 pub mod NumberLaws
 pub mod ShortestForm
+pub mod FormLaws

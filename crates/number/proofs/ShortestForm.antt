@@ -11,18 +11,19 @@ use borrow.Author.Tests.{lt-ltb, le-ltb}
 use Rattle.base.proofs.Booleans.{clash}
 use Rattle.number.specs.Types.{Cursor, Value}
 use Rattle.number.specs.Number.{numberAt, cursor, shortest, maxNumber}
+use Rattle.number.specs.Forms.{Bytes}
 use Rattle.number.proofs.NumberLaws.{none, one, cut, long, two, cut2, long2, high, three}
 
 -- ---- the shortest form by cases
-shortest-one : (v : ℕ) → v < 128 → shortest v ≡ v ∷ []
+pub shortest-one : (v : ℕ) → v < 128 → shortest v ≡ v ∷ []
 unfolding shortest
 shortest-one v h = rw (lt-ltb v 128 h)
 
-shortest-two : (v : ℕ) → 128 ≤ v → v < 16384 → shortest v ≡ (v % 128 + 128) ∷ (v / 128) ∷ []
+pub shortest-two : (v : ℕ) → 128 ≤ v → v < 16384 → shortest v ≡ (v % 128 + 128) ∷ (v / 128) ∷ []
 unfolding shortest
 shortest-two v h l = rw (le-ltb v 128 h, lt-ltb v 16384 l)
 
-shortest-three : (v : ℕ) → 16384 ≤ v → shortest v ≡ (v % 128 + 128) ∷ (v / 128 % 128 + 128) ∷ (v / 16384) ∷ []
+pub shortest-three : (v : ℕ) → 16384 ≤ v → shortest v ≡ (v % 128 + 128) ∷ (v / 128 % 128 + 128) ∷ (v / 16384) ∷ []
 unfolding shortest
 shortest-three v h = rw (le-ltb v 128 (omega arith), le-ltb v 16384 h)
 
@@ -77,7 +78,7 @@ module _ (pre : List ℕ) where
       go (no l) (no k) = large (omega arith)
 
 -- ---- and nothing else: what is read as a number is its shortest form, and the cursor stands behind it
-module _ (s : List ℕ) (bytes : (i : ℕ) → getD s i 0 < 256) (at : ℕ) {v : ℕ} {c : Cursor} (e : numberAt s at ≡ Value v c) where
+module _ (s : List ℕ) (bytes : Bytes s) (at : ℕ) {v : ℕ} {c : Cursor} (e : numberAt s at ≡ Value v c) where
   abbrev Spelled : Type 0
   Spelled = (v ≤ maxNumber) × (drop at s ≡ shortest v ++ drop (c .at) s)
 

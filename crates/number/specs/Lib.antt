@@ -2,3 +2,4 @@
 pub mod Types
 pub mod Refusals
 pub mod Number
+pub mod Forms

@@ -1,4 +1,4 @@
--- Document 01's number and place of each refusal.
+-- The scope's number and place of each refusal.
 use Prim.Native.Nat.{ℕ}
 use Rattle.number.specs.Types.{Refusal, Unfinished, Malformed, OverLimit, UnknownSymbol, Trailing, Unproductive, LeftRecursive}
 

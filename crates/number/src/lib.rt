@@ -4,7 +4,7 @@ ghost use Prim.Native.Nat.{_+_, _*_, _%_, _<_};
 ghost use Rattle.number.specs.Refusals.{refusalNumber, refusalPlace};
 ghost use Rattle.number.specs.Number.{numberAt, limitedAt, legal, symbolAt};
 
-// Why an input is refused, each with its place. `refusalNumber` of specs/Refusals gives document 01's numbers.
+// Why an input is refused, each with its place. `refusalNumber` of specs/Refusals gives the scope's numbers.
 pub enum Refusal {
     Unfinished(usize),
     Malformed(usize),
@@ -16,7 +16,7 @@ pub enum Refusal {
 }
 
 impl Refusal {
-    // Document 01's number.
+    // The scope's number.
     pub fn number(self) -> u32
         ensures { λ r. ⌜ r ≡ refusalNumber self ⌝ }
     {
@@ -31,7 +31,7 @@ impl Refusal {
         }
     }
 
-    // Document 01's place: a byte of the grammar for 1 to 5, a nonterminal for 6 and 7.
+    // The scope's place: a byte of the grammar for 1 to 5, a nonterminal for 6 and 7.
     pub fn place(self) -> usize
         ensures { λ r. ⌜ r ≡ refusalPlace self ⌝ }
     {

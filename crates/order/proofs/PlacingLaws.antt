@@ -13,12 +13,12 @@ use Rattle.base.proofs.Bits.{same?, test-none, test-set, subset-iff}
 use Rattle.base.proofs.Booleans.{and-T, or-T, T-or-l, T-or-r, true→T, false→¬T}
 use Rattle.grammar.specs.Limits.{maxNonterminals}
 use Rattle.grammar.specs.Grammar.{Grammar}
-use Rattle.grammar.specs.Tables.{grammarIn, nonterminalsIn, cornerRow}
+use Rattle.grammar.specs.inside.Tables.{grammarIn, nonterminalsIn, cornerRow}
 use Rattle.corners.specs.Corners.{move?, Cornered}
-use Rattle.derivation.specs.Ready.{Ready}
+use Rattle.derivation.specs.inside.Ready.{Ready}
 use Rattle.derivation.proofs.Pigeon.{Distinct, nil, also, pigeon}
-use Rattle.order.specs.Order.{Among, Lined, InOrder}
-use Rattle.order.specs.Placing.{ripeOf, Placing}
+use Rattle.order.specs.inside.Order.{Among, Lined, InOrder}
+use Rattle.order.specs.inside.Placing.{ripeOf, Placing}
 
 -- ---- the first k of a row as a list: no two alike, so at most as many as there are nonterminals
 entries : List ℕ → ℕ → List ℕ

@@ -11,14 +11,14 @@ use lib.ListN.{length}
 use Rattle.base.specs.Bits.{testBit, isSubset}
 use Rattle.base.proofs.Bits.{same?, subset-iff}
 use Rattle.base.proofs.Booleans.{true→T, false→¬T}
-use Rattle.grammar.specs.Grammar.{Grammar}
-use Rattle.grammar.specs.Tables.{grammarIn, nonterminalsIn, cornerRow}
+use Rattle.grammar.specs.Grammar.{Grammar, ofPlaces}
+use Rattle.grammar.specs.inside.Tables.{grammarIn, nonterminalsIn, cornerRow}
 use Rattle.closures.specs.Textbook.{Move, Reaches, one, LeftRecursive}
 use Rattle.corners.specs.Corners.{Cornered}
 use Rattle.corners.proofs.LeftRecursion.{move-iff, move-to, reaches-trans}
 use Rattle.derivation.proofs.Pigeon.{Distinct, nil, also, pigeon}
-use Rattle.derivation.specs.Ready.{Ready}
-use Rattle.order.specs.Placing.{ripeOf}
+use Rattle.derivation.specs.inside.Ready.{Ready}
+use Rattle.order.specs.inside.Placing.{ripeOf}
 
 -- ---- two sets: the first lies in the second as far as k, or something below k is missing
 abbrev Missing : ℕ → ℕ → ℕ → Type 0
@@ -41,21 +41,21 @@ look x y (suc k) = more (look x y k)
     more (inr (c, h, t, e)) = inr (c, omega arith, t, e)
 
 -- ---- nonterminals that lead to h, no two alike: they can be followed for ever if each has a next one
-module _ (g : Grammar) (n : ℕ) (Free : ℕ → Type 0) (straight : (a : ℕ) → ¬ LeftRecursive g a)
-    (next : (a : ℕ) → a < n → Free a → (c : ℕ) × (c < n) × Free c × Move g a c) where
+module _ (g : Grammar) (n : ℕ) (Free : ℕ → Type 0) (straight : (a : ℕ) → ¬ LeftRecursive (ofPlaces g) a)
+    (next : (a : ℕ) → a < n → Free a → (c : ℕ) × (c < n) × Free c × Move (ofPlaces g) a c) where
   record Chain (k h : ℕ) : Type 0 where
     list : List ℕ
     distinct : Distinct list
     long : length list ≡ k
     below : (x : ℕ) → List·Memᴰ x list → x < n
-    leads : (x : ℕ) → List·Memᴰ x list → Reaches g x h
+    leads : (x : ℕ) → List·Memᴰ x list → Reaches (ofPlaces g) x h
     free : Free h
     inside : h < n
 
   chain-more : (k h : ℕ) → Chain k h → (c : ℕ) × Chain (suc k) c
   chain-more k h x = go (next h (x .inside) (x .free))
     where
-      go : (c : ℕ) × (c < n) × Free c × Move g h c → (c : ℕ) × Chain (suc k) c
+      go : (c : ℕ) × (c < n) × Free c × Move (ofPlaces g) h c → (c : ℕ) × Chain (suc k) c
       go (c, l, f, m) = (
         c,
         record {
@@ -92,7 +92,7 @@ module _ (t : List ℕ) (known : Ready t) (set : ℕ) (stuck : (a : ℕ) → a <
   abbrev Free : ℕ → Type 0
   Free a = testBit set a ≡ false
 
-  corner : (a c : ℕ) → a < nonterminalsIn t → T (testBit (cornerRow t a) c) → Move (grammarIn t) a c
+  corner : (a c : ℕ) → a < nonterminalsIn t → T (testBit (cornerRow t a) c) → Move (ofPlaces (grammarIn t)) a c
   unfolding Cornered
   corner a c h x = move-iff (grammarIn t) a c .0 (rw (known .corners a c h) at x)
 
@@ -103,16 +103,16 @@ module _ (t : List ℕ) (known : Ready t) (set : ℕ) (stuck : (a : ℕ) → a <
   unfolding ripeOf
   not-under a h f = rw f at (stuck a h)
 
-  next : (a : ℕ) → a < nonterminalsIn t → Free a → (c : ℕ) × (c < nonterminalsIn t) × Free c × Move (grammarIn t) a c
+  next : (a : ℕ) → a < nonterminalsIn t → Free a → (c : ℕ) × (c < nonterminalsIn t) × Free c × Move (ofPlaces (grammarIn t)) a c
   next a h f = go (look (cornerRow t a) set (nonterminalsIn t))
     where
       go : Within (cornerRow t a) set (nonterminalsIn t) ⊎ Missing (cornerRow t a) set (nonterminalsIn t)
-          → (c : ℕ) × (c < nonterminalsIn t) × Free c × Move (grammarIn t) a c
+          → (c : ℕ) × (c < nonterminalsIn t) × Free c × Move (ofPlaces (grammarIn t)) a c
       go (inl w) =
           absurd (false→¬T (isSubset (cornerRow t a) set) (not-under a h f) (subset-iff (cornerRow t a) set .1 (λ c x. w c (corner-named a c h x) x)))
       go (inr (c, l, x, e)) = (c, l, e, corner a c h x)
 
-  straight : (a : ℕ) → ¬ LeftRecursive (grammarIn t) a
+  straight : (a : ℕ) → ¬ LeftRecursive (ofPlaces (grammarIn t)) a
   straight = rw (known .says) (known .straight)
 
   pub stuck-full : (a : ℕ) → a < nonterminalsIn t → T (testBit set a)

@@ -7,9 +7,9 @@ use Prim.Native.Nat.{ℕ, suc, _+_, _-_, _≤_, _<_}
 use native.Mathlib.Omega.{arith}
 use Rattle.base.specs.Bits.{testBit, isSubset}
 use Rattle.base.proofs.Bits.{same?}
-use Rattle.grammar.specs.Tables.{nonterminalsIn, cornerRow}
-use Rattle.derivation.specs.Ready.{Ready}
-use Rattle.order.specs.Placing.{ripeOf, turnOf, Placing}
+use Rattle.grammar.specs.inside.Tables.{nonterminalsIn, cornerRow}
+use Rattle.derivation.specs.inside.Ready.{Ready}
+use Rattle.order.specs.inside.Placing.{ripeOf, turnOf, Placing}
 use Rattle.order.proofs.PlacingLaws.{placing-count}
 use Rattle.order.proofs.StuckLaws.{stuck-full}
 

@@ -1,3 +1,2 @@
 -- The nonterminals in an order: each behind its left corners.
-pub mod Order
-pub mod Placing
+pub mod inside

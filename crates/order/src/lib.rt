@@ -5,9 +5,9 @@ ghost use Prim.Native.Nat.{suc, _<_};
 ghost use lib.ListN.{length, set};
 ghost use Rattle.base.specs.Bits.{setBit};
 ghost use Rattle.grammar.specs.Limits.{maxNonterminals};
-ghost use Rattle.derivation.specs.Ready.{Ready};
-ghost use Rattle.order.specs.Order.{InOrder};
-ghost use Rattle.order.specs.Placing.{ripeOf, turnOf, Placing, Sweeps};
+ghost use Rattle.derivation.specs.inside.Ready.{Ready};
+ghost use Rattle.order.specs.inside.Order.{InOrder};
+ghost use Rattle.order.specs.inside.Placing.{ripeOf, turnOf, Placing, Sweeps};
 
 // Nonterminals that have a place: which, and how many.
 struct Placed {

@@ -3,22 +3,22 @@ use mathlib.Core.Path.{_≡_, ap, _∙_}
 use mathlib.Core.List.{List}
 use Prim.Native.Nat.{ℕ}
 use lib.ListN.{length}
-use Rattle.grammar.specs.Tables.{grammarIn}
+use Rattle.grammar.specs.inside.Tables.{grammarIn}
 use Rattle.derivation.specs.Machine.{Ended}
-use Rattle.derivation.specs.Plain.{Answer, answer, refuse, onOutcome, readNote, plainReading}
+use Rattle.derivation.specs.Plain.{Answer, answer, refuse, onConclusion, readNote, plainReading}
 use Rattle.derivation.specs.Gate as definition
 use Rattle.gate.specs.Reading.{readingNumber, readingPlace, answered}
-use Rattle.gate.specs.Passing.{gateIn, Admitted, Gated}
+use Rattle.gate.specs.inside.Passing.{gateIn, Admitted, Gated}
 use Rattle.gate.specs.declared.reading.Reading.{Reading}
 use Rattle.gate.specs.declared.passing.Gate.{Gate}
 use Rattle.gate.specs.declared.passing.Gate.the-variants.{Passed, Shut}
-use Rattle.cells.specs.Chart.{Lent, Filled}
+use Rattle.cells.specs.inside.Chart.{Lent, Filled}
 use Rattle.cells.proofs.Spots.{lent-kept}
-use Rattle.reach.specs.Passes.{Given}
-use Rattle.machine.specs.Ending.{outcomeIn}
-use Rattle.machine.specs.declared.ending.Outcome.{Outcome}
+use Rattle.reach.specs.inside.Passes.{Given}
+use Rattle.machine.specs.inside.Ending.{outcomeIn}
+use Rattle.machine.specs.declared.ending.Conclusion.{Conclusion}
 use Rattle.machine.proofs.EndingLaws.{outcome-length}
-use Rattle.plain.specs.Run.{PlainRan}
+use Rattle.plain.specs.inside.Run.{PlainRan}
 
 -- ---- the note
 module _ (t w : List ℕ) {ws : List ℕ} (h : Admitted t w (length ws)) where
@@ -30,16 +30,16 @@ module _ (t w : List ℕ) {ws : List ℕ} (h : Admitted t w (length ws)) where
   charting x = record { ready = h .ready; lent = lent-kept (x .kept) lent; charted = x .charted }
 
   -- and stand when the machine stops
-  pub charting-still : {row after row′ ws′ : List ℕ} {r : Outcome} → Filled t w ws after → PlainRan t w row after r row′ ws′
+  pub charting-still : {row after row′ ws′ : List ℕ} {r : Conclusion} → Filled t w ws after → PlainRan t w row after r row′ ws′
       → Given t w ws′
   charting-still x y = record { ready = h .ready; lent = lent-kept (y .ran .space-kept ∙ x .kept) lent; charted = y .charted }
 
-pub read-is : (t w row ws : List ℕ) {o : Outcome} {row′ ws′ : List ℕ} {x : Answer} → PlainRan t w row ws o row′ ws′
-    → x ≡ onOutcome (grammarIn t) w row′ (outcomeIn o row′) → x ≡ readNote (grammarIn t) w row
+pub read-is : (t w row ws : List ℕ) {o : Conclusion} {row′ ws′ : List ℕ} {x : Answer} → PlainRan t w row ws o row′ ws′
+    → x ≡ onConclusion (grammarIn t) w row′ (outcomeIn o row′) → x ≡ readNote (grammarIn t) w row
 unfolding readNote
 read-is t w row ws {o} {row′} y e =
     e ∙ (outcome-length (grammarIn t) w row row′ (outcomeIn o row′) (y .ran .row-kept)
-    ∙ ap (λ (e : Ended (Unit {0})). onOutcome (grammarIn t) w row (e .outcome)) (y .ran .stops))
+    ∙ ap (λ (e : Ended (Unit {0})). onConclusion (grammarIn t) w row (e .outcome)) (y .ran .stops))
 
 -- ---- the gate
 module _ (s w row : List ℕ) (space : ℕ) {t : List ℕ} {g : Gate} (h : Gated s w space t g) where

@@ -6,29 +6,29 @@ use Prim.Native.Nat.{ℕ, suc, _+_, _*_, _≤_, _<_}
 use native.Mathlib.Omega.{arith}
 use lib.ListN.{length, set, length-set}
 use Rattle.base.proofs.Booleans.{clash}
-use Rattle.grammar.specs.Tables.{grammarIn}
+use Rattle.grammar.specs.inside.Tables.{grammarIn}
 use Rattle.derivation.specs.Runs.{marked}
 use Rattle.derivation.specs.Machine.{plainly, lowest}
-use Rattle.derivation.specs.Space.{frameWords, returnsOf}
+use Rattle.derivation.specs.inside.Frames.{frameWords, returnsOf}
 use Rattle.derivation.proofs.FrameWords.{pushed-returns}
-use Rattle.cells.specs.Chart.{Lent, Charted}
+use Rattle.cells.specs.inside.Chart.{Lent, Charted}
 use Rattle.cells.proofs.Spots.{lent-kept}
-use Rattle.machine.specs.Frames.{EveryFrame}
-use Rattle.machine.specs.Space.{Named, ground, opened, Spaced}
-use Rattle.machine.specs.Moves.{Entered}
-use Rattle.machine.specs.Waits.{Waits, Calling, Called}
-use Rattle.reach.specs.Passes.{Given}
-use Rattle.machine.specs.Going.{Going}
+use Rattle.machine.specs.inside.Frames.{EveryFrame}
+use Rattle.machine.specs.inside.Space.{Named, ground, opened, Spaced}
+use Rattle.machine.specs.inside.Moves.{Entered}
+use Rattle.machine.specs.inside.Waits.{Waits, Calling, Called}
+use Rattle.reach.specs.inside.Passes.{Given}
+use Rattle.machine.specs.inside.Going.{Going}
 use Rattle.machine.specs.declared.steps.At.{At}
 use Rattle.machine.specs.declared.steps.Space.{Space}
 use Rattle.machine.specs.declared.steps.Turn.{Turn}
 use Rattle.machine.specs.declared.steps.Turn.the-variants.{Calls, Stuck as Dead, Ended}
-use Rattle.machine.specs.declared.ending.Outcome.the-variants.{Accepted, Stuck, Full}
+use Rattle.machine.specs.declared.ending.Conclusion.the-variants.{Accepted, Stuck, Full}
 use Rattle.machine.proofs.AlternativeLaws.{some-of, none-of}
 use Rattle.machine.proofs.WaitLaws.{waits-begins, waits-room, waits-again}
 use Rattle.machine.proofs.CallLaws.{called-named, called-small}
 use Rattle.machine.proofs.GoingLaws.{going-begins, going-full, going-none, turn-calls, turn-stuck, turn-ended}
-use Rattle.plain.specs.Run.{plainEnd, PlainRan}
+use Rattle.plain.specs.inside.Run.{plainEnd, PlainRan}
 
 -- nonterminal a waits at `at`, `count` entries of the row are written, all cells and all frames' sets are right
 pub record Turning (t w row₀ ws₀ row ws : List ℕ) (count : ℕ) (at : At) (a : ℕ) : Type 0 where

@@ -1,2 +1,3 @@
 -- The plain reading.
-pub mod Run
+pub mod Contract
+pub mod inside

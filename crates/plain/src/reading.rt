@@ -2,19 +2,20 @@
 use gate::Gate;
 use gate::Reading;
 use machine::At;
-use machine::Outcome;
+use machine::Conclusion;
 use machine::Turn;
 ghost use mathlib.Core.Path.{_≡_};
 ghost use lib.ListN.{length};
-ghost use Rattle.grammar.specs.Tables.{grammarIn};
-ghost use Rattle.derivation.specs.Plain.{readNote, plainReading};
-ghost use Rattle.gate.specs.Reading.{answered};
-ghost use Rattle.gate.specs.Passing.{Admitted};
-ghost use Rattle.reach.specs.Passes.{Given};
-ghost use Rattle.plain.specs.Run.{PlainRan};
+ghost use Rattle.grammar.specs.inside.Tables.{grammarIn};
+ghost use Rattle.derivation.specs.Plain.{readNote};
+ghost use Rattle.gate.specs.Reading.{readingNumber, readingPlace, readingCount, answered};
+ghost use Rattle.gate.specs.inside.Passing.{Admitted};
+ghost use Rattle.reach.specs.inside.Passes.{Given};
+ghost use Rattle.plain.specs.inside.Run.{PlainRan};
+ghost use Rattle.plain.specs.Contract.{PlainDid};
 
 // The machine from nonterminal 0 over the end place on: at each nonterminal the lowest alternative that serves.
-fn run(tables: &[u16], note: &[u16], row: &mut [u16], ws: &mut [u32]) -> Outcome
+fn run(tables: &[u16], note: &[u16], row: &mut [u16], ws: &mut [u32]) -> Conclusion
     requires { ⌜ Given (now tables) (now note) (now ws) ⌝ }
     ensures { λ r. ⌜ PlainRan (now (tables .entry)) (now (note .entry)) (now (row .entry)) (now (ws .entry)) r (now (row .exit)) (now (ws .exit)) ⌝ }
 {
@@ -28,18 +29,18 @@ fn run(tables: &[u16], note: &[u16], row: &mut [u16], ws: &mut [u32]) -> Outcome
     };
     loop {
         if count == row.len() {
-            return Outcome::Full;
+            return Conclusion::Full;
         }
         let b = machine::call(tables, note, ws, space, at, a);
         if b == 0 {
-            return Outcome::Stuck;
+            return Conclusion::Stuck;
         }
         row[count] = base::narrow(b);
         count += 1;
         let turn = machine::enter(tables, note, ws, space.base, at, a, b);
         match turn {
-            Turn::Ended => return Outcome::Accepted(count),
-            Turn::Stuck => return Outcome::Stuck,
+            Turn::Ended => return Conclusion::Accepted(count),
+            Turn::Stuck => return Conclusion::Stuck,
             Turn::Calls(next, called) => {
                 at = next;
                 a = called;
@@ -60,8 +61,8 @@ fn read(tables: &[u16], note: &[u16], row: &mut [u16], ws: &mut [u32]) -> Readin
 
 // Reads a note plainly. The row then holds the derivation and zeros behind it; after 10 and 14 it is all zeros; after any other refusal it is as it was.
 pub fn plain(grammar: &[u8], note: &[u16], row: &mut [u16], workspace: &mut [u32]) -> Reading
-    ensures { λ r. ⌜ answered r (now (row .exit))
-        ≡ plainReading (now (grammar .entry)) (now (note .entry)) (now (row .entry)) (length (now (workspace .entry))) ⌝ }
+    ensures { λ r. ⌜ PlainDid (now (grammar .entry)) (now (note .entry)) (now (row .entry)) (length (now (workspace .entry)))
+        (readingNumber r) (readingPlace r) (readingCount r) (now (row .exit)) ⌝ }
 {
     let mut tables = [0u16; grammar::TABLE_WORDS];
     let gate = gate::pass(grammar, note, workspace.len(), &mut tables);

@@ -11,8 +11,8 @@ use lib.Seq.{sets, getD-set-other, set-getD}
 use lib.Bits.{bitOr, bitXor, xor-add-and, xor-self, and-le-l, and-le-r}
 use borrow.Author.Tests.{eqb-true}
 use Rattle.base.proofs.Bits.{or-ge}
-use Rattle.positions.specs.Positions.{setWords, five, unionOf, sameOf, allWords, differing}
-use Rattle.positions.specs.Words.{setAt, putAt, total, Joined}
+use Rattle.positions.specs.inside.Positions.{setWords, five, unionOf, sameOf, allWords, differing}
+use Rattle.positions.specs.inside.Words.{setAt, putAt, total, Joined}
 use Rattle.positions.proofs.SetLaws.{word-le}
 
 -- ---- the sum of the words after stores

@@ -10,7 +10,7 @@ use lib.ListN.{getD}
 use lib.Count.{trailingZeros}
 use Rattle.base.specs.Bits.{wordBits, testBit}
 use Rattle.base.proofs.Bits.{test-shr, test-none, test-high, trailing-none, trailing-found}
-use Rattle.positions.specs.Positions.{positionCount, setWords, member, FromBit, NextOf}
+use Rattle.positions.specs.inside.Positions.{positionCount, setWords, member, FromBit, NextOf}
 
 -- ---- one word
 module _ (x k : ℕ) where

@@ -1,7 +1,7 @@
 -- Laws of sets of positions by value: what the empty set, a set with one member more and a union hold; when two sets meet.
 use mathlib.Core.Path.{_≡_, refl, sym, ap, _∙_}
 use mathlib.Core.Logic.{_⊎_, inl, inr, ⊎-elim}
-use mathlib.Core.Bool.{Bool, true, false, _||_, not}
+use mathlib.Core.Bool.{true, false, false≢true, _||_, not}
 use mathlib.Core.List.{List, [], _∷_}
 use Prim.Native.Nat.{ℕ, zero, suc, _+_, _-_, _*_, _/_, _%_, _^_, _≤_, _<_}
 use native.Mathlib.Omega.{arith}
@@ -10,13 +10,14 @@ use lib.ListN.{length, getD, set, length-set}
 use lib.Seq.{getD-set-same, getD-set-other}
 use lib.Bits.{bitOr, bitXor, and-le-l, or-lt}
 use lib.Count.{trailingZeros}
-use lib.Dec.{T, eqb}
-use borrow.Author.Tests.{ne-eqb, eqb-false, not-true, not-false}
+use lib.Dec.{T, eqb, ltb}
+use borrow.Author.Tests.{ne-eqb, eqb-false, not-true, not-false, ltb-true, lt-ltb}
 use Rattle.base.specs.Bits.{wordBits, testBit}
 use Rattle.base.proofs.Bits.{same?, eqb-iff, test-or, test-and, test-set, test-none, test-high, or-ge, or-ge-r, or-pos, set-fits, trailing-found}
 use Rattle.base.proofs.Bits.{test-opposite}
 use Rattle.base.proofs.Booleans.{T→true, true→T, and-T, T-and, or-none}
-use Rattle.positions.specs.Positions.{positionCount, setWords, emptySet, member, withOf, unionOf, meetsOf, allWords, common, oppositeOf, Full, NextOf}
+use Rattle.positions.specs.inside.Positions.{positionCount, setWords, emptySet, member, withOf, unionOf, meetsOf, allWords, common, oppositeOf}
+use Rattle.positions.specs.inside.Positions.{Full, NextOf}
 
 -- every word of s has wordBits bits
 abbrev pub Fit : List ℕ → Type 0
@@ -114,25 +115,25 @@ module _ (word : ℕ → ℕ) where
       go (suc (suc (suc (suc (suc i))))) l = absurd (omega arith)
 
   -- some word is not 0
-  abbrev Held : Type 0
-  Held = (i : ℕ) × (i < setWords) × (0 < word i)
+  abbrev HeldIn : Type 0
+  HeldIn = (i : ℕ) × (i < setWords) × (0 < word i)
 
-  word-held : 0 < allWords word → Held
+  word-held : 0 < allWords word → HeldIn
   word-held h = go (or-pos four (word 4) h)
     where
-      first : (0 < word 0) ⊎ (0 < word 1) → Held
+      first : (0 < word 0) ⊎ (0 < word 1) → HeldIn
       first (inl h) = (0, omega arith, h)
       first (inr h) = (1, omega arith, h)
 
-      second : (0 < two) ⊎ (0 < word 2) → Held
+      second : (0 < two) ⊎ (0 < word 2) → HeldIn
       second (inl h) = first (or-pos (word 0) (word 1) h)
       second (inr h) = (2, omega arith, h)
 
-      third : (0 < three) ⊎ (0 < word 3) → Held
+      third : (0 < three) ⊎ (0 < word 3) → HeldIn
       third (inl h) = second (or-pos two (word 2) h)
       third (inr h) = (3, omega arith, h)
 
-      go : (0 < four) ⊎ (0 < word 4) → Held
+      go : (0 < four) ⊎ (0 < word 4) → HeldIn
       go (inl h) = third (or-pos three (word 3) h)
       go (inr h) = (4, omega arith, h)
 
@@ -141,7 +142,7 @@ module _ (a b : List ℕ) where
   Met = (j : ℕ) × (j < positionCount) × T (member a j) × T (member b j)
 
   -- a word that is not 0 has its lowest bit
-  met : Fit a → Held (common a b) → Met
+  met : Fit a → HeldIn (common a b) → Met
   met w (i, l, h) =
       let x = common a b i in
       let k = trailingZeros wordBits x in
@@ -208,10 +209,20 @@ unfolding member
 member-opposite s j l = ap (λ (x : ℕ). testBit x (j % wordBits)) (opposite-word s (j / wordBits) (omega arith))
     ∙ test-opposite (getD s (j / wordBits) 0) (j % wordBits) (omega arith)
 
--- what stands before the first position that is missing is held
-pub full-is : (s c : List ℕ) (from n m : ℕ) {r : Bool} → n < positionCount → c ≡ oppositeOf s → NextOf c from m → (r ≡ true → n < m)
-    → Full r s from n
-full-is s c from n m h e x t = record {
-  all = λ q k a b. not-false (member s k)
-      (sym (member-opposite s k (omega arith)) ∙ (ap (λ (l : List ℕ). member l k) (sym e) ∙ x .none k a (let z = t q in omega arith)));
-}
+-- what stands before the first position that is missing is held, and that one is not
+module _ (s c : List ℕ) (from n m : ℕ) (h : n < positionCount) (e : c ≡ oppositeOf s) (x : NextOf c from m) where
+  missing : (k : ℕ) → k < positionCount → member c k ≡ not (member s k)
+  missing k l = ap (λ (l : List ℕ). member l k) e ∙ member-opposite s k l
+
+  before : ((k : ℕ) → from ≤ k → k ≤ n → member s k ≡ true) → Dec (n < m) → n < m
+  before f (yes l) = l
+  before f (no l) =
+      let z : true ≡ false =
+      sym (x .found (omega arith)) ∙ (missing m (omega arith) ∙ ap not (f m (x .above (omega arith)) (omega arith))) in
+      absurd (false≢true (sym z))
+
+  pub full-is : Full (ltb n m) s from n
+  full-is = record {
+    all = λ q k a b. let z = ltb-true n m q in not-false (member s k) (sym (missing k (omega arith)) ∙ x .none k a (omega arith));
+    only = λ f. lt-ltb n m (before f (decLt n m));
+  }

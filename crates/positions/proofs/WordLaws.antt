@@ -8,8 +8,8 @@ use native.Mathlib.Omega.{arith}
 use lib.ListN.{length, getD, set, length-set}
 use lib.Seq.{sets, length-sets, getD-set-same, getD-set-other}
 use Rattle.base.specs.Bits.{wordBits}
-use Rattle.positions.specs.Positions.{positionCount, setWords, five, member, unionOf}
-use Rattle.positions.specs.Words.{memberAt, setAt, putAt, total, Joined}
+use Rattle.positions.specs.inside.Positions.{positionCount, setWords, five, member, unionOf}
+use Rattle.positions.specs.inside.Words.{memberAt, setAt, putAt, total, Joined}
 use Rattle.positions.proofs.SetLaws.{Fit, fit-store, member-union}
 
 -- ---- words that are written

@@ -1,3 +1,2 @@
 -- Sets of positions of a note.
-pub mod Positions
-pub mod Words
+pub mod inside

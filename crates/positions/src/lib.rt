@@ -3,9 +3,10 @@ ghost use mathlib.Core.Path.{_≡_};
 ghost use Prim.Native.Nat.{_+_, _≤_, _<_};
 ghost use lib.ListN.{length};
 ghost use Rattle.base.specs.Bits.{wordBits};
-ghost use Rattle.positions.specs.Positions.{positionCount, setWords, emptySet, member, withOf, unionOf, meetsOf, oppositeOf, Full, sameOf, FromBit};
-ghost use Rattle.positions.specs.Positions.{NextOf};
-ghost use Rattle.positions.specs.Words.{memberAt, setAt, putAt, Joined};
+ghost use Rattle.positions.specs.inside.Positions.{positionCount, setWords, emptySet, member, withOf, unionOf, meetsOf, oppositeOf};
+ghost use Rattle.positions.specs.inside.Positions.{Full, sameOf, FromBit};
+ghost use Rattle.positions.specs.inside.Positions.{NextOf};
+ghost use Rattle.positions.specs.inside.Words.{memberAt, setAt, putAt, Joined};
 
 // Words of a set. specs/Positions has the same.
 pub const WORDS: usize = 5;

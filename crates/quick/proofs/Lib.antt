@@ -1,4 +1,3 @@
 -- Laws of the quick reading, one subject a file.
 pub mod RunLaws
 pub mod ReadingLaws
-pub mod WholeLaws

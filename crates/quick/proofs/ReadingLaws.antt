@@ -6,26 +6,26 @@ use Prim.Native.Nat.{ℕ, _≤_, _<_}
 use lib.ListN.{length}
 use Rattle.base.proofs.Booleans.{clash, true→T}
 use Rattle.grammar.specs.Grammar.{Grammar}
-use Rattle.grammar.specs.Tables.{grammarIn}
-use Rattle.derivation.specs.Plain.{Answer, answer, refuse, onOutcome}
+use Rattle.grammar.specs.inside.Tables.{grammarIn}
+use Rattle.derivation.specs.Plain.{Answer, answer, refuse, onConclusion}
 use Rattle.derivation.specs.Gate as definition
 use Rattle.words.specs.Layout.{minWords}
 use Rattle.words.specs.Begin.{begun?}
-use Rattle.adaptive.specs.Quick.{Reply, reply, quickNote, answered, overCache, quickReading}
+use Rattle.adaptive.specs.Quick.{Reply, reply, quickNote, replyOf, overCache, quickReading}
 use Rattle.adaptive.proofs.QuickLaws.{over-12, over-13, over-begun}
 use Rattle.gate.specs.Reading.{readingNumber, readingPlace}
-use Rattle.gate.specs.Passing.{gateIn, Admitted, Gated}
+use Rattle.gate.specs.inside.Passing.{gateIn, Admitted, Gated}
 use Rattle.gate.specs.declared.reading.Reading.{Reading}
 use Rattle.gate.specs.declared.reading.Reading.the-variants.{ShortCache, ForeignCache}
 use Rattle.gate.specs.declared.passing.Gate.{Gate}
 use Rattle.gate.specs.declared.passing.Gate.the-variants.{Passed, Shut}
 use Rattle.cells.proofs.Spots.{lent-kept}
-use Rattle.reach.specs.Passes.{Given}
-use Rattle.machine.specs.Ending.{outcomeIn}
+use Rattle.reach.specs.inside.Passes.{Given}
+use Rattle.machine.specs.inside.Ending.{outcomeIn}
 use Rattle.machine.proofs.EndingLaws.{outcome-length}
 use Rattle.quick.specs.declared.running.Stop.{Stop}
-use Rattle.quick.specs.Run.{QuickRan, Stopped, Tabled}
-use Rattle.quick.specs.Replied.{replied, readingOf}
+use Rattle.quick.specs.inside.Run.{QuickRan, Stopped, CellsRight}
+use Rattle.quick.specs.inside.Replied.{replied, noteReply}
 
 -- ---- the machine, and what follows from it
 pub stopped : (t w row ws c : List ℕ) {r : Stop} {row′ ws′ c′ : List ℕ} → Admitted t w (length ws) → QuickRan t w row ws c r row′ ws′ c′
@@ -38,15 +38,15 @@ stopped t w row ws c h x =
       within = x .ran .within;
     }
 
-pub stopped-given : (t w row ws : List ℕ) {r : Stop} {after : List ℕ} → Stopped t w row ws r → Tabled t w ws after → Given t w after
+pub stopped-given : (t w row ws : List ℕ) {r : Stop} {after : List ℕ} → Stopped t w row ws r → CellsRight t w ws after → Given t w after
 stopped-given t w row ws x y = record { ready = x .ready; lent = lent-kept (y .kept) (x .lent); charted = y .charted }
 
 pub read-is : (t w row ws c : List ℕ) {r : Stop} {row′ ws′ c′ : List ℕ} {x : Answer} → QuickRan t w row ws c r row′ ws′ c′
-    → x ≡ onOutcome (grammarIn t) w row′ (outcomeIn (r .outcome) row′) → reply x c′ ≡ readingOf (grammarIn t) w row c
+    → x ≡ onConclusion (grammarIn t) w row′ (outcomeIn (r .outcome) row′) → reply x c′ ≡ noteReply (grammarIn t) w row c
 unfolding quickNote
 read-is t w row ws c {r} {row′} {c′ = c′} y e =
     ap (λ (y : Answer). reply y c′) (e ∙ outcome-length (grammarIn t) w row row′ (outcomeIn (r .outcome) row′) (y .ran .row-kept))
-    ∙ ap (answered (grammarIn t) w row) (y .ran .stops)
+    ∙ ap (replyOf (grammarIn t) w row) (y .ran .stops)
 
 -- ---- 12 and 13
 module _ (s : List ℕ) (g : Grammar) (w row c : List ℕ) where
@@ -61,7 +61,7 @@ module _ (s : List ℕ) (g : Grammar) (w row c : List ℕ) where
         go true e n = clash (cc)
         go false e n = sym (over-13 s g w row c l (sym e))
 
-    pub begun-is : {x : Reply} → not b ≡ false → x ≡ readingOf g w row c → x ≡ overCache s g w row c
+    pub begun-is : {x : Reply} → not b ≡ false → x ≡ noteReply g w row c → x ≡ overCache s g w row c
     begun-is {x} n q = go b e n
       where
         go : (b : Bool) → b ≡ begun? s c → not b ≡ false → x ≡ overCache s g w row c

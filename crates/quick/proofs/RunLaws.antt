@@ -5,32 +5,32 @@ use Prim.Native.Nat.{ℕ, suc, _+_, _*_, _≤_, _<_}
 use native.Mathlib.Omega.{arith}
 use lib.ListN.{length, set, length-set}
 use Rattle.base.proofs.Booleans.{clash}
-use Rattle.grammar.specs.Tables.{grammarIn}
+use Rattle.grammar.specs.inside.Tables.{grammarIn}
 use Rattle.derivation.specs.Runs.{marked}
 use Rattle.derivation.specs.Machine.{Chooser, stuck, ended}
-use Rattle.derivation.specs.Space.{frameWords, returnsOf}
+use Rattle.derivation.specs.inside.Frames.{frameWords, returnsOf}
 use Rattle.derivation.proofs.MarkedCells.{length-marked}
 use Rattle.words.specs.Layout.{minWords}
 use Rattle.adaptive.specs.Chooser.{adaptively}
-use Rattle.cells.specs.Chart.{Lent, Charted}
+use Rattle.cells.specs.inside.Chart.{Lent, Charted}
 use Rattle.cells.proofs.Spots.{lent-kept}
-use Rattle.gate.specs.Passing.{Admitted}
-use Rattle.machine.specs.Frames.{FramesBelow}
-use Rattle.machine.specs.Space.{ground, opened, Spaced}
-use Rattle.machine.specs.Moves.{ToCall, Entered}
-use Rattle.machine.specs.Waits.{Waits, called}
-use Rattle.machine.specs.Going.{Going}
+use Rattle.gate.specs.inside.Passing.{Admitted}
+use Rattle.machine.specs.inside.Frames.{FramesBelow}
+use Rattle.machine.specs.inside.Space.{ground, opened, Spaced}
+use Rattle.machine.specs.inside.Moves.{ToCall, Entered}
+use Rattle.machine.specs.inside.Waits.{Waits, called}
+use Rattle.machine.specs.inside.Going.{Going}
 use Rattle.machine.specs.declared.steps.At.{At}
 use Rattle.machine.specs.declared.steps.Space.{Space}
 use Rattle.machine.specs.declared.steps.Turn.{Turn}
 use Rattle.machine.specs.declared.steps.Turn.the-variants.{Calls, Stuck as Dead, Ended}
-use Rattle.machine.specs.declared.ending.Outcome.the-variants.{Accepted, Stuck, Full}
+use Rattle.machine.specs.declared.ending.Conclusion.the-variants.{Accepted, Stuck, Full}
 use Rattle.machine.proofs.AlternativeLaws.{named-small}
 use Rattle.machine.proofs.MoveLaws.{moves-held, moves-good}
 use Rattle.machine.proofs.WaitLaws.{waits-begins, waits-room, waits-position}
 use Rattle.machine.proofs.GoingLaws.{going-begins, going-full, going-none, turn-calls, turn-stuck, turn-ended}
-use Rattle.choosing.specs.Deciding.{Deciding, Chose}
-use Rattle.quick.specs.Run.{quickEnd, QuickRan}
+use Rattle.choosing.specs.inside.Deciding.{Deciding, Chose}
+use Rattle.quick.specs.inside.Run.{quickEnd, QuickRan}
 
 -- nonterminal a waits at `at`, `count` entries of the row are written and c are the cache's words; the sets of the lowest `known` frames are right, and so
 -- are the cells if there is one

@@ -1,4 +1,3 @@
--- The quick reading, and demand 3 of the calls.
-pub mod Run
-pub mod Replied
-pub mod Whole
+-- The quick reading.
+pub mod Contract
+pub mod inside

@@ -2,24 +2,25 @@
 use crate::running::Stop;
 use gate::Gate;
 use gate::Reading;
-use machine::Outcome;
+use machine::Conclusion;
 ghost use mathlib.Core.Path.{_≡_};
 ghost use Prim.Native.Nat.{_≤_, _<_};
 ghost use lib.ListN.{length};
-ghost use Rattle.grammar.specs.Tables.{grammarIn};
-ghost use Rattle.derivation.specs.Plain.{onOutcome};
+ghost use Rattle.grammar.specs.inside.Tables.{grammarIn};
+ghost use Rattle.derivation.specs.Plain.{onConclusion};
 ghost use Rattle.words.specs.Layout.{minWords};
-ghost use Rattle.adaptive.specs.Quick.{overCache, quickReading};
-ghost use Rattle.gate.specs.Reading.{answered};
-ghost use Rattle.gate.specs.Passing.{Admitted};
-ghost use Rattle.machine.specs.Ending.{outcomeIn};
-ghost use Rattle.quick.specs.Run.{Stopped, Tabling, Tabled};
-ghost use Rattle.quick.specs.Replied.{replied, readingOf};
+ghost use Rattle.adaptive.specs.Quick.{overCache};
+ghost use Rattle.gate.specs.Reading.{readingNumber, readingPlace, readingCount, answered};
+ghost use Rattle.gate.specs.inside.Passing.{Admitted};
+ghost use Rattle.machine.specs.inside.Ending.{outcomeIn};
+ghost use Rattle.quick.specs.inside.Run.{Stopped, CellsWanted, CellsRight};
+ghost use Rattle.quick.specs.inside.Replied.{replied, noteReply};
+ghost use Rattle.quick.specs.Contract.{QuickDid};
 
 // The cells, if there are none yet.
 fn table(tables: &[u16], note: &[u16], ws: &mut [u32], known: usize)
-    requires { ⌜ Tabling (now tables) (now note) (now ws) known ⌝ }
-    ensures { λ _. ⌜ Tabled (now (tables .entry)) (now (note .entry)) (now (ws .entry)) (now (ws .exit)) ⌝ }
+    requires { ⌜ CellsWanted (now tables) (now note) (now ws) known ⌝ }
+    ensures { λ _. ⌜ CellsRight (now (tables .entry)) (now (note .entry)) (now (ws .entry)) (now (ws .exit)) ⌝ }
 {
     if known == 0 {
         chart::fill(tables, note, ws);
@@ -30,21 +31,21 @@ fn table(tables: &[u16], note: &[u16], ws: &mut [u32], known: usize)
 fn finish(tables: &[u16], note: &[u16], row: &mut [u16], ws: &mut [u32], stop: Stop) -> Reading
     requires { ⌜ Stopped (now tables) (now note) (now row) (now ws) stop ⌝ }
     ensures { λ r. ⌜ answered r (now (row .exit))
-        ≡ onOutcome (grammarIn (now (tables .entry))) (now (note .entry)) (now (row .entry)) (outcomeIn (stop .outcome) (now (row .entry))) ⌝ }
+        ≡ onConclusion (grammarIn (now (tables .entry))) (now (note .entry)) (now (row .entry)) (outcomeIn (stop .outcome) (now (row .entry))) ⌝ }
 {
     let outcome = stop.outcome;
     match outcome {
-        Outcome::Accepted(entries) => {
+        Conclusion::Accepted(entries) => {
             machine::ending::clear_from(row, entries);
             Reading::Accepted(entries)
         }
-        Outcome::Stuck => {
+        Conclusion::Stuck => {
             table(tables, note, ws, stop.known);
-            machine::finish(tables, note, row, ws, Outcome::Stuck)
+            machine::finish(tables, note, row, ws, Conclusion::Stuck)
         }
-        Outcome::Full => {
+        Conclusion::Full => {
             table(tables, note, ws, stop.known);
-            machine::finish(tables, note, row, ws, Outcome::Full)
+            machine::finish(tables, note, row, ws, Conclusion::Full)
         }
     }
 }
@@ -53,7 +54,7 @@ fn finish(tables: &[u16], note: &[u16], row: &mut [u16], ws: &mut [u32], stop: S
 fn read(tables: &[u16], note: &[u16], row: &mut [u16], cache: &mut [u32], ws: &mut [u32]) -> Reading
     requires { ⌜ Admitted (now tables) (now note) (length (now ws)) × (minWords ≤ length (now cache)) ⌝ }
     ensures { λ r. ⌜ replied r (now (row .exit)) (now (cache .exit))
-        ≡ readingOf (grammarIn (now (tables .entry))) (now (note .entry)) (now (row .entry)) (now (cache .entry)) ⌝ }
+        ≡ noteReply (grammarIn (now (tables .entry))) (now (note .entry)) (now (row .entry)) (now (cache .entry)) ⌝ }
 {
     let stop = crate::running::run(tables, note, row, cache, ws);
     finish(tables, note, row, ws, stop)
@@ -91,8 +92,8 @@ pub fn quick(
     cache: &mut [u32],
     workspace: &mut [u32],
 ) -> Reading
-    ensures { λ r. ⌜ replied r (now (row .exit)) (now (cache .exit))
-        ≡ quickReading (now (grammar .entry)) (now (note .entry)) (now (row .entry)) (length (now (workspace .entry))) (now (cache .entry)) ⌝ }
+    ensures { λ r. ⌜ QuickDid (now (grammar .entry)) (now (note .entry)) (now (row .entry)) (length (now (workspace .entry))) (now (cache .entry))
+        (readingNumber r) (readingPlace r) (readingCount r) (now (row .exit)) (now (cache .exit)) ⌝ }
 {
     let mut tables = [0u16; grammar::TABLE_WORDS];
     let gate = gate::pass(grammar, note, workspace.len(), &mut tables);

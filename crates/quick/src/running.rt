@@ -1,16 +1,16 @@
 // The machine with the quick reading's choices.
 use machine::At;
-use machine::Outcome;
+use machine::Conclusion;
 use machine::Turn;
 ghost use Prim.Native.Nat.{_≤_};
 ghost use lib.ListN.{length};
 ghost use Rattle.words.specs.Layout.{minWords};
-ghost use Rattle.gate.specs.Passing.{Admitted};
-ghost use Rattle.quick.specs.Run.{QuickRan};
+ghost use Rattle.gate.specs.inside.Passing.{Admitted};
+ghost use Rattle.quick.specs.inside.Run.{QuickRan};
 
 // How the machine stopped, and of how many open frames the sets stood: 0 where no cell was worked out.
 pub struct Stop {
-    pub outcome: Outcome,
+    pub outcome: Conclusion,
     pub known: usize,
 }
 
@@ -32,7 +32,7 @@ pub fn run(tables: &[u16], note: &[u16], row: &mut [u16], cache: &mut [u32], ws:
     loop {
         if count == row.len() {
             return Stop {
-                outcome: Outcome::Full,
+                outcome: Conclusion::Full,
                 known: known,
             };
         }
@@ -41,7 +41,7 @@ pub fn run(tables: &[u16], note: &[u16], row: &mut [u16], cache: &mut [u32], ws:
         let b = pick.alternative;
         if b == 0 {
             return Stop {
-                outcome: Outcome::Stuck,
+                outcome: Conclusion::Stuck,
                 known: known,
             };
         }
@@ -51,13 +51,13 @@ pub fn run(tables: &[u16], note: &[u16], row: &mut [u16], cache: &mut [u32], ws:
         match turn {
             Turn::Ended => {
                 return Stop {
-                    outcome: Outcome::Accepted(count),
+                    outcome: Conclusion::Accepted(count),
                     known: known,
                 };
             }
             Turn::Stuck => {
                 return Stop {
-                    outcome: Outcome::Stuck,
+                    outcome: Conclusion::Stuck,
                     known: known,
                 };
             }

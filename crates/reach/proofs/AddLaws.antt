@@ -11,11 +11,11 @@ use lib.ListN.{length}
 use Rattle.base.proofs.Booleans.{or-T, T-or-l, T-or-r, true→T}
 use Rattle.base.proofs.Bits.{same?}
 use Rattle.grammar.specs.Limits.{maxPlaces}
-use Rattle.positions.specs.Positions.{positionCount, setWords, emptySet, member, withOf}
-use Rattle.positions.specs.Words.{memberAt, total, Joined}
+use Rattle.positions.specs.inside.Positions.{positionCount, setWords, emptySet, member, withOf}
+use Rattle.positions.specs.inside.Words.{memberAt, total, Joined}
 use Rattle.positions.proofs.SetLaws.{member-empty, member-with}
 use Rattle.positions.proofs.WordLaws.{joined-same, joined-other}
-use Rattle.reach.specs.Sets.{setsWords, Inside, stands, Added, PointOf}
+use Rattle.reach.specs.inside.Sets.{setsWords, PointInside, stands, Added, PointOf}
 
 -- ---- the sets of two places share no word
 apart : (q p : ℕ) → (p ≡ q → ⊥) → (setWords * p + setWords ≤ setWords * q) ⊎ (setWords * q + setWords ≤ setWords * p)
@@ -32,7 +32,7 @@ Then ws after q s p j = (stands after p j ≡ stands ws p j) ⊎ ((p ≡ q) × (
 
 module _ {r : Bool} {ws after : List ℕ} {q : ℕ} {s : List ℕ} (long : length ws ≡ setsWords) (l : q < maxPlaces)
     (h : Joined r ws after (setWords * q) s) where
-  joins : (p j : ℕ) → Inside p j → (p ≡ q) ⊎ (p ≡ q → ⊥) → Then ws after q s p j
+  joins : (p j : ℕ) → PointInside p j → (p ≡ q) ⊎ (p ≡ q → ⊥) → Then ws after q s p j
   unfolding stands
   joins p j (_, m) (inl e) = inr (e, rw e (joined-same h j m (omega arith)))
   joins p j (_, m) (inr n) = inl (joined-other h (setWords * p) j m (apart q p n))
@@ -41,7 +41,7 @@ module _ {r : Bool} {ws after : List ℕ} {q : ℕ} {s : List ℕ} (long : lengt
   joins-kept p j (inl e) t = rw e t
   joins-kept p j (inr (_, e)) t = rw e (T-or-l (stands ws p j) (member s j) t)
 
-  joins-held : (p j : ℕ) → Inside p j → p ≡ q → T (member s j) → T (stands after p j)
+  joins-held : (p j : ℕ) → PointInside p j → p ≡ q → T (member s j) → T (stands after p j)
   unfolding stands
   joins-held p j (_, m) e t = rw (e, joined-same h j m (omega arith)) (T-or-r (memberAt ws (setWords * q) j) (member s j) t)
 
@@ -60,8 +60,8 @@ module _ {r : Bool} {ws after : List ℕ} {q : ℕ} {s : List ℕ} (long : lengt
       }
 
 -- ---- other words for the points that are added
-pub added-as : {P Q : ℕ → ℕ → Type 0} {r : Bool} {ws after : List ℕ} → ((p j : ℕ) → Inside p j → P p j → Q p j)
-    → ((p j : ℕ) → Inside p j → Q p j → P p j)
+pub added-as : {P Q : ℕ → ℕ → Type 0} {r : Bool} {ws after : List ℕ} → ((p j : ℕ) → PointInside p j → P p j → Q p j)
+    → ((p j : ℕ) → PointInside p j → Q p j → P p j)
     → Added P r ws after → Added Q r ws after
 added-as to from h =
     record {

@@ -12,14 +12,14 @@ use Rattle.base.proofs.Booleans.{clash}
 use Rattle.base.proofs.Lists.{slice-from}
 use Rattle.grammar.specs.Limits.{maxPlaces}
 use Rattle.grammar.specs.Grammar.{Grammar, first, compile}
-use Rattle.grammar.specs.Tables.{grammarIn, nonterminalsIn, ruleAt}
+use Rattle.grammar.specs.inside.Tables.{grammarIn, nonterminalsIn, ruleAt}
 use Rattle.grammar.proofs.WordLaws.{length-starts-in}
 use Rattle.grammar.proofs.PlaceLaws.{length-startsAll}
-use Rattle.derivation.specs.Ready.{Ready}
+use Rattle.derivation.specs.inside.Ready.{Ready}
 use Rattle.derivation.proofs.ReadyLaws.{ready-size}
 use Rattle.derivation.proofs.FirstLaws.{rule-within, rules-are, first-at, first-in}
-use Rattle.reach.specs.Sets.{Added, PointOf}
-use Rattle.reach.specs.Passes.{Opening}
+use Rattle.reach.specs.inside.Sets.{Added, PointOf}
+use Rattle.reach.specs.inside.Passes.{Opening}
 use Rattle.reach.proofs.AddLaws.{added-as, none-added, both-added, or-first, or-second}
 
 -- ---- elements of a list by their numbers

@@ -12,17 +12,17 @@ use lib.ListN.{length, replicate, getD-replicate}
 use Rattle.base.proofs.Bits.{test-none}
 use Rattle.base.proofs.Booleans.{clash, same, false→¬T}
 use Rattle.grammar.specs.Grammar.{first}
-use Rattle.grammar.specs.Tables.{grammarIn}
-use Rattle.positions.specs.Positions.{positionCount, setWords, member}
-use Rattle.positions.specs.Words.{memberAt}
-use Rattle.derivation.specs.Ready.{Ready}
-use Rattle.derivation.specs.Viable.{Reach}
+use Rattle.grammar.specs.inside.Tables.{grammarIn}
+use Rattle.positions.specs.inside.Positions.{positionCount, setWords, member}
+use Rattle.positions.specs.inside.Words.{memberAt}
+use Rattle.derivation.specs.inside.Ready.{Ready}
+use Rattle.derivation.specs.inside.Reach.{Reach}
 use Rattle.derivation.specs.ReachRounds.{arrives?}
 use Rattle.derivation.proofs.ReachLaws.{reach-in}
 use Rattle.derivation.proofs.ReadyLaws.{ready-first, ready-next, ready-size}
 use Rattle.derivation.proofs.WrongPlace.{arrives-iff}
-use Rattle.reach.specs.Sets.{setsWords, Inside, stands, Added, Anywhere}
-use Rattle.reach.specs.Passes.{Opening, Leads, match, call, return, Sound, Closed, Settled}
+use Rattle.reach.specs.inside.Sets.{setsWords, PointInside, stands, Added, Occupied}
+use Rattle.reach.specs.inside.Passes.{Opening, Leads, match, call, return, Sound, Closed, PassesDone}
 use Rattle.reach.proofs.PassLaws.{leads-inside}
 
 -- all that can be reached before position i is found, and all that it leads to
@@ -32,7 +32,7 @@ pub record FoundTo (t w : List ℕ) (i : ℕ) (ws : List ℕ) : Type 0 where
   pub closed : (j : ℕ) → j < i → Closed (grammarIn t) w (grammarIn t .size) j ws
 
 -- ---- at first nobody stands anywhere
-nobody-stands : (n p j : ℕ) → n ≡ setsWords → Inside p j → stands (replicate n 0) p j ≡ false
+nobody-stands : (n p j : ℕ) → n ≡ setsWords → PointInside p j → stands (replicate n 0) p j ≡ false
 unfolding stands memberAt
 nobody-stands n p j e (l, m) = rw (getD-replicate {A = ℕ} n (setWords * p + j / 32) 0 0 (omega arith)) (test-none (j % 32))
 
@@ -49,7 +49,7 @@ module _ (t w : List ℕ) (ready : Ready t) (short : length w < positionCount) w
       from p j (b, d, z) = rw z (Reach.start b d)
 
   -- passes at i leave what was closed before i closed: they add nothing there
-  pub found-next : (i : ℕ) {ws after : List ℕ} → i ≤ length w → FoundTo t w i ws → Settled t w i ws after → FoundTo t w (i + 1) after
+  pub found-next : (i : ℕ) {ws after : List ℕ} → i ≤ length w → FoundTo t w i ws → PassesDone t w i ws after → FoundTo t w (i + 1) after
   found-next i {ws} {after} l h k =
       record {
         sound = k .sets .sound (h .sound);
@@ -81,9 +81,9 @@ module _ (t w : List ℕ) (ready : Ready t) (short : length w < positionCount) w
     found (Reach.return b x e d y) = on x (found x) (return b e d y)
 
     -- the positions at which a reader can stand somewhere are those at which something arrives
-    pub found-all : (all : List ℕ) {m : ℕ} → m ≡ grammarIn t .size → Anywhere ws m all → (k : ℕ) → k ≤ length w → member all k
+    pub found-all : (all : List ℕ) {m : ℕ} → m ≡ grammarIn t .size → Occupied ws m all → (k : ℕ) → k ≤ length w → member all k
         ≡ arrives? (grammarIn t) w k
-    unfolding Anywhere
+    unfolding Occupied
     found-all all {m} z y k l =
         same (member all k) (arrives? (grammarIn t) w k) (λ u. to (y k (omega arith) .0 u)) (λ u. from (arrives-iff (grammarIn t) w k .0 u))
       where

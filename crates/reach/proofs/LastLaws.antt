@@ -10,16 +10,16 @@ use lib.Dec.{T}
 use lib.ListN.{length}
 use Rattle.base.proofs.Booleans.{or-T, T-or-l, T-or-r}
 use Rattle.grammar.specs.Grammar.{Grammar}
-use Rattle.positions.specs.Positions.{setWords, emptySet, member, unionOf}
-use Rattle.positions.specs.Words.{setAt}
+use Rattle.positions.specs.inside.Positions.{setWords, emptySet, member, unionOf}
+use Rattle.positions.specs.inside.Words.{setAt}
 use Rattle.positions.proofs.SetLaws.{member-empty, member-union}
 use Rattle.positions.proofs.WordLaws.{member-set}
 use Rattle.derivation.specs.ReachRounds.{arrives?, highestTo, wrongPlace}
-use Rattle.reach.specs.Sets.{stands, Anywhere}
+use Rattle.reach.specs.inside.Sets.{stands, Occupied}
 
 -- ---- the union of all sets, a place at a time
-pub any-begin : (ws : List ℕ) {s : List ℕ} → s ≡ emptySet → Anywhere ws 0 s
-unfolding Anywhere
+pub any-begin : (ws : List ℕ) {s : List ℕ} → s ≡ emptySet → Occupied ws 0 s
+unfolding Occupied
 any-begin ws {s} e j l = (λ t. none (rw e at t), λ x. some x)
   where
     none : T (member emptySet j) → (p : ℕ) × (p < 0) × T (stands ws p j)
@@ -28,9 +28,9 @@ any-begin ws {s} e j l = (λ t. none (rw e at t), λ x. some x)
     some : (p : ℕ) × (p < 0) × T (stands ws p j) → T (member s j)
     some (p, m, t) = absurd (omega arith)
 
-pub any-next : (ws : List ℕ) (m : ℕ) (s : List ℕ) {h r : List ℕ} → h ≡ setAt ws (setWords * m) → r ≡ unionOf s h → Anywhere ws m s
-    → Anywhere ws (m + 1) r
-unfolding Anywhere stands
+pub any-next : (ws : List ℕ) (m : ℕ) (s : List ℕ) {h r : List ℕ} → h ≡ setAt ws (setWords * m) → r ≡ unionOf s h → Occupied ws m s
+    → Occupied ws (m + 1) r
+unfolding Occupied stands
 any-next ws m s {h} {r} e d x j l = (λ t. to (or-T (member s j) (stands ws m j) (rw both at t)), from)
   where
     both : member r j ≡ (member s j || stands ws m j)
@@ -48,7 +48,7 @@ any-next ws m s {h} {r} e d x j l = (λ t. to (or-T (member s j) (stands ws m j)
         go (yes y) = rw both (T-or-l (member s j) (stands ws m j) (x j l .1 (p, y, t)))
         go (no y) = let z : p ≡ m = omega arith in rw both (T-or-r (member s j) (stands ws m j) (rw z at t))
 
-pub any-end : (ws : List ℕ) (p m : ℕ) (s : List ℕ) → p ≡ m → Anywhere ws p s → Anywhere ws m s
+pub any-end : (ws : List ℕ) (p m : ℕ) (s : List ℕ) → p ≡ m → Occupied ws p s → Occupied ws m s
 any-end ws p m s e h = rw e at h
 
 -- ---- the highest member, from n down

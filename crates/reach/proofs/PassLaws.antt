@@ -1,25 +1,27 @@
 -- Passes at one position, as their loops meet them.
 use mathlib.Core.Path.{_≡_, refl, sym, ap, subst, _∙_}
 use mathlib.Core.Logic.{_⊎_, ⊎-elim}
-use mathlib.Core.Bool.{Bool, true, false, true≢false, false≢true}
+use mathlib.Core.Bool.{Bool, true, false, not, true≢false, false≢true}
 use mathlib.Core.List.{List}
-use Prim.Native.Nat.{ℕ, zero, suc, _+_, _*_, _≤_, _<_}
+use Prim.Native.Nat.{ℕ, zero, suc, _+_, _*_, _/_, _%_, _≤_, _<_}
 use native.Mathlib.Omega.{arith}
 use native.Mathlib.Decide.{decLt}
-use lib.Dec.{T}
-use lib.ListN.{length, getD, set, replicate, length-set, length-replicate}
-use lib.Seq.{getD-set-other}
-use Rattle.base.proofs.Bits.{same?}
-use Rattle.base.proofs.Booleans.{true→T, false→¬T}
+use lib.Dec.{T, eqb, eqb→eq}
+use lib.ListN.{length, getD, replicate, length-replicate}
+use borrow.Author.Tests.{not-false}
+use Rattle.base.specs.Bits.{wordBits}
+use Rattle.base.proofs.Bits.{test-none}
+use Rattle.base.proofs.Booleans.{true→T, false→¬T, or-T}
 use Rattle.grammar.specs.Limits.{maxPlaces}
 use Rattle.grammar.specs.Grammar.{Grammar}
-use Rattle.grammar.specs.Tables.{grammarIn}
-use Rattle.positions.specs.Positions.{positionCount, setWords}
-use Rattle.positions.specs.Words.{memberAt, total}
-use Rattle.derivation.specs.Ready.{Ready}
+use Rattle.grammar.specs.inside.Tables.{grammarIn}
+use Rattle.positions.specs.inside.Positions.{positionCount, setWords, member, withOf}
+use Rattle.positions.specs.inside.Words.{memberAt, total}
+use Rattle.positions.proofs.SetLaws.{member-with, length-with}
+use Rattle.derivation.specs.inside.Ready.{Ready}
 use Rattle.derivation.proofs.ReadyLaws.{ready-size}
-use Rattle.reach.specs.Sets.{Inside, stands, Added}
-use Rattle.reach.specs.Passes.{Leads, Closed, Grown, PassedTo, Passed, Settled, Stepped}
+use Rattle.reach.specs.inside.Sets.{placeSetWords, PointInside, stands, Added}
+use Rattle.reach.specs.inside.Passes.{Leads, Closed, SetsGrown, PassedTo, Passed, PassesDone, Stepped}
 use Rattle.reach.proofs.StepLaws.{leads-le, leads-in, leads-reach, leads-place}
 
 -- ---- one word of a set that is read
@@ -29,10 +31,10 @@ holds-stands ws p j e = e
 
 -- ---- sets that have grown
 module _ (g : Grammar) (w : List ℕ) (i : ℕ) where
-  pub grown-none : (ws : List ℕ) → Grown g w i ws ws
+  pub grown-none : (ws : List ℕ) → SetsGrown g w i ws ws
   grown-none ws = record { kept = λ p j o u. u; early = λ p j o l u. u; sound = λ h. h }
 
-  pub grown-both : {a b c : List ℕ} → Grown g w i a b → Grown g w i b c → Grown g w i a c
+  pub grown-both : {a b c : List ℕ} → SetsGrown g w i a b → SetsGrown g w i b c → SetsGrown g w i a c
   grown-both h k =
       record {
         kept = λ p j o u. k .kept p j o (h .kept p j o u);
@@ -41,7 +43,7 @@ module _ (g : Grammar) (w : List ℕ) (i : ℕ) where
       }
 
   -- by one step from a point that the sets hold
-  pub step-grown : (p : ℕ) {r : Bool} {ws after : List ℕ} → Inside p i → T (stands ws p i) → Added (Leads g w p i) r ws after → Grown g w i ws after
+  pub step-grown : (p : ℕ) {r : Bool} {ws after : List ℕ} → PointInside p i → T (stands ws p i) → Added (Leads g w p i) r ws after → SetsGrown g w i ws after
   step-grown p o s h =
       record {
         kept = h .kept;
@@ -51,7 +53,7 @@ module _ (g : Grammar) (w : List ℕ) (i : ℕ) where
 
 -- ---- the points of a step are points that the sets can hold
 pub leads-inside : (t w : List ℕ) → Ready t → length w < positionCount → {p i q j : ℕ} → p < grammarIn t .size → i ≤ length w
-    → Leads (grammarIn t) w p i q j → Inside q j
+    → Leads (grammarIn t) w p i q j → PointInside q j
 leads-inside t w ready short l m x = let a = leads-place t w ready l x in let b = leads-in m x in (omega (arith, ready-size t ready), omega arith)
 
 -- ---- the loop of a pass
@@ -95,7 +97,7 @@ module _ (t w : List ℕ) (p i : ℕ) {r : Bool} {ws₀ ws : List ℕ} (ready : 
       }
 
   module _ (e : b ≡ true) {u : Bool} {after : List ℕ} (x : Added (Leads (grammarIn t) w p i) u ws after) where
-    further : Grown (grammarIn t) w i ws₀ after
+    further : SetsGrown (grammarIn t) w i ws₀ after
     further =
         grown-both (grammarIn t) w i (h .sets)
         (step-grown (grammarIn t) w i p (omega (arith, ready-size t ready), omega arith) (true→T (stands ws p i) (sym q ∙ e)) x)
@@ -121,47 +123,50 @@ module _ (t w : List ℕ) (p i : ℕ) {r : Bool} {ws₀ ws : List ℕ} (ready : 
         }
 
   -- a step was made from p before
-  pub pass-before : (marks : List ℕ) → Stepped t w i marks ws → ¬ (getD marks p 0 ≡ 0) → PassedTo (grammarIn t) w (p + 1) i r ws₀ ws
-  pass-before marks y n =
+  pub pass-before : (from : List ℕ) → Stepped t w i from ws → {d : Bool} → d ≡ member from p → not d ≡ false
+      → PassedTo (grammarIn t) w (p + 1) i r ws₀ ws
+  pass-before from y {d} c n =
       record {
         sets = h .sets;
         same = h .same;
         grown = h .grown;
-        closed = λ z. closed-more (grammarIn t) w p i ws (h .closed z) (λ q′ j s x. y .made p q′ j n l x);
+        closed = λ z. closed-more (grammarIn t) w p i ws (h .closed z) (λ q′ j s x. y .made p q′ j (true→T (member from p) (sym c ∙ not-false d n)) l x);
       }
 
--- ---- marks
-pub stepped-none : (t w : List ℕ) (i : ℕ) (ws : List ℕ) → Stepped t w i (replicate maxPlaces 0) ws
+-- ---- the places from which a step was made
+pub stepped-none : (t w : List ℕ) (i : ℕ) (ws : List ℕ) → Stepped t w i (replicate placeSetWords 0) ws
+unfolding member
 stepped-none t w i ws =
-    record { long = length-replicate {A = ℕ} maxPlaces 0; made = λ p q j h l x. absurd (h (zeros maxPlaces p)) }
+    record { long = length-replicate {A = ℕ} placeSetWords 0; made = λ p q j h l x. absurd (false→¬T (member (replicate placeSetWords 0) p) (none p) h) }
   where
-    zeros : (n p : ℕ) → getD {A = ℕ} (replicate n 0) p 0 ≡ 0
-    zeros zero p = refl
+    zeros : (n k : ℕ) → getD {A = ℕ} (replicate n 0) k 0 ≡ 0
+    zeros zero k = refl
     zeros (suc n) zero = refl
-    zeros (suc n) (suc p) = zeros n p
+    zeros (suc n) (suc k) = zeros n k
 
--- a step is made from p, and p is marked
-pub stepped-more : (t w : List ℕ) (p i : ℕ) {u : Bool} {ws after : List ℕ} → Ready t → length w < positionCount → i ≤ length w
-    → (marks : List ℕ) (v : ℕ)
-    → Stepped t w i marks ws → Added (Leads (grammarIn t) w p i) u ws after → Stepped t w i (set marks p v) after
-stepped-more t w p i {after = after} ready short m marks v y x = record { long = length-set marks p v ∙ y .long; made = made }
+    none : (p : ℕ) → member (replicate placeSetWords 0) p ≡ false
+    none p = rw (zeros placeSetWords (p / wordBits)) (test-none (p % wordBits))
+
+-- a step is made from p, which is put to them
+pub stepped-more : (t w : List ℕ) (p i : ℕ) {u : Bool} {ws after : List ℕ} → Ready t → length w < positionCount → i ≤ length w → p < maxPlaces
+    → {from from′ : List ℕ} → from′ ≡ withOf from p
+    → Stepped t w i from ws → Added (Leads (grammarIn t) w p i) u ws after → Stepped t w i from′ after
+stepped-more t w p i {after = after} ready short m few {from} {from′} e y x = record { long = ap length e ∙ (length-with from p ∙ y .long); made = made }
   where
-    made : (p′ q j : ℕ) → ¬ (getD (set marks p v) p′ 0 ≡ 0) → p′ < grammarIn t .size → Leads (grammarIn t) w p′ i q j
-        → T (stands after q j)
-    made p′ q j n l z = ⊎-elim (λ e. x .held q j inside (rw e at z))
-        (λ d. x .kept q j inside (y .made p′ q j (λ e. n (getD-set-other marks p p′ v 0 d ∙ e)) l z))
-        (same? p′ p)
+    made : (p′ q j : ℕ) → T (member from′ p′) → p′ < grammarIn t .size → Leads (grammarIn t) w p′ i q j → T (stands after q j)
+    made p′ q j h l z = ⊎-elim (λ d. x .kept q j inside (y .made p′ q j d l z)) (λ d. x .held q j inside (rw (eqb→eq p′ p d) at z))
+        (or-T (member from p′) (eqb p′ p) (rw (e, member-with from p p′ (omega (arith, y .long))) at h))
       where
-        inside : Inside q j
+        inside : PointInside q j
         inside = leads-inside t w ready short l m z
 
 -- all places have had their turn
-pub pass-end : (t w : List ℕ) (p i : ℕ) {m : ℕ} {r : Bool} {ws after marks : List ℕ} → m ≡ grammarIn t .size → p ≡ m
-    → PassedTo (grammarIn t) w p i r ws after → Stepped t w i marks after → Passed t w i r ws after marks
+pub pass-end : (t w : List ℕ) (p i : ℕ) {m : ℕ} {r : Bool} {ws after from : List ℕ} → m ≡ grammarIn t .size → p ≡ m
+    → PassedTo (grammarIn t) w p i r ws after → Stepped t w i from after → Passed t w i r ws after from
 pass-end t w p i s e h y = record { to = rw (e, s) at h; stepped = y }
 
 -- ---- passes
-pub settle-end : {t w : List ℕ} {i : ℕ} {r : Bool} {ws₀ ws after marks : List ℕ} → Grown (grammarIn t) w i ws₀ ws
-    → Passed t w i r ws after marks → r ≡ false
-    → Settled t w i ws₀ after
+pub settle-end : {t w : List ℕ} {i : ℕ} {r : Bool} {ws₀ ws after from : List ℕ} → SetsGrown (grammarIn t) w i ws₀ ws
+    → Passed t w i r ws after from → r ≡ false
+    → PassesDone t w i ws₀ after
 settle-end {t} {w} {i} h k e = record { sets = grown-both (grammarIn t) w i h (k .to .sets); closed = k .to .closed e }

@@ -14,21 +14,21 @@ use Rattle.base.proofs.Lists.{Found, anyOf-T, T-anyOf}
 use Rattle.grammar.specs.declared.Symbol.the-variants.{Token, Nonterminal, End}
 use Rattle.grammar.specs.Limits.{maxPlaces}
 use Rattle.grammar.specs.Grammar.{Grammar, facing, admits, first, alternatives}
-use Rattle.grammar.specs.Tables.{grammarIn}
+use Rattle.grammar.specs.inside.Tables.{grammarIn}
 use Rattle.grammar.proofs.GrammarLaws.{first-pos}
-use Rattle.positions.specs.Positions.{positionCount, member}
+use Rattle.positions.specs.inside.Positions.{positionCount, member}
 use Rattle.derivation.specs.Cells.{derives?}
-use Rattle.derivation.specs.Ready.{Ready}
-use Rattle.derivation.specs.Viable.{Reach}
+use Rattle.derivation.specs.inside.Ready.{Ready}
+use Rattle.derivation.specs.inside.Reach.{Reach}
 use Rattle.derivation.proofs.Notes.{get-lt}
 use Rattle.derivation.proofs.RunLaws.{der-le, der-in}
 use Rattle.derivation.proofs.CellLaws.{derives-sound, derives-complete}
 use Rattle.derivation.proofs.ReadyLaws.{ready-first, ready-next, ready-size}
-use Rattle.cells.specs.Chart.{cellHas, ChartedFrom, Charted, EndsOf}
-use Rattle.cells.specs.Matches.{matchesAt}
+use Rattle.cells.specs.inside.Chart.{cellHas, ChartedFrom, Charted, EndsOf}
+use Rattle.cells.specs.inside.Matches.{matchesAt}
 use Rattle.cells.proofs.MatchLaws.{matches-in, matches-out}
-use Rattle.reach.specs.Sets.{Inside, Added, PointOf}
-use Rattle.reach.specs.Passes.{Opening, Leads, match, call, return}
+use Rattle.reach.specs.inside.Sets.{PointInside, Added, PointOf}
+use Rattle.reach.specs.inside.Passes.{Opening, Leads, match, call, return}
 use Rattle.reach.proofs.AddLaws.{added-as, none-added, both-added, or-true}
 
 -- ---- steps go forward, stay in the note and in the productions, and lead to what can be reached
@@ -121,14 +121,14 @@ module _ (t w cs : List ℕ) (a i : ℕ) (ends : List ℕ) (ready : Ready t) (ch
 
   module _ (p : ℕ) {r s : Bool} {ws mid after : List ℕ} (e : facing (grammarIn t) p ≡ Nonterminal a) (x : Added (Opening (grammarIn t) a i) r ws mid)
       (y : Added (λ q j. (q ≡ p + 1) × T (member ends j)) s mid after) where
-    to : (q j : ℕ) → Inside q j → Opening (grammarIn t) a i q j ⊎ ((q ≡ p + 1) × T (member ends j)) → Leads (grammarIn t) w p i q j
+    to : (q j : ℕ) → PointInside q j → Opening (grammarIn t) a i q j ⊎ ((q ≡ p + 1) × T (member ends j)) → Leads (grammarIn t) w p i q j
     to q j o (inl (b, d, z)) = rw z (call b e d)
     to q j (_, m) (inr (z, u)) = go (ends-out j m u)
       where
         go : Ended (grammarIn t) w a i j → Leads (grammarIn t) w p i q j
         go (b, f, d, v) = let s : q ≡ suc p = omega arith in rw s (return b e d (derives-sound (grammarIn t) w v .1))
 
-    from : {q j : ℕ} → Inside q j → Leads (grammarIn t) w p i q j → Opening (grammarIn t) a i q j ⊎ ((q ≡ p + 1) × T (member ends j))
+    from : {q j : ℕ} → PointInside q j → Leads (grammarIn t) w p i q j → Opening (grammarIn t) a i q j ⊎ ((q ≡ p + 1) × T (member ends j))
     from o (match e′ d v) = clash (cc)
     from o (call {a = a′} b e′ d) = let z : a′ ≡ a = cc in inl (b, rw z at d, omega arith)
     from {j = j} (_, m) (return {a = a′} {f = f} b e′ d v) =

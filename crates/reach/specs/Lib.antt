@@ -1,3 +1,2 @@
 -- The sets of positions of the place of refusal 10.
-pub mod Sets
-pub mod Passes
+pub mod inside

@@ -6,14 +6,34 @@ ghost use mathlib.Core.Path.{_≡_};
 ghost use Prim.Native.Nat.{_≤_, _<_};
 ghost use lib.ListN.{length};
 ghost use Rattle.grammar.specs.Limits.{maxPlaces};
-ghost use Rattle.grammar.specs.Tables.{grammarIn};
-ghost use Rattle.positions.specs.Positions.{positionCount, member};
+ghost use Rattle.grammar.specs.inside.Tables.{grammarIn};
+ghost use Rattle.positions.specs.inside.Positions.{positionCount, member, withOf};
 ghost use Rattle.derivation.specs.ReachRounds.{highestTo, wrongPlace};
-ghost use Rattle.reach.specs.Sets.{setsWords, Marks, Added, PointOf, Anywhere};
-ghost use Rattle.reach.specs.Passes.{Stepped, Given, Standing, Enters, Opening, Leads, Passed, Settled};
+ghost use Rattle.reach.specs.inside.Sets.{setsWords, placeSetWords, Marks, Added, PointOf, Occupied};
+ghost use Rattle.reach.specs.inside.Passes.{Stepped, Given, StandsAt, MayEnter, Opening, Leads, Passed, PassesDone};
 
 // Words of the sets of all places. specs/Sets has the same.
 const SETS: usize = positions::WORDS * grammar::MAX_PLACES;
+
+// Words of a set of places, a bit for each. specs/Sets has the same.
+const PLACE_WORDS: usize = grammar::MAX_PLACES / base::WORD_BITS + 1;
+
+// Whether a set of places holds p.
+fn has_place(set: &[u32], p: usize) -> bool
+    requires { ⌜ (length (now set) ≡ placeSetWords) × (p < maxPlaces) ⌝ }
+    ensures { λ r. ⌜ r ≡ member (now (set .entry)) p ⌝ }
+{
+    base::has(set[p / base::WORD_BITS], p % base::WORD_BITS)
+}
+
+// Puts p into a set of places.
+fn put_place(set: &mut [u32], p: usize)
+    requires { ⌜ (length (now set) ≡ placeSetWords) × (p < maxPlaces) ⌝ }
+    ensures { λ _. ⌜ now (set .exit) ≡ withOf (now (set .entry)) p ⌝ }
+{
+    let k = p / base::WORD_BITS;
+    set[k] = base::with(set[k], p % base::WORD_BITS);
+}
 
 // A reader can stand at place q at position j. Whether that is new.
 fn mark(sets: &mut [u32], q: usize, j: usize) -> bool
@@ -29,7 +49,7 @@ fn mark(sets: &mut [u32], q: usize, j: usize) -> bool
 
 // It can stand at the first place of every production of a at position i. Whether any of that is new.
 fn enter(tables: &[u16], sets: &mut [u32], a: usize, i: usize) -> bool
-    requires { ⌜ Enters (now tables) (now sets) a i ⌝ }
+    requires { ⌜ MayEnter (now tables) (now sets) a i ⌝ }
     ensures { λ r. ⌜ Added (Opening (grammarIn (now (tables .entry))) a i) r (now (sets .entry)) (now (sets .exit)) ⌝ }
 {
     let start = grammar::rule_at(tables, a);
@@ -49,7 +69,7 @@ fn enter(tables: &[u16], sets: &mut [u32], a: usize, i: usize) -> bool
 // Where a reader can stand next, if it stands at place p at position i: behind a token that matches; in the productions of a nonterminal, and behind it
 // wherever they end. Whether any of that is new.
 fn step(tables: &[u16], note: &[u16], ws: &[u32], sets: &mut [u32], p: usize, i: usize) -> bool
-    requires { ⌜ Standing (now tables) (now note) (now ws) i (now sets) × (p < grammarIn (now tables) .size) ⌝ }
+    requires { ⌜ StandsAt (now tables) (now note) (now ws) i (now sets) × (p < grammarIn (now tables) .size) ⌝ }
     ensures { λ r. ⌜ Added (Leads (grammarIn (now (tables .entry))) (now (note .entry)) p i) r (now (sets .entry)) (now (sets .exit)) ⌝ }
 {
     let place = grammar::place_at(tables, p);
@@ -80,7 +100,7 @@ fn pass(
     stepped: &mut [u32],
     i: usize,
 ) -> bool
-    requires { ⌜ Standing (now tables) (now note) (now ws) i (now sets) × Stepped (now tables) (now note) i (now stepped) (now sets) ⌝ }
+    requires { ⌜ StandsAt (now tables) (now note) (now ws) i (now sets) × Stepped (now tables) (now note) i (now stepped) (now sets) ⌝ }
     ensures { λ r. ⌜ Passed (now (tables .entry)) (now (note .entry)) i r (now (sets .entry)) (now (sets .exit)) (now (stepped .exit)) ⌝ }
 {
     let places = grammar::size(tables);
@@ -91,8 +111,8 @@ fn pass(
         let q = p;
         p += 1;
         if here {
-            if stepped[q] == 0 {
-                stepped[q] = 1;
+            if !has_place(stepped, q) {
+                put_place(stepped, q);
                 if step(tables, note, ws, sets, q, i) {
                     grown = true;
                 }
@@ -104,10 +124,10 @@ fn pass(
 
 // All that can be reached from position i, by passes until nothing changes. A step from the same place would lead nowhere new, so none is made twice.
 fn settle(tables: &[u16], note: &[u16], ws: &[u32], sets: &mut [u32], i: usize)
-    requires { ⌜ Standing (now tables) (now note) (now ws) i (now sets) ⌝ }
-    ensures { λ _. ⌜ Settled (now (tables .entry)) (now (note .entry)) i (now (sets .entry)) (now (sets .exit)) ⌝ }
+    requires { ⌜ StandsAt (now tables) (now note) (now ws) i (now sets) ⌝ }
+    ensures { λ _. ⌜ PassesDone (now (tables .entry)) (now (note .entry)) i (now (sets .entry)) (now (sets .exit)) ⌝ }
 {
-    let mut stepped = [0u32; grammar::MAX_PLACES];
+    let mut stepped = [0u32; PLACE_WORDS];
     loop {
         if !pass(tables, note, ws, sets, &mut stepped, i) {
             return;
@@ -118,7 +138,7 @@ fn settle(tables: &[u16], note: &[u16], ws: &[u32], sets: &mut [u32], i: usize)
 // Every position at which a reader can stand somewhere.
 fn anywhere(sets: &[u32], places: usize) -> Positions
     requires { ⌜ (places ≤ maxPlaces) × (length (now sets) ≡ setsWords) ⌝ }
-    ensures { λ r. ⌜ Anywhere (now (sets .entry)) places (r .words) ⌝ }
+    ensures { λ r. ⌜ Occupied (now (sets .entry)) places (r .words) ⌝ }
 {
     let mut all = Positions::empty();
     let mut p = 0;

@@ -5,11 +5,11 @@ use Prim.Native.Nat.{ℕ, zero, suc, _+_, _≤_, _<_}
 use native.Mathlib.Omega.{arith}
 use lib.ListN.{length, getD, replicate, length-append}
 use Rattle.base.proofs.Booleans.{clash}
-use Rattle.reader.specs.Types.{Symbol, Nonterminal}
+use Rattle.reader.specs.inside.Types.{Symbol, Nonterminal}
 use Rattle.grammar.specs.Limits.{endPlace}
 use Rattle.grammar.specs.Decode.{Rules}
 use Rattle.grammar.specs.Grammar.{Grammar, at, facing, sizeAll, compile, Limited}
-use Rattle.grammar.specs.Tables.{rulesAt, tableWords, ruleAt, nonterminalsIn, Fits}
+use Rattle.grammar.specs.inside.Tables.{rulesAt, tableWords, ruleAt, nonterminalsIn, TablesFit}
 use Rattle.grammar.proofs.PlaceLaws.{Faces, compile-faces}
 use Rattle.reader.proofs.PassLaws.{countsOf, laidOut, length-size}
 use Rattle.reader.proofs.TableLaws.{unwritten, C, A, B, D, held, length-A, length-B, length-D, laid, get-last, get-count, tables-say}
@@ -46,7 +46,7 @@ module _ (r : Rules) (limits : Limited r) where
         length-D r limits,
       )
 
-  pub tables-fit : Fits (laidOut (replicate tableWords 0) r)
+  pub tables-fit : TablesFit (laidOut (replicate tableWords 0) r)
   unfolding ruleAt C
   tables-fit =
       let N : nonterminalsIn (laidOut (replicate tableWords 0) r) ≡ length (r .productions)

@@ -1,25 +1,25 @@
 -- The one pass is `decode`: it refuses exactly where `decode` does, and leaves the decoded rules laid out in the tables.
 use mathlib.Core.Path.{_≡_, refl, sym, ap, subst, _∙_}
 use mathlib.Core.Logic.{inl}
-use mathlib.Core.Bool.{Bool, true, false, cond, _&&_}
+use mathlib.Core.Bool.{Bool, true, false, cond}
 use mathlib.Core.List.{List, [], _∷_, _++_, map, map-append}
-use Prim.Native.Nat.{ℕ, zero, suc, _+_, _/_, _%_, _≤_}
+use Prim.Native.Nat.{ℕ, zero, suc, _+_, _≤_}
 use native.Mathlib.Omega.{arith}
 use lib.ListN.{length, set, length-map}
 use lib.Seq.{sets}
-use lib.Dec.{ltb, leb, eqb, leb→le}
-use borrow.Author.Tests.{ltb-true, ltb-false}
-use Rattle.base.proofs.Booleans.{and-T, true→T}
+use lib.Dec.{ltb}
+use borrow.Author.Tests.{ltb-false}
 use Rattle.base.proofs.Lists.{sets-sets, sets-append}
-use Rattle.reader.specs.Types.{Read, Cursor, Value, Refused, OverLimit, Trailing, Symbol, Token, Nonterminal}
+use Rattle.reader.specs.inside.Types.{Read, Cursor, Value, Refused, OverLimit, Trailing, Symbol}
 use Rattle.grammar.specs.Limits.{maxKinds, maxNonterminals, maxProductions, maxLength, maxPlaces}
-use Rattle.number.specs.Number.{limitedAt, symbolAt, legal, cursor}
+use Rattle.number.specs.Number.{limitedAt, symbolAt, cursor}
 use Rattle.grammar.specs.Decode.{Rules, AllOf, Legal, Production, Alternatives, Mark, mark, Parsed, got, refused, andThen, times, fromRead, limited, written}
-use Rattle.grammar.specs.Decode.{symbol, production, nonterminal, ending, decode}
+use Rattle.grammar.specs.Decode.{symbol, readProduction, nonterminal, ending, decode}
 use Rattle.grammar.specs.Grammar.{at, layOne, layEach, layAll, sizeEach, sizeAll, startsEach, Limited}
-use Rattle.grammar.specs.Tables.{wordOf, firstsAt, rulesAt}
+use Rattle.grammar.specs.inside.Tables.{wordOf, firstsAt, rulesAt}
 use Rattle.grammar.proofs.CompileLaws.{length-one, length-each}
-use Rattle.reader.specs.Pass.{Out, out, onRead, onOut, symbolsOf, productionsOf, nonterminalsOf, closing, finished, passOf}
+use Rattle.grammar.proofs.NumberReaders.{legal-written}
+use Rattle.reader.specs.inside.Pass.{Out, out, onRead, onOut, symbolsOf, productionsOf, nonterminalsOf, closing, finished, wholePass}
 use Rattle.number.proofs.NumberLaws.{symbol-legal, limited-is}
 
 -- ---- an outcome of the pass beside one of decoding: the same refusal, or what f says of what was decoded, of which Q holds
@@ -49,17 +49,6 @@ unfolding andThen onRead
 same-out o (got y m) f Q K h f′ Q′ e g = subst (λ (o′ : Out). Same (onOut o′ K) f′ Q′ (h y m)) (sym (e .0)) (g y m (e .1))
 same-out o (refused r) f Q K h f′ Q′ e g =
     ap (λ (x : Read). onRead (o .tables) x (λ v c. K v c (o .tables)) .answer) e
-
--- ---- symbols
-legal-written : (t n v : ℕ) → legal t n v ≡ true → Legal t n (written v)
-unfolding legal written
-legal-written t n v h = go (eqb (v % 2) 0) h
-  where
-    go : (b : Bool) → cond b (leb 1 (v / 2) && leb (v / 2) t) (ltb (v / 2) n) ≡ true → Legal t n (cond b (Token (v / 2)) (Nonterminal (v / 2)))
-    go true e =
-        let h = and-T (leb 1 (v / 2)) (leb (v / 2) t) (true→T (leb 1 (v / 2) && leb (v / 2) t) e) in
-        (leb→le 1 (v / 2) (h .0), leb→le (v / 2) t (h .1))
-    go false e = ltb-true (v / 2) n e
 
 -- ---- what the pass writes beside the places
 -- for each nonterminal the number of its first production, the first of them the kth; and the number behind the last
@@ -168,7 +157,7 @@ module _ (s : List ℕ) (kt nt : ℕ) where
 
   abbrev ProductionsSame : ℕ → ℕ → Type 0
   ProductionsSame n a = (c : Cursor) (p k : ℕ) (t : List ℕ) → p ≤ maxPlaces
-      → Same (productionsOf s kt nt a n c p k t) (productionsOut a p k t) (Productions n p) (times n (production s kt nt) (mark (c .at) p))
+      → Same (productionsOf s kt nt a n c p k t) (productionsOut a p k t) (Productions n p) (times n (readProduction s kt nt) (mark (c .at) p))
 
   -- what decoding does behind a length, and behind a production
   abbrev behindLength : Cursor → ℕ → ℕ → Mark → Parsed (List Symbol)
@@ -177,10 +166,10 @@ module _ (s : List ℕ) (kt nt : ℕ) where
       (andThen (times k (symbol s kt nt) m′) (λ l m″. got l (mark (m″ .byte) (p + suc k))))
 
   abbrev behindOne : ℕ → List Symbol → Mark → Parsed (List (List Symbol))
-  behindOne n β m′ = andThen (times n (production s kt nt) m′) (λ l m″. got (β ∷ l) m″)
+  behindOne n β m′ = andThen (times n (readProduction s kt nt) m′) (λ l m″. got (β ∷ l) m″)
 
   productions-same : (n a : ℕ) → ProductionsSame n a
-  unfolding productionsOf times production limited andThen onRead startsEach layEach sizeEach
+  unfolding productionsOf times readProduction limited andThen onRead startsEach layEach sizeEach
   productions-same zero a c p k t l = (refl, (refl, omega arith, l, tt))
   productions-same (suc n) a c p k t l = go (limitedAt s 0 maxLength (c .at)) refl (productions-same n a)
     where
@@ -190,7 +179,7 @@ module _ (s : List ℕ) (kt nt : ℕ) where
       next-one ih len most fits β m h =
           let b : m .places ≡ p + suc (length β) = omega (arith, h .0, h .2) in
           let T : List ℕ = sets (set t (firstsAt + k) p) p (map wordOf (layOne a β)) in
-          same-then (productionsOf s kt nt a n (cursor (m .byte)) (m .places) (k + 1) T) (times n (production s kt nt) m)
+          same-then (productionsOf s kt nt a n (cursor (m .byte)) (m .places) (k + 1) T) (times n (readProduction s kt nt) m)
           (productionsOut a (m .places) (k + 1) T) (Productions n (m .places))
           (λ l m″. got (β ∷ l) m″) (productionsOut a p k t) (Productions (suc n) p)
           (ih (cursor (m .byte)) (m .places) (k + 1) T (omega (arith, h .2)))
@@ -296,10 +285,10 @@ module _ (s : List ℕ) (kt nt : ℕ) where
       go : (x : Read) → limitedAt s 1 maxProductions (c .at) ≡ x → RulesSame n
           → Same (onRead t x (λ m next. onOut (productionsOf s kt nt a m next p k (set t (rulesAt + a) k))
           (λ q c′ t′. nonterminalsOf s kt nt (a + 1) n c′ q (k + m) t′)))
-          (rulesOut a p k t) (AllRules (suc n) p) (andThen (andThen (fromRead p x) (λ k m′. times k (production s kt nt) m′)) (behindNonterminal n))
+          (rulesOut a p k t) (AllRules (suc n) p) (andThen (andThen (fromRead p x) (λ k m′. times k (readProduction s kt nt) m′)) (behindNonterminal n))
       go (Value m next) e ih =
           let b = limited-is s 1 maxProductions (c .at) refl e in
-          same-out (productionsOf s kt nt a m next p k (set t (rulesAt + a) k)) (times m (production s kt nt) (mark (next .at) p))
+          same-out (productionsOf s kt nt a m next p k (set t (rulesAt + a) k)) (times m (readProduction s kt nt) (mark (next .at) p))
           (productionsOut a p k (set t (rulesAt + a) k)) (Productions m p)
           (λ q c′ t′. nonterminalsOf s kt nt (a + 1) n c′ q (k + m) t′) (behindNonterminal n) (rulesOut a p k t) (AllRules (suc n) p)
           (productions-same m a next p k (set t (rulesAt + a) k) l)
@@ -345,8 +334,8 @@ closing-same s t kt nt hk hn l m h = go (ltb (m .byte) (length s))
     go true = refl
     go false = (rw (z, h .0), limits)
 
-pub pass-same : (s t : List ℕ) → Same (passOf s t) (passOut t) (λ r m. Limited r) (decode s)
-unfolding passOf decode limited
+pub pass-same : (s t : List ℕ) → Same (wholePass s t) (passOut t) (λ r m. Limited r) (decode s)
+unfolding wholePass decode limited
 pass-same s t =
     same-read t (limitedAt s 1 maxKinds 0) 0 _ _ (passOut t) (λ r m. Limited r) (λ kt c e.
     same-read t (limitedAt s 1 maxNonterminals (c .at)) 0 _ _ (passOut t) (λ r m. Limited r) (λ nt c′ e′.

@@ -8,13 +8,13 @@ use native.Mathlib.Decide.{decLe}
 use lib.ListN.{length, set}
 use lib.Dec.{ltb}
 use borrow.Author.Tests.{lt-ltb, le-ltb}
-use Rattle.reader.specs.Types.{Refusal, Read, Cursor, Value, Refused, OverLimit, Trailing, End}
+use Rattle.reader.specs.inside.Types.{Refusal, Read, Cursor, Value, Refused, OverLimit, Trailing, End}
 use Rattle.grammar.specs.Limits.{maxKinds, maxNonterminals, maxProductions, maxLength, maxPlaces}
 use Rattle.number.specs.Number.{limitedAt, symbolAt}
 use Rattle.grammar.specs.Decode.{written}
 use Rattle.grammar.specs.Grammar.{at}
-use Rattle.grammar.specs.Tables.{wordOf, firstsAt, rulesAt}
-use Rattle.reader.specs.Pass.{Out, out, onRead, onOut, symbolsOf, productionsOf, nonterminalsOf, closing, finished, passOf}
+use Rattle.grammar.specs.inside.Tables.{wordOf, firstsAt, rulesAt}
+use Rattle.reader.specs.inside.Pass.{Out, out, onRead, onOut, symbolsOf, productionsOf, nonterminalsOf, closing, finished, wholePass}
 
 -- a number's two cases
 on-refused : (t : List ℕ) (k : ℕ → Cursor → Out) {x : Read} {r : Refusal} → x ≡ Refused r → onRead t x k ≡ out x t
@@ -237,37 +237,37 @@ module _ (s t : List ℕ) where
   behindRules kt nt o = onOut o (λ p c t′. closing s kt nt p c t′)
 
   module _ {n : Read} (e : n ≡ limitedAt s 1 maxKinds 0) where
-    pub pass-kinds : {r : Refusal} → n ≡ Refused r → out n t ≡ passOf s t
-    unfolding passOf
+    pub pass-kinds : {r : Refusal} → n ≡ Refused r → out n t ≡ wholePass s t
+    unfolding wholePass
     pass-kinds q = rw (← e) (sym (on-refused t _ q))
 
     module _ {kt : ℕ} {c : Cursor} (q : n ≡ Value kt c) {m : Read} (e′ : m ≡ limitedAt s 1 maxNonterminals (c .at)) where
       abbrev afterCount : ℕ → Cursor → Out
       afterCount nt c′ = behindRules kt nt (nonterminalsOf s kt nt 0 nt c′ 0 0 t)
 
-      after-kinds : passOf s t ≡ onRead t m afterCount
-      unfolding passOf
+      after-kinds : wholePass s t ≡ onRead t m afterCount
+      unfolding wholePass
       after-kinds = rw (← e, q, e′) (on-value t _ refl)
 
-      pub pass-count : {r : Refusal} → m ≡ Refused r → out m t ≡ passOf s t
+      pub pass-count : {r : Refusal} → m ≡ Refused r → out m t ≡ wholePass s t
       pass-count y = sym (after-kinds ∙ on-refused t _ y)
 
       module _ {nt : ℕ} {c′ : Cursor} (y : m ≡ Value nt c′) {x : Read} {t′ : List ℕ} (g : out x t′ ≡ nonterminalsOf s kt nt 0 nt c′ 0 0 t)
         where
-          after-rules : passOf s t ≡ behindRules kt nt (out x t′)
+          after-rules : wholePass s t ≡ behindRules kt nt (out x t′)
           after-rules = after-kinds ∙ on-value t _ y ∙ ap (behindRules kt nt) (sym g)
 
-          pub pass-rules : {r : Refusal} → x ≡ Refused r → out x t′ ≡ passOf s t
+          pub pass-rules : {r : Refusal} → x ≡ Refused r → out x t′ ≡ wholePass s t
           pass-rules z = sym (after-rules ∙ on-refused t′ _ z)
 
           module _ {p : ℕ} {c″ : Cursor} (z : x ≡ Value p c″) where
-            at-end : passOf s t ≡ closing s kt nt p c″ t′
+            at-end : wholePass s t ≡ closing s kt nt p c″ t′
             at-end = after-rules ∙ on-value t′ _ z
 
-            pub pass-trailing : c″ .at < length s → out (Refused (Trailing (c″ .at))) t′ ≡ passOf s t
+            pub pass-trailing : c″ .at < length s → out (Refused (Trailing (c″ .at))) t′ ≡ wholePass s t
             unfolding closing
             pass-trailing l = sym (at-end ∙ rw (lt-ltb (c″ .at) (length s) l))
 
-            pub pass-whole : length s ≤ c″ .at → {t″ : List ℕ} → t″ ≡ finished kt nt p t′ → out (Value p c″) t″ ≡ passOf s t
+            pub pass-whole : length s ≤ c″ .at → {t″ : List ℕ} → t″ ≡ finished kt nt p t′ → out (Value p c″) t″ ≡ wholePass s t
             unfolding closing
             pass-whole l f = rw f (sym (at-end ∙ rw (le-ltb (c″ .at) (length s) l)))

@@ -4,28 +4,28 @@ use mathlib.Core.List.{List, []}
 use Prim.Native.Nat.{ℕ}
 use lib.ListN.{replicate}
 use Rattle.base.proofs.Booleans.{clash}
-use Rattle.reader.specs.Types.{Refusal, Read, Cursor, Value, Refused}
+use Rattle.reader.specs.inside.Types.{Refusal, Read, Cursor, Value, Refused}
 use Rattle.grammar.specs.Decode.{Rules, Mark, Parsed, got, refused, decode}
 use Rattle.grammar.specs.Grammar.{compile, Limited}
-use Rattle.grammar.specs.Tables.{tableWords, grammarIn, Fits}
-use Rattle.reader.specs.Pass.{Out, out, passOf}
+use Rattle.grammar.specs.inside.Tables.{tableWords, grammarIn, TablesFit}
+use Rattle.reader.specs.inside.Pass.{Out, out, wholePass}
 use Rattle.reader.proofs.PassLaws.{Same, passOut, laidOut, pass-same}
 use Rattle.reader.proofs.TableLaws.{tables-say}
 use Rattle.reader.proofs.FitsLaws.{tables-fit}
 
-pub data Outcome (s : List ℕ) (x : Read) (t : List ℕ) : Type 0 where
-  none : (r : Refusal) → decode s ≡ refused r → x ≡ Refused r → Outcome s x t
-  whole : (r : Rules) (m : Mark) (v : ℕ) (c : Cursor) → decode s ≡ got r m → x ≡ Value v c → Limited r → grammarIn t ≡ compile r → Fits t
-      → Outcome s x t
+pub data PassGives (s : List ℕ) (x : Read) (t : List ℕ) : Type 0 where
+  none : (r : Refusal) → decode s ≡ refused r → x ≡ Refused r → PassGives s x t
+  whole : (r : Rules) (m : Mark) (v : ℕ) (c : Cursor) → decode s ≡ got r m → x ≡ Value v c → Limited r → grammarIn t ≡ compile r → TablesFit t
+      → PassGives s x t
 
-pub outcome : (s t₀ : List ℕ) {x : Read} {t : List ℕ} → t₀ ≡ replicate tableWords 0 → out x t ≡ passOf s t₀ → Outcome s x t
+pub outcome : (s t₀ : List ℕ) {x : Read} {t : List ℕ} → t₀ ≡ replicate tableWords 0 → out x t ≡ wholePass s t₀ → PassGives s x t
 outcome s t₀ {x} {t} z e = go (decode s) refl (pass-same s (replicate tableWords 0))
   where
-    e₀ : out x t ≡ passOf s (replicate tableWords 0)
-    e₀ = e ∙ ap (passOf s) z
+    e₀ : out x t ≡ wholePass s (replicate tableWords 0)
+    e₀ = e ∙ ap (wholePass s) z
 
-    go : (d : Parsed Rules) → decode s ≡ d → Same (passOf s (replicate tableWords 0)) (passOut (replicate tableWords 0)) (λ r m. Limited r) d
-        → Outcome s x t
+    go : (d : Parsed Rules) → decode s ≡ d → Same (wholePass s (replicate tableWords 0)) (passOut (replicate tableWords 0)) (λ r m. Limited r) d
+        → PassGives s x t
     go (got r m) q h =
         let o = e₀ ∙ h .0 in
         let w : t ≡ laidOut (replicate tableWords 0) r = ap (λ (o : Out). o .tables) o in
@@ -36,6 +36,6 @@ outcome s t₀ {x} {t} z e = go (decode s) refl (pass-same s (replicate tableWor
 pub decode-limited : (s : List ℕ) (r : Rules) (m : Mark) → decode s ≡ got r m → Limited r
 decode-limited s r m e = go (decode s) e (pass-same s [])
   where
-    go : (d : Parsed Rules) → d ≡ got r m → Same (passOf s []) (passOut []) (λ r m. Limited r) d → Limited r
+    go : (d : Parsed Rules) → d ≡ got r m → Same (wholePass s []) (passOut []) (λ r m. Limited r) d → Limited r
     go (got g n) q h = let z : g ≡ r = cc in rw z at (h .1)
     go (refused f) q h = clash (cc)

@@ -7,14 +7,15 @@ use native.Mathlib.Omega.{arith}
 use lib.ListN.{length, getD, set, take, drop, replicate, length-append, length-replicate, List·getD-append, length-map}
 use lib.Seq.{sets, slice, set-at, take-at, drop-at, getD-append-add, drop-drop, take-nil}
 use Rattle.base.specs.Rounds.{upFrom}
-use Rattle.reader.specs.Types.{Symbol, Token, Nonterminal, End, Place}
+use Rattle.reader.specs.inside.Types.{Symbol, Token, Nonterminal, End, Place}
 use Rattle.grammar.specs.Limits.{maxKinds, maxNonterminals, maxPlaces, endPlace, endMark, nobody}
 use Rattle.grammar.specs.Decode.{Rules, AllOf, Legal, Production, Alternatives}
 use Rattle.grammar.specs.Grammar.{at, nowhere, layOne, layEach, layAll, sizeEach, sizeAll, startsEach, startsAll, padded, compile, Limited}
-use Rattle.grammar.specs.Tables.{codes, owners, placeWords, ruleWords, firstsAt, rulesAt, kindsAt, nonterminalsAt, sizeAt, tableWords, codeOf, wordOf, placeOf}
-use Rattle.grammar.specs.Tables.{ruleAt, startsIn, grammarIn}
+use Rattle.grammar.specs.inside.Tables.{codes, owners, placeWords, ruleWords, firstsAt, rulesAt, kindsAt, nonterminalsAt, sizeAt, tableWords}
+use Rattle.grammar.specs.inside.Tables.{codeOf, wordOf, placeOf}
+use Rattle.grammar.specs.inside.Tables.{ruleAt, startsIn, grammarIn}
 use Rattle.grammar.proofs.CompileLaws.{length-all}
-use Rattle.reader.specs.Pass.{finished}
+use Rattle.reader.specs.inside.Pass.{finished}
 use Rattle.grammar.proofs.WordLaws.{place-of-word, place-of-none}
 use Rattle.reader.proofs.PassLaws.{countsOf, firstsOf, laidOut, length-starts, length-size}
 

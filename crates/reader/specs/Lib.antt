@@ -1,3 +1,2 @@
 -- What the one pass over a grammar does.
-pub mod Types
-pub mod Pass
+pub mod inside

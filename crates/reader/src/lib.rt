@@ -5,8 +5,8 @@ use number::Refusal;
 ghost use mathlib.Core.Path.{_≡_};
 ghost use Prim.Native.Nat.{_+_, _≤_};
 ghost use lib.ListN.{length};
-ghost use Rattle.grammar.specs.Tables.{tableWords};
-ghost use Rattle.reader.specs.Pass.{Counted, Leaves, symbolsOf, productionsOf, nonterminalsOf, finished, passOf};
+ghost use Rattle.grammar.specs.inside.Tables.{tableWords};
+ghost use Rattle.reader.specs.inside.Pass.{WithinLimits, Leaves, symbolsOf, productionsOf, nonterminalsOf, finished, wholePass};
 
 // The symbols of a production of `owner`, from place `first` on, and its end. Answers the place behind them.
 fn symbols(
@@ -19,7 +19,7 @@ fn symbols(
     tables: &mut [u16],
     first: usize,
 ) -> Read
-    requires { ⌜ Counted kinds nonterminals (first + count) (now tables) ⌝ }
+    requires { ⌜ WithinLimits kinds nonterminals (first + count) (now tables) ⌝ }
     ensures { λ r. ⌜ Leaves r (now (tables .exit)) (symbolsOf (now (bytes .entry)) kinds nonterminals owner count from first (now (tables .entry))) ⌝ }
 {
     let mut c = from;
@@ -51,7 +51,7 @@ fn productions(
     first: usize,
     production: usize,
 ) -> Read
-    requires { ⌜ Counted kinds nonterminals first (now tables) × (production ≤ first) ⌝ }
+    requires { ⌜ WithinLimits kinds nonterminals first (now tables) × (production ≤ first) ⌝ }
     ensures { λ r. ⌜ Leaves r (now (tables .exit))
         (productionsOf (now (bytes .entry)) kinds nonterminals owner count from first production (now (tables .entry))) ⌝ }
 {
@@ -83,7 +83,7 @@ fn productions(
 
 // All nonterminals. Answers the number of places.
 fn rules(bytes: &[u8], from: Cursor, kinds: usize, nonterminals: usize, tables: &mut [u16]) -> Read
-    requires { ⌜ Counted kinds nonterminals 0 (now tables) ⌝ }
+    requires { ⌜ WithinLimits kinds nonterminals 0 (now tables) ⌝ }
     ensures { λ r. ⌜ Leaves r (now (tables .exit)) (nonterminalsOf (now (bytes .entry)) kinds nonterminals 0 nonterminals from 0 0 (now (tables .entry)))
         ⌝ }
 {
@@ -112,7 +112,7 @@ fn rules(bytes: &[u8], from: Cursor, kinds: usize, nonterminals: usize, tables: 
 
 // The end place, and the words that say how much there is.
 fn finish(kinds: usize, nonterminals: usize, places: usize, tables: &mut [u16])
-    requires { ⌜ Counted kinds nonterminals places (now tables) ⌝ }
+    requires { ⌜ WithinLimits kinds nonterminals places (now tables) ⌝ }
     ensures { λ r. ⌜ now (tables .exit) ≡ finished kinds nonterminals places (now (tables .entry)) ⌝ }
 {
     tables[grammar::END_PLACE] = 1;
@@ -124,7 +124,7 @@ fn finish(kinds: usize, nonterminals: usize, places: usize, tables: &mut [u16])
 // Reads a grammar into tables. Answers the number of places and the end of the bytes, or the first refusal of 1 to 5.
 pub fn read_grammar(bytes: &[u8], tables: &mut [u16]) -> Read
     requires { ⌜ length (now tables) ≡ tableWords ⌝ }
-    ensures { λ r. ⌜ Leaves r (now (tables .exit)) (passOf (now (bytes .entry)) (now (tables .entry))) ⌝ }
+    ensures { λ r. ⌜ Leaves r (now (tables .exit)) (wholePass (now (bytes .entry)) (now (tables .entry))) ⌝ }
 {
     let c = Cursor { at: 0 };
     let n = c.limited(bytes, 1, grammar::MAX_KINDS);

@@ -1,5 +1,7 @@
 -- Laws on soundness, one subject a file.
 pub mod LowestLaws
 pub mod Judging
-pub mod StarredCases
 pub mod CheckLaws
+pub mod VerdictLaws
+pub mod TableLaws
+pub mod FirstBytes

@@ -1,9 +1,9 @@
--- The check: refusals 1 to 5 as the bytes come, then 6, then 7; and document 01's number and place of a verdict.
-use mathlib.Core.Bool.{cond, not}
+-- The check: refusals 1 to 5 as the bytes come, then 6, then 7; and the scope's number and place of a verdict.
+use mathlib.Core.Path.{_≡_}
+use mathlib.Core.Bool.{not}
 use mathlib.Core.Option.{Option, none, some}
 use mathlib.Core.List.{List}
 use Prim.Native.Nat.{ℕ}
-use lib.Dec.{eqb}
 use lib.ListN.{length}
 use Rattle.base.specs.Search.{lowestFrom}
 use Rattle.number.specs.declared.Refusal.{Refusal}
@@ -40,11 +40,6 @@ unfoldable pub leftRecursiveOf : Grammar → Verdict
 unfolding lowestLeftRecursive
 leftRecursiveOf g = refuseAt LeftRecursive (lowestLeftRecursive g)
 
--- the verdict on refusal 6, or else on 7
-unfoldable pub verdictOn : ℕ → Grammar → Verdict
-unfolding unproductiveOf leftRecursiveOf
-verdictOn number g = cond (eqb number 6) (unproductiveOf g) (leftRecursiveOf g)
-
 -- the first of two verdicts that refuses
 abbrev pub orElse : Verdict → Verdict → Verdict
 orElse Sound v = v
@@ -55,16 +50,16 @@ unfoldable pub judgeOf : Grammar → Verdict
 unfolding unproductiveOf leftRecursiveOf
 judgeOf g = let second = leftRecursiveOf g in orElse (unproductiveOf g) second
 
-abbrev pub judged : Parsed Rules → Verdict
-judged (got r m) = judgeOf (compile r)
-judged (refused r) = Refused r
+abbrev pub onDecoded : Parsed Rules → Verdict
+onDecoded (got r m) = judgeOf (compile r)
+onDecoded (refused r) = Refused r
 
 -- the whole check
 unfoldable pub checkOf : List ℕ → Verdict
 unfolding decode judgeOf compile
-checkOf s = judged (decode s)
+checkOf s = onDecoded (decode s)
 
--- document 01's number and place: 0 and 0 for a sound grammar
+-- the scope's number and place: 0 and 0 for a sound grammar
 abbrev pub verdictNumber : Verdict → ℕ
 verdictNumber Sound = 0
 verdictNumber (Refused r) = refusalNumber r
@@ -72,3 +67,7 @@ verdictNumber (Refused r) = refusalNumber r
 abbrev pub verdictPlace : Verdict → ℕ
 verdictPlace Sound = 0
 verdictPlace (Refused r) = refusalPlace r
+
+-- THE CONTRACT OF `check`: a check of these bytes answered this number and this place
+abbrev pub CheckDid : List ℕ → ℕ → ℕ → Type 0
+CheckDid bytes number place = (number ≡ verdictNumber (checkOf bytes)) × (place ≡ verdictPlace (checkOf bytes))

@@ -1,4 +1,5 @@
 -- The check: what it answers, and what it leaves in the tables.
 pub mod Check
-pub mod Compiled
-pub mod Cases
+pub mod Verdicts
+pub mod Table
+pub mod inside

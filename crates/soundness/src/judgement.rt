@@ -8,10 +8,10 @@ ghost use lib.ListN.{length, getD, replicate};
 ghost use Rattle.base.specs.Bits.{testBit};
 ghost use Rattle.base.specs.Search.{lowestFrom};
 ghost use Rattle.grammar.specs.Limits.{maxNonterminals};
-ghost use Rattle.grammar.specs.Tables.{grammarIn, Fits, Kept, tableWords};
+ghost use Rattle.grammar.specs.inside.Tables.{grammarIn, TablesFit, SameTables, tableWords};
 ghost use Rattle.corners.specs.Corners.{Cornered};
-ghost use Rattle.soundness.specs.Check.{refuseAt, unproductiveOf, leftRecursiveOf, verdictOn, judgeOf, checkOf, verdictNumber, verdictPlace};
-ghost use Rattle.soundness.specs.Compiled.{Judgement, Compiled};
+ghost use Rattle.soundness.specs.Check.{refuseAt, unproductiveOf, leftRecursiveOf, judgeOf, verdictNumber, verdictPlace, CheckDid};
+ghost use Rattle.soundness.specs.inside.Compiled.{Judgement, Compiled};
 
 // What the check answers.
 pub enum Verdict {
@@ -20,7 +20,7 @@ pub enum Verdict {
 }
 
 impl Verdict {
-    // Document 01's number: 0 for a sound grammar.
+    // The scope's number: 0 for a sound grammar.
     pub fn number(self) -> u32
         ensures { λ r. ⌜ r ≡ verdictNumber self ⌝ }
     {
@@ -30,7 +30,7 @@ impl Verdict {
         }
     }
 
-    // Document 01's place: 0 for a sound grammar.
+    // The scope's place: 0 for a sound grammar.
     pub fn place(self) -> usize
         ensures { λ r. ⌜ r ≡ verdictPlace self ⌝ }
     {
@@ -41,41 +41,39 @@ impl Verdict {
     }
 }
 
-// The lowest nonterminal of the first n that is missing from the set. `left` counts those not yet looked at.
+// The lowest nonterminal of the first n that is missing from the set.
 fn lowest_missing(set: u32, n: usize) -> Verdict
     requires { ⌜ n ≤ maxNonterminals ⌝ }
     ensures { λ r. ⌜ r ≡ refuseAt Refusal.Unproductive (lowestFrom (λ a. not (testBit set a)) 0 n) ⌝ }
 {
-    let mut left = n;
-    while 0 < left {
-        let a = n - left;
+    let mut a = 0;
+    while a < n {
         if !base::has(set, a) {
             return Verdict::Refused(Refusal::Unproductive(a));
         }
-        left -= 1;
+        a += 1;
     }
     Verdict::Sound
 }
 
-// The lowest nonterminal of the first n whose row holds it. `left` counts those not yet looked at.
+// The lowest nonterminal of the first n whose row holds it.
 fn lowest_own(rows: &[u32], n: usize) -> Verdict
     requires { ⌜ (n ≤ maxNonterminals) × (length (now rows) ≡ maxNonterminals) ⌝ }
     ensures { λ r. ⌜ r ≡ refuseAt Refusal.LeftRecursive (lowestFrom (λ a. testBit (getD (now (rows .entry)) a 0) a) 0 n) ⌝ }
 {
-    let mut left = n;
-    while 0 < left {
-        let b = n - left;
-        if base::has(rows[b], b) {
-            return Verdict::Refused(Refusal::LeftRecursive(b));
+    let mut a = 0;
+    while a < n {
+        if base::has(rows[a], a) {
+            return Verdict::Refused(Refusal::LeftRecursive(a));
         }
-        left -= 1;
+        a += 1;
     }
     Verdict::Sound
 }
 
 // Refusal 6.
 fn unproductive(tables: &[u16]) -> Verdict
-    requires { ⌜ Fits (now tables) ⌝ }
+    requires { ⌜ TablesFit (now tables) ⌝ }
     ensures { λ r. ⌜ r ≡ unproductiveOf (grammarIn (now (tables .entry))) ⌝ }
 {
     let productive = closures::derivers(tables, true);
@@ -85,9 +83,9 @@ fn unproductive(tables: &[u16]) -> Verdict
 
 // Refusal 7; the left corners, by which it is found, stay in the tables.
 fn left_recursive(tables: &mut [u16]) -> Verdict
-    requires { ⌜ Fits (now tables) ⌝ }
+    requires { ⌜ TablesFit (now tables) ⌝ }
     ensures { λ r. ⌜ (r ≡ leftRecursiveOf (grammarIn (now (tables .entry))))
-        × Kept (now (tables .entry)) (now (tables .exit)) × Cornered (now (tables .exit)) ⌝ }
+        × SameTables (now (tables .entry)) (now (tables .exit)) × Cornered (now (tables .exit)) ⌝ }
 {
     let n = grammar::nonterminals(tables);
     let mut rows = [0u32; grammar::MAX_NONTERMINALS];
@@ -97,27 +95,15 @@ fn left_recursive(tables: &mut [u16]) -> Verdict
     lowest_own(&rows, n)
 }
 
-// The verdict on refusal 6, or else on 7.
-fn verdict_on(tables: &mut [u16], number: u32) -> Verdict
-    requires { ⌜ Fits (now tables) ⌝ }
-    ensures { λ r. ⌜ (r ≡ verdictOn number (grammarIn (now (tables .entry))))
-        × Kept (now (tables .entry)) (now (tables .exit)) × ((number ≡ 6 → ⊥) → Cornered (now (tables .exit))) ⌝ }
-{
-    if number == 6 {
-        return unproductive(tables);
-    }
-    left_recursive(tables)
-}
-
 // 6, and then 7.
 fn judge(tables: &mut [u16]) -> Verdict
-    requires { ⌜ Fits (now tables) ⌝ }
+    requires { ⌜ TablesFit (now tables) ⌝ }
     ensures { λ r. ⌜ Judgement r (judgeOf (grammarIn (now (tables .entry)))) (now (tables .entry)) (now (tables .exit)) ⌝ }
 {
-    let first = verdict_on(tables, 6);
+    let first = unproductive(tables);
     match first {
         Verdict::Refused(r) => Verdict::Refused(r),
-        Verdict::Sound => verdict_on(tables, 7),
+        Verdict::Sound => left_recursive(tables),
     }
 }
 
@@ -135,7 +121,7 @@ pub fn compile(bytes: &[u8], tables: &mut [u16]) -> Verdict
 
 // Whether a grammar is sound, or why not.
 pub fn check(grammar: &[u8]) -> Verdict
-    ensures { λ r. ⌜ r ≡ checkOf (now (grammar .entry)) ⌝ }
+    ensures { λ r. ⌜ CheckDid (now (grammar .entry)) (verdictNumber r) (verdictPlace r) ⌝ }
 {
     let mut tables = [0u16; grammar::TABLE_WORDS];
     compile(grammar, &mut tables)

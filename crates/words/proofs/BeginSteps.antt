@@ -13,13 +13,13 @@ use Rattle.number.specs.Refusals.{refusalNumber, refusalPlace}
 use Rattle.grammar.specs.Decode.{Rules, Parsed, got, refused, decode}
 use Rattle.soundness.specs.declared.judgement.Verdict.{Verdict}
 use Rattle.soundness.specs.declared.judgement.Verdict.the-variants.{Sound, Refused}
-use Rattle.soundness.specs.Check.{judged, checkOf}
+use Rattle.soundness.specs.Check.{onDecoded, checkOf}
 use Rattle.derivation.specs.Gate.{Gate, atGate}
 use Rattle.derivation.proofs.GateLaws.{Checked, refuses, sound, sound-gate, sound-refuses}
 use Rattle.words.specs.Layout.{minWords, lengthAt, bytesAt}
 use Rattle.words.specs.Begin.{Begun, begun, packBytes, sizeWords, beginWords, begin12, beginning, begun?}
-use Rattle.words.specs.Bytes.{startsWith, sizesHeld, bytesHeld}
-use Rattle.words.proofs.ByteLaws.{decode-few}
+use Rattle.words.specs.inside.Bytes.{startsWith, sizesHeld, bytesHeld}
+use Rattle.grammar.proofs.ByteLaws.{decode-few}
 
 -- ---- refusal 13
 module _ (bytes c : List ℕ) where
@@ -66,6 +66,6 @@ module _ (bytes c : List ℕ) {v : Verdict} (e : v ≡ checkOf bytes) where
   unfolding checkOf
   sound-short h = go (decode bytes) refl (sym e ∙ h)
     where
-      go : (d : Parsed Rules) → decode bytes ≡ d → judged d ≡ Sound → length bytes < 2 ^ 10
+      go : (d : Parsed Rules) → decode bytes ≡ d → onDecoded d ≡ Sound → length bytes < 2 ^ 10
       go (got y m) z q = let l = decode-few bytes y m z in omega arith
       go (refused f) z q = clash (cc)

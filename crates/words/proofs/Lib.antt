@@ -1,6 +1,5 @@
 -- Laws on the cache's words, one subject a file.
 pub mod WordLaws
-pub mod ByteLaws
 pub mod PackSteps
 pub mod SizeLaws
 pub mod BeginSteps

@@ -13,7 +13,7 @@ use borrow.Author.Tests.{eq-eqb, ne-eqb}
 use Rattle.lookahead.specs.Closing.{sameList}
 use Rattle.words.specs.Layout.{bytesAt}
 use Rattle.words.specs.Begin.{packBytes}
-use Rattle.words.specs.Bytes.{wordOf, wordAt, startsWith, bytesHeld}
+use Rattle.words.specs.inside.Bytes.{wordOfBytes, wordAt, startsWith, bytesHeld}
 
 -- ---- four bytes in one word
 -- one digit more on top
@@ -21,7 +21,7 @@ joins : (k x d : ℕ) → x < 2 ^ k → bitOr x (d * 2 ^ k) ≡ x + d * 2 ^ k
 joins k x d h = or-shifted-r d k x h ∙ omega arith
 
 pub four : (a b c d : ℕ) → a < 256 → b < 256 → c < 256 → d < 256
-    → bitOr (bitOr (bitOr a (b * 256 % 4294967296)) (c * 65536 % 4294967296)) (d * 16777216 % 4294967296) ≡ wordOf a b c d
+    → bitOr (bitOr (bitOr a (b * 256 % 4294967296)) (c * 65536 % 4294967296)) (d * 16777216 % 4294967296) ≡ wordOfBytes a b c d
 four a b c d ha hb hc hd =
     let eb : b * 256 % 4294967296 ≡ b * 256 = omega arith in
     let ec : c * 65536 % 4294967296 ≡ c * 65536 = omega arith in

@@ -1,4 +1,4 @@
--- Words that become 0, and the words that hold the lengths.
+-- Words that become 0, the words that hold the lengths, and how many words bytes take.
 use mathlib.Core.Path.{_≡_, refl, sym, _∙_}
 use mathlib.Core.Bool.{false, _&&_}
 use mathlib.Core.List.{List, [], _∷_, _++_, append-nil}
@@ -11,7 +11,8 @@ use borrow.Author.Tests.{eq-eqb, ne-eqb}
 use Rattle.base.proofs.Booleans.{and-none, and-all}
 use Rattle.lookahead.specs.Closing.{sameList}
 use Rattle.words.specs.Layout.{lengthAt}
-use Rattle.words.specs.Bytes.{sizesHeld}
+use Rattle.words.specs.inside.Bytes.{sizesHeld}
+use Rattle.words.specs.Begin.{packBytes}
 
 -- every word has become 0
 pub cleared : (c c₀ : List ℕ) (k : ℕ) → c ≡ replicate k 0 ++ drop k c₀ → k ≤ length c₀ → length c₀ ≤ k → c
@@ -62,3 +63,12 @@ module _ (bytes c : List ℕ) where
 
       pub sizes-third : {x : ℕ} → getD c 2 0 ≡ high → x ≡ getD c 3 0 → eqb x (length bytes) ≡ sizesHeld bytes c
       sizes-third f q = rw (by-words, eq-eqb (getD c 1 0) low e, eq-eqb (getD c 2 0) high f, q)
+
+-- packed bytes are no more words than bytes
+pub packed-few : (s : List ℕ) → length (packBytes s) ≤ length s
+unfolding packBytes
+packed-few [] = omega arith
+packed-few (a ∷ []) = omega arith
+packed-few (a ∷ b ∷ []) = omega arith
+packed-few (a ∷ b ∷ c ∷ []) = omega arith
+packed-few (a ∷ b ∷ c ∷ d ∷ l) = let h = packed-few l in omega arith

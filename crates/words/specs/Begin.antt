@@ -1,4 +1,5 @@
 -- The words of a cache that has just begun, which words refusal 13 looks at, and what beginning answers.
+use mathlib.Core.Path.{_≡_}
 use mathlib.Core.Bool.{Bool, _&&_, cond}
 use mathlib.Core.List.{List, [], _∷_}
 use Prim.Native.Nat.{ℕ, _+_, _*_, _/_, _%_, _^_}
@@ -51,3 +52,7 @@ begin12 bytes c = let fresh = beginWords bytes (length c) in cond (ltb (length c
 unfoldable pub beginning : List ℕ → List ℕ → Begun
 unfolding soundGate begin12
 beginning bytes c = atGate (λ n p. begun n p c) (λ g. begin12 bytes c) (soundGate bytes)
+
+-- THE CONTRACT OF `begin`: a beginning that was lent these bytes and this cache answered this number and this place and left the cache so
+abbrev pub BeginDid : List ℕ → List ℕ → ℕ → ℕ → List ℕ → Type 0
+BeginDid bytes cache number place cache′ = begun number place cache′ ≡ beginning bytes cache

@@ -1,4 +1,4 @@
--- Document 01's number and place of a beginning.
+-- The scope's number and place of a beginning.
 use mathlib.Core.List.{List}
 use Prim.Native.Nat.{ℕ}
 use Rattle.number.specs.Refusals.{refusalNumber, refusalPlace}

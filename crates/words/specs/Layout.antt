@@ -1,4 +1,4 @@
--- The layout of a cache of L words (document 01 leaves it to us). All that is not named here is 0.
+-- The layout of a cache of L words (the scope leaves it to us). All that is not named here is 0.
 --   0              always 0, and looked at by nobody
 --   1, 2           L, its low and its high 32 bits
 --   3              how many grammar bytes there are
@@ -26,7 +26,7 @@ slotHead = 128
 
 -- the words of the configurations that a slot may keep
 abbrev pub keptRoom : ℕ
-keptRoom = packing.keptWords
+keptRoom = packing.maxKeptWords
 
 -- the words of a slot
 abbrev pub slotWords : ℕ

@@ -2,5 +2,5 @@
 pub mod Layout
 pub mod Words
 pub mod Begin
-pub mod Bytes
 pub mod Beginning
+pub mod inside

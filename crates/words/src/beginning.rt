@@ -11,9 +11,9 @@ ghost use Prim.Native.Nat.{_≤_, _<_, _/_, _%_, _^_};
 ghost use lib.ListN.{length, replicate};
 ghost use lib.Seq.{sets};
 ghost use Rattle.words.specs.Layout.{lengthAt, heldAt};
-ghost use Rattle.words.specs.Begin.{sizeWords, begin12, beginning, begun?};
+ghost use Rattle.words.specs.Begin.{sizeWords, begin12, begun?, BeginDid};
 ghost use Rattle.words.specs.Beginning.{beginningNumber, beginningPlace, begunBy};
-ghost use Rattle.words.specs.Bytes.{sizesHeld};
+ghost use Rattle.words.specs.inside.Bytes.{sizesHeld};
 
 // What beginning answers.
 pub enum Beginning {
@@ -26,7 +26,7 @@ pub enum Beginning {
 }
 
 impl Beginning {
-    // Document 01's number: 0 where the cache has begun.
+    // The scope's number: 0 where the cache has begun.
     pub fn number(self) -> u32
         ensures { λ r. ⌜ r ≡ beginningNumber self ⌝ }
     {
@@ -37,7 +37,7 @@ impl Beginning {
         }
     }
 
-    // Document 01's place: 0 where none is named.
+    // The scope's place: 0 where none is named.
     pub fn place(self) -> usize
         ensures { λ r. ⌜ r ≡ beginningPlace self ⌝ }
     {
@@ -119,7 +119,7 @@ fn settle(bytes: &[u8], cache: &mut [u32]) -> Beginning
 
 // Begins a cache for a grammar: every word is settled. Where it is refused, every word stays as it was.
 pub fn begin(grammar: &[u8], cache: &mut [u32]) -> Beginning
-    ensures { λ r. ⌜ begunBy r (now (cache .exit)) ≡ beginning (now (grammar .entry)) (now (cache .entry)) ⌝ }
+    ensures { λ r. ⌜ BeginDid (now (grammar .entry)) (now (cache .entry)) (beginningNumber r) (beginningPlace r) (now (cache .exit)) ⌝ }
 {
     let verdict = soundness::check(grammar);
     match verdict {

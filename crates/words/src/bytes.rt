@@ -5,11 +5,11 @@ ghost use lib.ListN.{length, getD};
 ghost use lib.Seq.{sets};
 ghost use Rattle.words.specs.Layout.{bytesAt};
 ghost use Rattle.words.specs.Begin.{packBytes};
-ghost use Rattle.words.specs.Bytes.{wordOf, wordAt, bytesHeld};
+ghost use Rattle.words.specs.inside.Bytes.{wordOfBytes, wordAt, bytesHeld};
 
 // Four bytes as a word, the first the lowest.
 fn joined(a: u8, b: u8, c: u8, d: u8) -> u32
-    ensures { λ r. ⌜ r ≡ wordOf a b c d ⌝ }
+    ensures { λ r. ⌜ r ≡ wordOfBytes a b c d ⌝ }
 {
     (a as u32) | ((b as u32) << 8) | ((c as u32) << 16) | ((d as u32) << 24)
 }

@@ -6,7 +6,7 @@ pub const FIXED_WORDS: usize = 2048;
 // The words of a slot before its configurations, and all of them.
 pub const SLOT_HEAD: usize = 128;
 
-pub const SLOT_WORDS: usize = SLOT_HEAD + configurations::KEPT_WORDS;
+pub const SLOT_WORDS: usize = SLOT_HEAD + configurations::CONFIG_WORDS * configurations::KEPT;
 
 // The slots that are used of a long cache.
 pub const MAX_SLOTS: usize = 1024;

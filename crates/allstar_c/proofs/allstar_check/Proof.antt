@@ -1,6 +1,5 @@
 -- `allstar_c::allstar_check` meets its contract: the number and the place stored are those of the verdict that `check` answers.
-use Rattle.soundness.specs.Check.{verdictNumber, verdictPlace}
-use mathlib.Core.Path.{ap, _∙_}
+use mathlib.Core.Path.{_∙_}
 use borrow.Author.Needs.{needs}
 use Rattle.allstar_c.proofs.allstar_check.Statement.{statement}
 use Rattle.allstar_c.proofs.allstar_check.Tie as tie
@@ -17,7 +16,7 @@ number-requires c κs = search needs
 returns : tie.Need-returns
 returns c =
     let at-check = c .before .before in
-    (c .number .ensures ∙ ap verdictNumber (at-check .check .ensures), c .before .place .ensures ∙ ap verdictPlace (at-check .check .ensures))
+    (c .number .ensures ∙ at-check .check .ensures .0, c .before .place .ensures ∙ at-check .check .ensures .1)
 
 pub allstar-check-spec : {M : Type 1} → statement M
 allstar-check-spec = tie.close (tie.spec check-requires place-requires number-requires returns)

@@ -3,8 +3,8 @@ use mathlib.Core.Path.{sym, _∙_}
 use Prim.Native.Nat.{_-_, _≤_}
 use native.Mathlib.Omega.{arith}
 use borrow.Author.Needs.{needs}
-use Rattle.grammar.specs.Tables.{grammarIn}
-use Rattle.cells.specs.Chart.{cellHas}
+use Rattle.grammar.specs.inside.Tables.{grammarIn}
+use Rattle.cells.specs.inside.Chart.{cellHas}
 use Rattle.cells.proofs.Spots.{spot-in, cell-member, sized, lent-sized}
 use Rattle.derivation.proofs.FirstLaws.{rule-within, first-in}
 use Rattle.cells.proofs.GatherLaws.{Gathering, gather-begins, gather-more, gather-cells}

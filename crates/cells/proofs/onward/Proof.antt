@@ -4,15 +4,15 @@ use mathlib.Core.Bool.{true}
 use Prim.Native.Nat.{_-_, _≤_, _<_}
 use native.Mathlib.Omega.{arith}
 use borrow.Author.Needs.{needs}
-use Rattle.positions.specs.Positions.{positionCount, member}
+use Rattle.positions.specs.inside.Positions.{positionCount, member}
 use Rattle.cells.proofs.Spots.{spot-in}
-use Rattle.cells.proofs.ThroughLaws.{Going, going-begins, going-on, going-ends, next-behind}
+use Rattle.cells.proofs.ThroughLaws.{GoingThrough, going-begins, going-on, going-ends, next-behind}
 use Rattle.cells.proofs.onward.Statement.{statement}
 use Rattle.cells.proofs.onward.Tie as tie
 
 abbrev Inv-loop : tie.InvT-loop
 Inv-loop ws places n s from q r₀ m₀ r m = (m ≤ positionCount) × (m < positionCount → member (s .words) m ≡ true)
-    × Going places ws n (s .words) q (r₀ .words) from m (r .words)
+    × GoingThrough places ws n (s .words) q (r₀ .words) from m (r .words)
 
 abbrev μ-loop : tie.MeasureT-loop
 μ-loop ws places n s from q r₀ m₀ r m = positionCount - m

@@ -4,8 +4,8 @@ use Prim.Native.Nat.{_+_, _≤_}
 use native.Mathlib.Omega.{arith}
 use lib.ListN.{length}
 use borrow.Author.Needs.{needs}
-use Rattle.grammar.specs.Tables.{grammarIn}
-use Rattle.cells.specs.Chart.{ChartedFrom, KeptBehind}
+use Rattle.grammar.specs.inside.Tables.{grammarIn}
+use Rattle.cells.specs.inside.Chart.{ChartedFrom, KeptBehind}
 use Rattle.cells.proofs.Spots.{behind-none, behind-on}
 use Rattle.chart.proofs.RowLaws.{charted-none, row-next, filled}
 use Rattle.chart.proofs.fill.Statement.{statement}

@@ -1,7 +1,8 @@
 -- `chart::is_end` meets its contract: the answer is read off the symbol.
-use mathlib.Core.Bool.{false≢true}
+use mathlib.Core.Path.{sym, ap}
 use borrow.Author.Needs.{needs}
 use Rattle.grammar.proofs.WordLaws.{facing-of}
+use Rattle.chart.specs.inside.Derived.{isEnd}
 use Rattle.chart.proofs.is_end.Statement.{statement}
 use Rattle.chart.proofs.is_end.Tie as tie
 
@@ -20,13 +21,17 @@ enum-told-3 c = search needs
 returns : tie.Need-returns
 returns c =
     let at-place-at = c .before .before in
-    λ _. facing-of _ _ (at-place-at .place-at .ensures) (c .enum-told .given .1)
+    ap isEnd (sym (facing-of _ _ (at-place-at .place-at .ensures) (c .enum-told .given .1)))
 
 returns-2 : tie.Need-returns-2
-returns-2 c = λ t. absurd (false≢true t)
+returns-2 c =
+    let at-place-at = c .before .before in
+    ap isEnd (sym (facing-of _ _ (at-place-at .place-at .ensures) (c .enum-told2 .given .1)))
 
 returns-3 : tie.Need-returns-3
-returns-3 c = λ t. absurd (false≢true t)
+returns-3 c =
+    let at-place-at = c .before .before in
+    ap isEnd (sym (facing-of _ _ (at-place-at .place-at .ensures) (c .enum-told3 .given .1)))
 
 pub is-end-spec : {M : Type 1} → statement M
 is-end-spec =

@@ -5,7 +5,7 @@ use Prim.Native.Nat.{_-_, _≤_}
 use native.Mathlib.Omega.{arith}
 use lib.ListN.{length}
 use borrow.Author.Needs.{needs}
-use Rattle.cells.specs.Chart.{KeptBehind}
+use Rattle.cells.specs.inside.Chart.{KeptBehind}
 use Rattle.cells.proofs.Spots.{spot-in, behind-none, behind-put}
 use Rattle.ends.proofs.InRange.{row-lent}
 use Rattle.chart.proofs.RowLaws.{Written, written-none, written-on, written-ended, written-behind, written-all}

@@ -4,14 +4,14 @@ use mathlib.Core.Path.{_≡_, refl}
 use Prim.Native.Nat.{_≤_, _-_}
 use native.Mathlib.Omega.{arith}
 use lib.ListN.{length, length-set}
-use Rattle.grammar.specs.Tables.{grammarIn}
-use Rattle.corners.specs.Steps.{Rows}
+use Rattle.grammar.specs.inside.Tables.{grammarIn}
+use Rattle.corners.specs.inside.Steps.{MoveRows}
 use Rattle.corners.proofs.LeftSteps.{rows-none, rows-more, rows-upto}
 use Rattle.corners.proofs.begin.Statement.{statement}
 use Rattle.corners.proofs.begin.Tie as tie
 
 abbrev Inv-loop : tie.InvT-loop
-Inv-loop tables nullable rows₀ n a₀ rows a = (a ≤ n) × (length rows ≡ length rows₀) × Rows nullable (grammarIn tables) a rows
+Inv-loop tables nullable rows₀ n a₀ rows a = (a ≤ n) × (length rows ≡ length rows₀) × MoveRows nullable (grammarIn tables) a rows
 
 abbrev μ-loop : tie.MeasureT-loop
 μ-loop tables nullable rows₀ n a₀ rows a = n - a

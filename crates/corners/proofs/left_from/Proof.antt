@@ -3,7 +3,7 @@
 use borrow.Author.Needs.{needs}
 use Prim.Native.Nat.{_-_}
 use native.Mathlib.Omega.{arith}
-use Rattle.grammar.specs.Tables.{placeWords}
+use Rattle.grammar.specs.inside.Tables.{placeWords}
 use Rattle.grammar.proofs.WordLaws.{facing-of}
 use Rattle.corners.proofs.LeftSteps.{Onward, left-end, left-token, left-past, left-stops, left-goes}
 use Rattle.corners.proofs.left_from.Statement.{statement}

@@ -4,7 +4,7 @@ use mathlib.Core.Path.{_≡_, refl, ap, _∙_}
 use Prim.Native.Nat.{ℕ, _≤_, _-_}
 use native.Mathlib.Omega.{arith}
 use lib.ListN.{length}
-use Rattle.corners.specs.Steps.{reachOf}
+use Rattle.corners.specs.inside.Steps.{reachOf}
 use Rattle.corners.proofs.LeftSteps.{reach-pivot, reach-empty}
 use Rattle.corners.proofs.reach.Statement.{statement}
 use Rattle.corners.proofs.reach.Tie as tie

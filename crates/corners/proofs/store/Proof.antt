@@ -2,7 +2,7 @@
 use borrow.Author.Needs.{needs}
 use Prim.Native.Nat.{_≤_, _-_}
 use native.Mathlib.Omega.{arith}
-use Rattle.corners.specs.Steps.{Stored}
+use Rattle.corners.specs.inside.Steps.{Stored}
 use Rattle.corners.proofs.StoreLaws.{stored-none, stored-more, stored-upto}
 use Rattle.corners.proofs.store.Statement.{statement}
 use Rattle.corners.proofs.store.Tie as tie

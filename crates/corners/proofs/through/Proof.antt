@@ -1,22 +1,22 @@
--- `corners::through` meets its contract: the rows below a are joined, as in `throughOf`.
+-- `corners::through` meets its contract: the rows below a are joined, as in `pivotBelow`.
 use borrow.Author.Needs.{needs}
 use mathlib.Core.Path.{_≡_, refl, ap, _∙_}
 use Prim.Native.Nat.{ℕ, _≤_, _-_}
 use native.Mathlib.Omega.{arith}
 use lib.ListN.{length, length-set}
-use Rattle.corners.specs.Steps.{throughOf}
+use Rattle.corners.specs.inside.Steps.{pivotBelow}
 use Rattle.corners.proofs.LeftSteps.{through-more}
 use Rattle.corners.proofs.through.Statement.{statement}
 use Rattle.corners.proofs.through.Tie as tie
 
 abbrev Inv-loop : tie.InvT-loop
-Inv-loop rows₀ n row b a₀ rows a = (a ≤ n) × (length rows ≡ length rows₀) × (rows ≡ throughOf row b a rows₀)
+Inv-loop rows₀ n row b a₀ rows a = (a ≤ n) × (length rows ≡ length rows₀) × (rows ≡ pivotBelow row b a rows₀)
 
 abbrev μ-loop : tie.MeasureT-loop
 μ-loop rows₀ n row b a₀ rows a = n - a
 
 loop-holds : tie.Need-loop-holds Inv-loop μ-loop
-unfolding throughOf
+unfolding pivotBelow
 loop-holds c = (omega arith, refl, refl)
 
 mul-joined : tie.Need-mul-joined Inv-loop μ-loop
@@ -51,7 +51,7 @@ same-length c = search needs
 returns : tie.Need-returns Inv-loop μ-loop
 returns c =
     let at-entry = c .before .before .before in
-    c .before .loop .inv .2 ∙ ap (λ (k : ℕ). throughOf (at-entry .args .row) (at-entry .args .b) k (at-entry .args .rows .now)) (omega arith)
+    c .before .loop .inv .2 ∙ ap (λ (k : ℕ). pivotBelow (at-entry .args .row) (at-entry .args .b) k (at-entry .args .rows .now)) (omega arith)
 
 pub through-spec : {M : Type 1} → statement M
 through-spec =

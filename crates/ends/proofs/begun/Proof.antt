@@ -5,9 +5,9 @@ use Prim.Native.Nat.{_-_, _<_}
 use native.Mathlib.Omega.{arith}
 use lib.ListN.{length}
 use borrow.Author.Needs.{needs}
-use Rattle.grammar.specs.Tables.{grammarIn, placeWords}
+use Rattle.grammar.specs.inside.Tables.{grammarIn, placeWords}
 use Rattle.grammar.proofs.WordLaws.{facing-of}
-use Rattle.positions.specs.Positions.{setWords}
+use Rattle.positions.specs.inside.Positions.{setWords}
 use Rattle.positions.proofs.SetLaws.{length-union}
 use Rattle.cells.proofs.MatchLaws.{matches-found}
 use Rattle.cells.proofs.Spots.{spot-in}

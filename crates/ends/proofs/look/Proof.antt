@@ -4,7 +4,7 @@ use native.Mathlib.Omega.{arith}
 use borrow.Author.Needs.{needs}
 use Rattle.derivation.proofs.FirstLaws.{rule-within, first-in}
 use Rattle.cells.proofs.GatherLaws.{Gathering, gather-begins, gather-more, gather-ends}
-use Rattle.ends.specs.Row.{leadsTo}
+use Rattle.ends.specs.inside.Row.{leadsTo}
 use Rattle.ends.proofs.BegunLaws.{begun-members}
 use Rattle.ends.proofs.LookLaws.{looked}
 use Rattle.ends.proofs.look.Statement.{statement}

@@ -5,8 +5,8 @@ use Prim.Native.Nat.{_-_}
 use native.Mathlib.Omega.{arith}
 use lib.ListN.{length}
 use borrow.Author.Needs.{needs}
-use Rattle.ends.specs.Ends.{endWords}
-use Rattle.ends.specs.Judged.{Judged}
+use Rattle.ends.specs.inside.Ends.{endWords}
+use Rattle.ends.specs.inside.Judged.{Judged}
 use Rattle.ends.proofs.LookLaws.{sound-none}
 use Rattle.ends.proofs.JudgedLaws.{judged-none, judged-on, judged-all}
 use Rattle.ends.proofs.settle.Statement.{statement}

@@ -1,7 +1,7 @@
 -- `grammar::corner_row` meets its contract: both words of the row lie in the tables, and each is below 65536, so that the two make a word of 32 bits.
 use Prim.Native.Nat.{_+_, _*_}
 use native.Mathlib.Omega.{arith}
-use Rattle.grammar.specs.Tables.{cornersAt}
+use Rattle.grammar.specs.inside.Tables.{cornersAt}
 use Rattle.grammar.proofs.CornerLaws.{row-read}
 use borrow.Author.Needs.{needs}
 use Rattle.grammar.proofs.corner_row.Statement.{statement}

@@ -1,5 +1,5 @@
 -- `grammar::end_word` meets its contract: an end's code is 0, so the word is its owner's part alone, and it fits 16 bits.
-use Rattle.grammar.specs.Tables.{wordOf}
+use Rattle.grammar.specs.inside.Tables.{wordOf}
 use native.Mathlib.Omega.{arith}
 use borrow.Author.Needs.{needs}
 use Rattle.grammar.proofs.end_word.Statement.{statement}

@@ -1,6 +1,6 @@
 -- `grammar::kinds` meets its contract: the word of the kinds lies in the tables, and it is what `grammarIn` reads.
 use borrow.Author.Needs.{needs}
-use Rattle.grammar.specs.Tables.{grammarIn}
+use Rattle.grammar.specs.inside.Tables.{grammarIn}
 use Rattle.grammar.proofs.kinds.Statement.{statement}
 use Rattle.grammar.proofs.kinds.Tie as tie
 

@@ -1,5 +1,5 @@
 -- `grammar::place_of` meets its contract: the code computes the two fields of `placeOf`.
-use Rattle.grammar.specs.Tables.{placeOf}
+use Rattle.grammar.specs.inside.Tables.{placeOf}
 use borrow.Author.Needs.{needs}
 use Rattle.grammar.proofs.place_of.Statement.{statement}
 use Rattle.grammar.proofs.place_of.Tie as tie

@@ -1,5 +1,5 @@
 -- `grammar::rule_at` meets its contract: the word of nonterminal a lies in the tables, for there is one more of them than nonterminals.
-use Rattle.grammar.specs.Tables.{rulesAt, ruleAt}
+use Rattle.grammar.specs.inside.Tables.{rulesAt, ruleAt}
 use Prim.Native.Nat.{_+_}
 use native.Mathlib.Omega.{arith}
 use borrow.Author.Needs.{needs}

@@ -1,6 +1,6 @@
 -- `grammar::size` meets its contract: the word of the size lies in the tables, and it is what `grammarIn` reads.
 use borrow.Author.Needs.{needs}
-use Rattle.grammar.specs.Tables.{grammarIn}
+use Rattle.grammar.specs.inside.Tables.{grammarIn}
 use Rattle.grammar.proofs.size.Statement.{statement}
 use Rattle.grammar.proofs.size.Tie as tie
 

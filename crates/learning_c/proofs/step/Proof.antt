@@ -2,7 +2,7 @@
 use borrow.Author.Needs.{needs}
 use native.Mathlib.Omega.{arith}
 use denote.Ref.{now}
-use Rattle.grammar.specs.Tables.{grammarIn}
+use Rattle.grammar.specs.inside.Tables.{grammarIn}
 use Rattle.learning_c.proofs.QuestionLaws.{decision-fits, step-high, step-known, step-unknown}
 use Rattle.learning_c.proofs.step.Statement.{statement}
 use Rattle.learning_c.proofs.step.Tie as tie

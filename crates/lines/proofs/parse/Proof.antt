@@ -1,19 +1,20 @@
--- `lines::parse` meets its contract: the tokens put down and what is left of the line give what the whole line says (`Going`), and each way out is one case of
--- `lineOf`.
+-- `lines::parse` meets its contract: the tokens put down and what is left of the line give what the whole line says (`ParsedSoFar`), and each way out is one
+-- case of `lineOf`.
 use mathlib.Core.Path.{_≡_, refl}
 use Prim.Native.Nat.{_-_, _≤_}
 use native.Mathlib.Omega.{arith}
 use borrow.Author.Needs.{needs}
 use lib.ListN.{length, length-set}
-use Rattle.lines.specs.Line.{maxTokens, maxToken}
-use Rattle.lines.proofs.LineLaws.{Going, nothing, going-begins, blank-first, blank-many, blank-on, digit-below, digit-above, digit-sixth, digit-high}
+use Rattle.lines.specs.Line.{maxLineTokens, maxToken}
+use Rattle.lines.proofs.LineLaws.{ParsedSoFar, nothing, going-begins, blank-first, blank-many}
+use Rattle.lines.proofs.LineLaws.{blank-on, digit-below, digit-above, digit-sixth, digit-high}
 use Rattle.lines.proofs.LineLaws.{digit-on, last-empty, last-many, last-good}
 use Rattle.lines.proofs.parse.Statement.{statement}
 use Rattle.lines.proofs.parse.Tie as tie
 
 abbrev Inv-loop : tie.InvT-loop
-Inv-loop line note₀ n i₀ count₀ digits₀ value₀ note i count digits value = Going line note count digits value i × (length note ≡ length note₀)
-    × (count ≤ maxTokens) × (value ≤ maxToken) × (i ≤ n)
+Inv-loop line note₀ n i₀ count₀ digits₀ value₀ note i count digits value = ParsedSoFar line note count digits value i × (length note ≡ length note₀)
+    × (count ≤ maxLineTokens) × (value ≤ maxToken) × (i ≤ n)
 
 abbrev μ-loop : tie.MeasureT-loop
 μ-loop line note₀ n i₀ count₀ digits₀ value₀ note i count digits value = n - i

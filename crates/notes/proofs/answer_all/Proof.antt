@@ -5,12 +5,12 @@ use native.Mathlib.Omega.{arith}
 use borrow.Author.Needs.{needs}
 use lib.ListN.{length}
 use lib.Seq.{length-take-le}
-use Rattle.lines.specs.Line.{maxKept}
+use Rattle.lines.specs.Line.{maxKeptBytes}
 use Rattle.notes.proofs.answer_all.Statement.{statement}
 use Rattle.notes.proofs.answer_all.Tie as tie
 
 abbrev Inv-loop : tie.InvT-loop
-Inv-loop cache₀ space₀ line₀ bytes₀ kept₀ turns₀ cache space line bytes kept turns = (kept ≤ maxKept) × (length line ≡ maxKept)
+Inv-loop cache₀ space₀ line₀ bytes₀ kept₀ turns₀ cache space line bytes kept turns = (kept ≤ maxKeptBytes) × (length line ≡ maxKeptBytes)
     × (length bytes ≡ 4096) × (length cache ≡ length cache₀) × (length space ≡ length space₀)
 
 abbrev μ-loop : tie.MeasureT-loop

@@ -1,22 +1,25 @@
--- `notes::feed` meets its contract: each byte leaves at most maxKept bytes kept, and so does the last.
+-- `notes::feed` meets its contract: what is kept with the bytes still to come gives the same in the end, and each byte leaves at most maxKept bytes kept.
 use mathlib.Core.Path.{_≡_, refl}
 use Prim.Native.Nat.{_-_, _≤_}
 use native.Mathlib.Omega.{arith}
 use borrow.Author.Needs.{needs}
-use lib.ListN.{length}
-use Rattle.lines.specs.Line.{maxKept}
+use lib.ListN.{length, take, drop}
+use Rattle.lines.specs.Line.{maxKeptBytes}
+use Rattle.lines.specs.Kept.{keptAfter}
+use Rattle.lines.proofs.OpenLaws.{feed-on, feed-end}
 use Rattle.notes.proofs.feed.Statement.{statement}
 use Rattle.notes.proofs.feed.Tie as tie
 
 abbrev Inv-loop : tie.InvT-loop
-Inv-loop bytes line₀ kept cache₀ space₀ n k₀ i₀ line cache space k i = (k ≤ maxKept) × (length line ≡ length line₀)
+Inv-loop bytes line₀ kept cache₀ space₀ n k₀ i₀ line cache space k i = (k ≤ maxKeptBytes) × (length line ≡ length line₀)
     × (length cache ≡ length cache₀) × (length space ≡ length space₀)
+    × (keptAfter (take k line) (drop i bytes) ≡ keptAfter (take kept line₀) bytes)
 
 abbrev μ-loop : tie.MeasureT-loop
 μ-loop bytes line₀ kept cache₀ space₀ n k₀ i₀ line cache space k i = n - i
 
 loop-holds : tie.Need-loop-holds Inv-loop μ-loop
-loop-holds c = (omega arith, refl, refl, refl)
+loop-holds c = (omega arith, refl, refl, refl, refl)
 
 shared-slice-read-step : tie.Need-shared-slice-read-step Inv-loop μ-loop
 shared-slice-read-step c = search needs
@@ -31,7 +34,16 @@ loop-less : tie.Need-loop-less Inv-loop μ-loop
 loop-less c = search needs
 
 loop-again : tie.Need-loop-again Inv-loop μ-loop
-loop-again c = (omega arith, omega arith, omega arith, omega arith)
+loop-again c =
+    let at-step = c .before .before .before .before .before .before in
+    let at-loop-test = at-step .before .before .before .before .before in
+    let at-loop = at-loop-test .before in (
+      omega arith,
+      omega arith,
+      omega arith,
+      omega arith,
+      feed-on _ _ _ _ (at-loop .loop .inv .4) (at-loop-test .loop-test .taken) (at-step .step .ensures .0),
+    )
 
 same-length : tie.Need-same-length Inv-loop μ-loop
 same-length c = search needs
@@ -43,7 +55,7 @@ same-length-3 : tie.Need-same-length-3 Inv-loop μ-loop
 same-length-3 c = search needs
 
 returns : tie.Need-returns Inv-loop μ-loop
-returns c = search needs
+returns c = (feed-end _ _ _ _ (c .before .loop .inv .4) (c .loop-test .left), c .before .loop .inv .0)
 
 pub feed-spec : {M : Type 1} → statement M
 feed-spec =

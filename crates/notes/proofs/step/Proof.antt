@@ -3,6 +3,7 @@ use mathlib.Core.Path.{sym}
 use native.Mathlib.Omega.{arith}
 use lib.Seq.{length-take-le}
 use borrow.Author.Needs.{needs}
+use Rattle.lines.proofs.OpenLaws.{kept-end, kept-byte}
 use Rattle.notes.proofs.step.Statement.{statement}
 use Rattle.notes.proofs.step.Tie as tie
 
@@ -13,7 +14,10 @@ same-length : tie.Need-same-length
 same-length c = search needs
 
 returns : tie.Need-returns
-returns c = search needs
+returns c =
+    let at-keep = c .before .before in
+    let at-if = at-keep .before .before in
+    (kept-byte _ _ (at-if .if1 .taken) (at-keep .keep .ensures .0), at-keep .keep .ensures .1)
 
 slice-reshare-prefix-answer : tie.Need-slice-reshare-prefix-answer
 slice-reshare-prefix-answer c = search needs
@@ -34,7 +38,10 @@ same-length-4 : tie.Need-same-length-4
 same-length-4 c = search needs
 
 returns-2 : tie.Need-returns-2
-returns-2 c = search needs
+returns-2 c =
+    let at-answer = c .before .before .before .before in
+    let at-if = at-answer .before .before .before .before in
+    (kept-end _ _ (at-if .if1 .left), omega arith)
 
 pub step-spec : {M : Type 1} → statement M
 step-spec =

@@ -5,7 +5,7 @@ use Prim.Native.Nat.{_-_}
 use native.Mathlib.Omega.{arith}
 use lib.ListN.{length}
 use borrow.Author.Needs.{needs}
-use Rattle.order.specs.Placing.{Placing}
+use Rattle.order.specs.inside.Placing.{Placing}
 use Rattle.order.proofs.PlacingLaws.{placing-none, placing-all}
 use Rattle.order.proofs.line_up.Statement.{statement}
 use Rattle.order.proofs.line_up.Tie as tie

@@ -5,7 +5,7 @@ use Prim.Native.Nat.{_-_, _≤_}
 use native.Mathlib.Omega.{arith}
 use lib.ListN.{length}
 use borrow.Author.Needs.{needs}
-use Rattle.order.specs.Placing.{Placing}
+use Rattle.order.specs.inside.Placing.{Placing}
 use Rattle.order.proofs.PlacingLaws.{placing-on, placing-fits}
 use Rattle.order.proofs.SweepLaws.{NoneRipe, none-yet, none-more, turn-named, sweep-grows}
 use Rattle.order.proofs.sweep.Statement.{statement}

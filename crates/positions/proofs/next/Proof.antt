@@ -1,7 +1,7 @@
 -- `positions::next` meets its contract: words are searched from the one of `from` on, and every word passed had no member from `from` on (`Clear`).
 use Prim.Native.Nat.{_+_, _-_, _*_, _≤_, _<_}
 use native.Mathlib.Omega.{arith}
-use Rattle.positions.specs.Positions.{setWords}
+use Rattle.positions.specs.inside.Positions.{setWords}
 use Rattle.positions.proofs.NextLaws.{Clear, clear-none, none-left, all-clear, word-found, word-clear}
 use borrow.Author.Needs.{needs}
 use Rattle.base.specs.Bits.{wordBits}

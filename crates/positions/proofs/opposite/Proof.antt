@@ -1,6 +1,6 @@
 -- `positions::opposite` meets its contract: the five words are made one by one as in `oppositeOf`; each index is one of the array.
 use borrow.Author.Needs.{needs}
-use Rattle.positions.specs.Positions.{oppositeOf}
+use Rattle.positions.specs.inside.Positions.{oppositeOf}
 use Rattle.positions.proofs.opposite.Statement.{statement}
 use Rattle.positions.proofs.opposite.Tie as tie
 

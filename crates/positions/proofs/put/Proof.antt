@@ -2,7 +2,7 @@
 use native.Mathlib.Numerals.{add-one, add-two, add-three, add-four}
 use native.Mathlib.Omega.{arith}
 use lib.ListN.{length-set}
-use Rattle.positions.specs.Words.{putAt}
+use Rattle.positions.specs.inside.Words.{putAt}
 use borrow.Author.Needs.{needs}
 use Rattle.positions.proofs.put.Statement.{statement}
 use Rattle.positions.proofs.put.Tie as tie

@@ -1,6 +1,6 @@
 -- `positions::read` meets its contract: the five words are read as in `setAt`, and each lies in the slice.
 use mathlib.Core.Path.{refl}
-use Rattle.positions.specs.Words.{setAt}
+use Rattle.positions.specs.inside.Words.{setAt}
 use borrow.Author.Needs.{needs}
 use Rattle.positions.proofs.read.Statement.{statement}
 use Rattle.positions.proofs.read.Tie as tie

@@ -1,6 +1,6 @@
 -- `positions::same` meets its contract: each word is read where the array has it, and the code computes the same Boolean as `sameOf`.
 use mathlib.Core.Path.{refl}
-use Rattle.positions.specs.Positions.{sameOf}
+use Rattle.positions.specs.inside.Positions.{sameOf}
 use borrow.Author.Needs.{needs}
 use Rattle.positions.proofs.same.Statement.{statement}
 use Rattle.positions.proofs.same.Tie as tie

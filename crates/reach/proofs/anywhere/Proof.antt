@@ -2,13 +2,13 @@
 use native.Mathlib.Omega.{arith}
 use borrow.Author.Needs.{needs}
 use Prim.Native.Nat.{_≤_, _-_}
-use Rattle.reach.specs.Sets.{Anywhere}
+use Rattle.reach.specs.inside.Sets.{Occupied}
 use Rattle.reach.proofs.LastLaws.{any-begin, any-next, any-end}
 use Rattle.reach.proofs.anywhere.Statement.{statement}
 use Rattle.reach.proofs.anywhere.Tie as tie
 
 abbrev Inv-loop : tie.InvT-loop
-Inv-loop sets places all₀ p₀ all p = (p ≤ places) × Anywhere sets p (all .words)
+Inv-loop sets places all₀ p₀ all p = (p ≤ places) × Occupied sets p (all .words)
 
 abbrev μ-loop : tie.MeasureT-loop
 μ-loop sets places all₀ p₀ all p = places - p

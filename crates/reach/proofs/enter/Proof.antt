@@ -5,7 +5,7 @@ use mathlib.Core.Path.{_≡_, refl}
 use Prim.Native.Nat.{_≤_, _-_}
 use lib.ListN.{length}
 use Rattle.derivation.proofs.FirstLaws.{rule-within}
-use Rattle.reach.specs.Sets.{Added}
+use Rattle.reach.specs.inside.Sets.{Added}
 use Rattle.reach.proofs.EnterLaws.{Opened, first-small, enter-begin, enter-new, enter-old, enter-end}
 use Rattle.reach.proofs.enter.Statement.{statement}
 use Rattle.reach.proofs.enter.Tie as tie

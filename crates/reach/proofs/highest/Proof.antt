@@ -3,7 +3,7 @@ use native.Mathlib.Omega.{arith}
 use borrow.Author.Needs.{needs}
 use mathlib.Core.Path.{_≡_, sym, _∙_}
 use Prim.Native.Nat.{_≤_}
-use Rattle.positions.specs.Positions.{member}
+use Rattle.positions.specs.inside.Positions.{member}
 use Rattle.derivation.specs.ReachRounds.{highestTo}
 use Rattle.reach.proofs.LastLaws.{highest-none, highest-hit, highest-miss}
 use Rattle.reach.proofs.highest.Statement.{statement}

@@ -1,12 +1,11 @@
 -- `reach::pass` meets its contract: the places are closed one after the other: nobody stands there, or a step was made there before, or one is made now.
 use native.Mathlib.Omega.{arith}
-use borrow.Author.Needs.{needs}
 use Rattle.derivation.proofs.ReadyLaws.{ready-size}
 use mathlib.Core.Path.{_≡_, refl}
 use Prim.Native.Nat.{_≤_, _-_}
 use lib.ListN.{length}
-use Rattle.grammar.specs.Tables.{grammarIn}
-use Rattle.reach.specs.Passes.{PassedTo, Stepped}
+use Rattle.grammar.specs.inside.Tables.{grammarIn}
+use Rattle.reach.specs.inside.Passes.{PassedTo, Stepped}
 use Rattle.reach.proofs.PassLaws.{holds-stands, pass-begin, pass-out, pass-new, pass-old, pass-before, pass-end, stepped-more}
 use Rattle.reach.proofs.pass.Statement.{statement}
 use Rattle.reach.proofs.pass.Tie as tie
@@ -47,52 +46,50 @@ holds-requires c κs =
 add-p : tie.Need-add-p Inv-loop μ-loop
 add-p c = omega arith
 
-mul-if2 : tie.Need-mul-if2 Inv-loop μ-loop
-mul-if2 c = search needs
-
-slice-read-if2 : tie.Need-slice-read-if2 Inv-loop μ-loop
-slice-read-if2 c =
-    let at-entry = c .before .before .before .before .before .before .before .before .before .before .before .before in
-    let at-size = c .before .before .before .before .before .before in
+has-place-requires : tie.Need-has-place-requires Inv-loop μ-loop
+has-place-requires c κs =
     let at-loop = c .before .before .before .before .before in
-    omega (arith, at-loop .loop .inv .3 .long, ready-size _ (at-entry .pre .0 .given .ready), at-size .size .ensures)
+    let at-size = at-loop .before in
+    let at-entry = at-size .before .before .before .before .before .before in
+    (at-loop .loop .inv .3 .long, omega (arith, ready-size _ (at-entry .pre .0 .given .ready), at-size .size .ensures))
 
-mul-stepped : tie.Need-mul-stepped Inv-loop μ-loop
-mul-stepped c = search needs
-
-slice-write-stepped : tie.Need-slice-write-stepped Inv-loop μ-loop
-slice-write-stepped c =
-    let at-entry = c .before .before .before .before .before .before .before .before .before .before .before .before .before in
-    let at-size = c .before .before .before .before .before .before .before in
-    let at-loop = c .before .before .before .before .before .before in
-    omega (arith, at-loop .loop .inv .3 .long, ready-size _ (at-entry .pre .0 .given .ready), at-size .size .ensures)
+put-place-requires : tie.Need-put-place-requires Inv-loop μ-loop
+put-place-requires c κs =
+    let at-loop = c .before .before .before .before .before .before .before .before in
+    let at-size = at-loop .before in
+    let at-entry = at-size .before .before .before .before .before .before in
+    (at-loop .loop .inv .3 .long, omega (arith, ready-size _ (at-entry .pre .0 .given .ready), at-size .size .ensures))
 
 step-requires : tie.Need-step-requires Inv-loop μ-loop
 step-requires c κs =
-    let at-entry = c .before .before .before .before .before .before .before .before .before .before .before .before .before .before in
-    let at-size = c .before .before .before .before .before .before .before .before in
-    let at-loop = c .before .before .before .before .before .before .before in
-    let start = at-entry .pre .0 in
-    (record { given = start .given; here = start .here; long = omega (arith, at-loop .loop .inv .1, start .long) }, omega (arith, at-size .size .ensures))
+    let at-loop-test = c .before .before .before .before .before .before .before .before .before .before .before in
+    let at-loop = at-loop-test .before in
+    let at-size = at-loop .before in
+    let at-entry = at-size .before .before .before .before .before .before in
+    let start = at-entry .pre .0 in (
+      record { given = start .given; here = start .here; long = omega (arith, at-loop .loop .inv .1, start .long) },
+      omega (arith, at-loop-test .loop-test .taken, at-size .size .ensures),
+    )
 
 loop-less : tie.Need-loop-less Inv-loop μ-loop
 loop-less c = omega arith
 
 loop-again : tie.Need-loop-again Inv-loop μ-loop
 loop-again c =
-    let at-entry = c .before .before .before .before .before .before .before .before .before .before .before .before .before .before .before .before .before
-    .before in
-    let at-size = c .before .before .before .before .before .before .before .before .before .before .before .before in
-    let at-loop = c .before .before .before .before .before .before .before .before .before .before .before in
-    let at-holds = c .before .before .before .before .before .before .before .before in
-    let at-if1 = c .before .before .before .before .before .before .before in
     let at-step = c .before .before .before in
+    let at-put-place = at-step .before .before .before .before in
+    let at-if1 = at-put-place .before .before .before .before .before in
+    let at-holds = at-if1 .before in
+    let at-loop = at-holds .before .before .before in
+    let at-size = at-loop .before in
+    let at-entry = at-size .before .before .before .before .before .before in
     let given = at-entry .pre .0 .given in (
       omega arith,
       omega (arith, at-step .step .kept .1 .1 .1 .0),
       pass-new _ _ _ _ (given .ready) (omega (arith, given .lent .short)) (omega (arith, at-size .size .ensures)) (at-entry .pre .0 .here)
           (at-loop .loop .inv .2) (holds-stands _ _ _ (at-holds .holds .ensures)) (at-if1 .if1 .taken) (at-step .step .ensures) (c .if3 .taken),
-      stepped-more _ _ _ _ (given .ready) (omega (arith, given .lent .short)) (at-entry .pre .0 .here) _ _ (at-loop .loop .inv .3)
+      stepped-more _ _ _ _ (given .ready) (omega (arith, given .lent .short)) (at-entry .pre .0 .here)
+          (omega (arith, ready-size _ (given .ready), at-size .size .ensures)) (at-put-place .put-place .ensures) (at-loop .loop .inv .3)
           (at-step .step .ensures),
     )
 
@@ -101,19 +98,20 @@ loop-less-2 c = omega arith
 
 loop-again-2 : tie.Need-loop-again-2 Inv-loop μ-loop
 loop-again-2 c =
-    let at-entry = c .before .before .before .before .before .before .before .before .before .before .before .before .before .before .before .before .before
-    .before in
-    let at-size = c .before .before .before .before .before .before .before .before .before .before .before .before in
-    let at-loop = c .before .before .before .before .before .before .before .before .before .before .before in
-    let at-holds = c .before .before .before .before .before .before .before .before in
-    let at-if1 = c .before .before .before .before .before .before .before in
     let at-step = c .before .before .before in
+    let at-put-place = at-step .before .before .before .before in
+    let at-if1 = at-put-place .before .before .before .before .before in
+    let at-holds = at-if1 .before in
+    let at-loop = at-holds .before .before .before in
+    let at-size = at-loop .before in
+    let at-entry = at-size .before .before .before .before .before .before in
     let given = at-entry .pre .0 .given in (
       omega arith,
       omega (arith, at-step .step .kept .1 .1 .1 .0),
       pass-old _ _ _ _ (given .ready) (omega (arith, given .lent .short)) (omega (arith, at-size .size .ensures)) (at-entry .pre .0 .here)
           (at-loop .loop .inv .2) (holds-stands _ _ _ (at-holds .holds .ensures)) (at-if1 .if1 .taken) (at-step .step .ensures) (c .if3 .left),
-      stepped-more _ _ _ _ (given .ready) (omega (arith, given .lent .short)) (at-entry .pre .0 .here) _ _ (at-loop .loop .inv .3)
+      stepped-more _ _ _ _ (given .ready) (omega (arith, given .lent .short)) (at-entry .pre .0 .here)
+          (omega (arith, ready-size _ (given .ready), at-size .size .ensures)) (at-put-place .put-place .ensures) (at-loop .loop .inv .3)
           (at-step .step .ensures),
     )
 
@@ -122,15 +120,17 @@ loop-less-3 c = omega arith
 
 loop-again-3 : tie.Need-loop-again-3 Inv-loop μ-loop
 loop-again-3 c =
-    let at-entry = c .before .before .before .before .before .before .before .before .before .before .before .before .before in
-    let at-size = c .before .before .before .before .before .before .before in
-    let at-loop = c .before .before .before .before .before .before in
-    let at-holds = c .before .before .before in
+    let at-has-place = c .before in
+    let at-holds = at-has-place .before .before .before in
+    let at-loop = at-holds .before .before .before in
+    let at-size = at-loop .before in
+    let at-entry = at-size .before .before .before .before .before .before in
     let given = at-entry .pre .0 .given in (
       omega arith,
       omega arith,
       pass-before _ _ _ _ (given .ready) (omega (arith, given .lent .short)) (omega (arith, at-size .size .ensures))
-          (at-entry .pre .0 .here) (at-loop .loop .inv .2) (holds-stands _ _ _ (at-holds .holds .ensures)) _ (at-loop .loop .inv .3) (c .if2 .left),
+          (at-entry .pre .0 .here) (at-loop .loop .inv .2) (holds-stands _ _ _ (at-holds .holds .ensures)) _ (at-loop .loop .inv .3)
+          (at-has-place .has-place .ensures) (c .if2 .left),
       at-loop .loop .inv .3,
     )
 
@@ -177,10 +177,8 @@ pass-spec =
     mul-holds
     holds-requires
     add-p
-    mul-if2
-    slice-read-if2
-    mul-stepped
-    slice-write-stepped
+    has-place-requires
+    put-place-requires
     step-requires
     loop-less
     loop-again

@@ -6,17 +6,17 @@ use native.Mathlib.Omega.{arith}
 use lib.ListN.{length}
 use borrow.Author.Needs.{needs}
 use borrow.Author.Tests.{not-true, not-false}
-use Rattle.grammar.specs.Tables.{grammarIn}
-use Rattle.positions.specs.Words.{total}
+use Rattle.grammar.specs.inside.Tables.{grammarIn}
+use Rattle.positions.specs.inside.Words.{total}
 use Rattle.positions.proofs.WordLaws.{total-le}
-use Rattle.reach.specs.Passes.{Grown, Stepped}
+use Rattle.reach.specs.inside.Passes.{SetsGrown, Stepped}
 use Rattle.reach.proofs.PassLaws.{grown-none, grown-both, settle-end, stepped-none}
 use Rattle.reach.proofs.settle.Statement.{statement}
 use Rattle.reach.proofs.settle.Tie as tie
 
 abbrev Inv-loop : tie.InvT-loop
 Inv-loop tables note ws sets₀ i stepped₀ sets stepped =
-    (length sets ≡ length sets₀) × Grown (grammarIn tables) note i sets₀ sets × Stepped tables note i stepped sets
+    (length sets ≡ length sets₀) × SetsGrown (grammarIn tables) note i sets₀ sets × Stepped tables note i stepped sets
 
 abbrev μ-loop : tie.MeasureT-loop
 μ-loop tables note ws sets₀ i stepped₀ sets stepped = length sets * 2 ^ 32 - total sets

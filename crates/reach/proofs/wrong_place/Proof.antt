@@ -6,7 +6,7 @@ use Prim.Native.Nat.{ℕ, _+_, _-_, _≤_}
 use native.Mathlib.Omega.{arith}
 use lib.ListN.{length, length-replicate}
 use Rattle.derivation.proofs.ReadyLaws.{ready-size}
-use Rattle.reach.specs.Sets.{setsWords}
+use Rattle.reach.specs.inside.Sets.{setsWords}
 use Rattle.reach.proofs.EnterLaws.{start-known}
 use Rattle.reach.proofs.FoundLaws.{FoundTo, found-begin, found-next, found-all}
 use Rattle.reach.proofs.LastLaws.{wrong-is}

@@ -1,6 +1,6 @@
 -- `reader::finish` meets its contract: the four stores are those of `finished`, and each lies in the tables.
-use Rattle.grammar.specs.Tables.{wordOf}
-use Rattle.reader.specs.Pass.{finished}
+use Rattle.grammar.specs.inside.Tables.{wordOf}
+use Rattle.reader.specs.inside.Pass.{finished}
 use borrow.Author.Needs.{needs}
 use Rattle.reader.proofs.finish.Statement.{statement}
 use Rattle.reader.proofs.finish.Tie as tie

@@ -5,7 +5,7 @@ use borrow.Author.Needs.{needs}
 use mathlib.Core.Path.{_≡_}
 use Prim.Native.Nat.{_≤_}
 use lib.ListN.{length, length-set}
-use Rattle.reader.specs.Pass.{productionsOf}
+use Rattle.reader.specs.inside.Pass.{productionsOf}
 use Rattle.grammar.specs.Limits.{maxPlaces}
 use Rattle.number.proofs.NumberLaws.{limited-is}
 use Rattle.reader.proofs.PassSteps.{productions-done, productions-refused, productions-full, productions-piece, productions-more, symbols-end}

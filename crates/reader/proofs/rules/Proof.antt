@@ -6,7 +6,7 @@ use mathlib.Core.Path.{_≡_, refl}
 use Prim.Native.Nat.{_≤_, _-_}
 use native.Mathlib.Nat.{sub-zero}
 use lib.ListN.{length, length-set}
-use Rattle.reader.specs.Pass.{nonterminalsOf}
+use Rattle.reader.specs.inside.Pass.{nonterminalsOf}
 use Rattle.grammar.specs.Limits.{maxPlaces}
 use Rattle.number.proofs.NumberLaws.{limited-is}
 use Rattle.reader.proofs.PassSteps.{rules-done, rules-refused, rules-piece, rules-more, productions-end}

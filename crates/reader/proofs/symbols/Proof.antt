@@ -5,8 +5,8 @@ use borrow.Author.Needs.{needs}
 use mathlib.Core.Path.{_≡_}
 use Prim.Native.Nat.{_+_, _-_}
 use lib.ListN.{length, length-set}
-use Rattle.grammar.specs.Tables.{codes}
-use Rattle.reader.specs.Pass.{symbolsOf}
+use Rattle.grammar.specs.inside.Tables.{codes}
+use Rattle.reader.specs.inside.Pass.{symbolsOf}
 use Rattle.number.proofs.NumberLaws.{symbol-low}
 use Rattle.reader.proofs.PassSteps.{symbols-done, symbols-refused, symbols-more}
 use Rattle.reader.proofs.symbols.Statement.{statement}

@@ -21,7 +21,7 @@ record-outcome-requires : tie.Need-record-outcome-requires
 record-outcome-requires c κs =
     let call = c .before .before .before .before .before .before .before .pre .0 in
     let few = call .ready .fits .few in
-    let told = told-room _ _ _ (c .before .before .kept2 .given) (c .before .before .before .start .ensures) in
+    let told = told-room _ _ _ (c .before .before .before .start .ensures) in
     (record { long = call .long; within = omega (arith, call .long, call .names, few); decision = omega (arith, call .names, few) }, told)
 
 same-length : tie.Need-same-length

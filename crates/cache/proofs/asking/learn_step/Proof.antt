@@ -27,7 +27,7 @@ record-outcome-requires c κs =
     let at-entry = c .before .before .before .before .before .before .before .before .before in
     let call = at-entry .pre .0 in
     let inside = slot-within (length (at-entry .args .cache .now)) (at-entry .args .s) (call .slot) in
-    let told = told-room _ _ _ (c .before .before .before .kept2 .given) (c .before .before .before .before .step-outcome .ensures) in
+    let told = told-room _ _ _ (c .before .before .before .before .step-outcome .ensures) in
     let here = c .before .step-at .ensures in
     (record { long = omega (arith, inside); within = omega (arith, inside, call .kind, here); decision = at-entry .pre .1 .decision }, told)
 

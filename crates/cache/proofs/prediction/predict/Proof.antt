@@ -5,11 +5,11 @@ use Prim.Native.Nat.{suc, _-_, _≤_}
 use native.Mathlib.Omega.{arith}
 use lib.ListN.{length, drop}
 use borrow.Author.Needs.{needs}
-use Rattle.grammar.specs.Tables.{grammarIn}
+use Rattle.grammar.specs.inside.Tables.{grammarIn}
 use Rattle.derivation.specs.Runs.{marked}
 use Rattle.words.specs.Layout as layout
 use Rattle.cache.specs.Recording.{learned}
-use Rattle.cache.specs.Predict.{follow}
+use Rattle.cache.specs.Predict.{predictFrom}
 use Rattle.cache.proofs.PredictSteps.{Asking, asking-on, asking-beyond, asking-over, asking-none, asking-some, predict-starts, start-slots, step-slots}
 use Rattle.cache.proofs.PredictSteps.{token-small}
 use Rattle.cache.proofs.prediction.predict.Statement.{statement}
@@ -17,7 +17,7 @@ use Rattle.cache.proofs.prediction.predict.Tie as tie
 
 abbrev Inv-loop : tie.InvT-loop
 Inv-loop tables note cache₀ a i n slots said₀ j₀ cache said j =
-    Asking (grammarIn tables) a note (follow (grammarIn tables) a (drop i (marked note)) (learned said₀ cache₀)) j said cache
+    Asking (grammarIn tables) a note (predictFrom (grammarIn tables) a (drop i (marked note)) (learned said₀ cache₀)) j said cache
     × (j ≤ suc n) × (slots ≡ layout.slots (length cache)) × (length cache ≡ length cache₀)
 
 abbrev μ-loop : tie.MeasureT-loop

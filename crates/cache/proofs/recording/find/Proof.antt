@@ -4,24 +4,21 @@ use Rattle.cache.proofs.StateSteps.{Seeking, seek-begins, seek-ends, se
 use borrow.Author.Needs.{needs}
 use lib.ListN.{take}
 use native.Mathlib.Omega.{arith}
-use Prim.Native.Nat.{_*_, _≤_}
+use Prim.Native.Nat.{_*_, _-_}
 use Rattle.cache.proofs.recording.find.Statement.{statement}
 use Rattle.cache.proofs.recording.find.Tie as tie
 
 abbrev Inv-loop : tie.InvT-loop
-Inv-loop cache a ws n count left₀ left = Seeking cache a (take (configWords * n) ws) count left × (left ≤ count)
+Inv-loop cache a ws n count s₀ s = Seeking cache a (take (configWords * n) ws) count s
 
 abbrev μ-loop : tie.MeasureT-loop
-μ-loop cache a ws n count left₀ left = left
+μ-loop cache a ws n count s₀ s = count - s
 
 searched-requires : tie.Need-searched-requires Inv-loop μ-loop
 searched-requires c κs = search needs
 
 loop-holds : tie.Need-loop-holds Inv-loop μ-loop
-loop-holds c = (seek-begins _ _ _ _ (c .searched .ensures), omega arith)
-
-sub-s : tie.Need-sub-s Inv-loop μ-loop
-sub-s c = search needs
+loop-holds c = seek-begins _ _ _ _ (c .searched .ensures)
 
 holds-requires : tie.Need-holds-requires Inv-loop μ-loop
 holds-requires c κs =
@@ -31,10 +28,10 @@ holds-requires c κs =
 returns : tie.Need-returns Inv-loop μ-loop
 returns c =
     let at-loop = c .before .before .before in
-    seek-hit _ _ _ _ _ (at-loop .loop .inv .0) (c .before .before .loop-test .taken) (c .before .holds .ensures) (c .if1 .taken)
+    seek-hit _ _ _ _ _ (at-loop .loop .inv) (c .before .before .loop-test .taken) (c .before .holds .ensures) (c .if1 .taken)
 
-sub-left : tie.Need-sub-left Inv-loop μ-loop
-sub-left c = search needs
+add-s : tie.Need-add-s Inv-loop μ-loop
+add-s c = search needs
 
 loop-less : tie.Need-loop-less Inv-loop μ-loop
 loop-less c = search needs
@@ -42,11 +39,10 @@ loop-less c = search needs
 loop-again : tie.Need-loop-again Inv-loop μ-loop
 loop-again c =
     let at-loop = c .before .before .before in
-    let inv = at-loop .loop .inv in
-    (seek-next _ _ _ _ _ (inv .0) (c .before .before .loop-test .taken) (c .before .holds .ensures) (inv .1) (c .if1 .left), omega arith)
+    seek-next _ _ _ _ _ (at-loop .loop .inv) (c .before .before .loop-test .taken) (c .before .holds .ensures) (c .if1 .left)
 
 returns-2 : tie.Need-returns-2 Inv-loop μ-loop
-returns-2 c = seek-ends _ _ _ _ _ (c .before .loop .inv .0) (omega arith)
+returns-2 c = seek-ends _ _ _ _ _ (c .before .loop .inv) (omega arith)
 
 pub find-spec : {M : Type 1} → statement M
 find-spec =
@@ -56,10 +52,9 @@ find-spec =
     μ-loop
     searched-requires
     loop-holds
-    sub-s
     holds-requires
     returns
-    sub-left
+    add-s
     loop-less
     loop-again
     returns-2)

@@ -5,7 +5,7 @@ use Prim.Native.Nat.{_≤_, _-_}
 use native.Mathlib.Omega.{arith}
 use lib.ListN.{length}
 use borrow.Author.Needs.{needs}
-use Rattle.choosing.specs.Sets.{ServedUp}
+use Rattle.choosing.specs.inside.Sets.{ServedUp}
 use Rattle.cells.proofs.Spots.{lent-kept}
 use Rattle.choosing.proofs.ServeLaws.{serving-begins, serving-place, serving-more, serving-ends}
 use Rattle.choosing.proofs.sets.serve_up.Statement.{statement}

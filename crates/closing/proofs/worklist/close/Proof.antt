@@ -3,9 +3,9 @@ use borrow.Author.Needs.{needs}
 use mathlib.Core.Path.{_≡_, refl}
 use Prim.Native.Nat.{_-_}
 use native.Mathlib.Omega.{arith}
-use Rattle.grammar.specs.Tables.{grammarIn}
+use Rattle.grammar.specs.inside.Tables.{grammarIn}
 use Rattle.lookahead.specs.Closing.{maxMembers, closeFrom}
-use Rattle.configurations.specs.Held.{held, Room}
+use Rattle.configurations.specs.inside.Held.{configsFrom, Room}
 use Rattle.configurations.proofs.HeldLaws.{member-has}
 use Rattle.configurations.proofs.GrowSteps.{grow-room}
 use Rattle.closing.proofs.WorklistLaws.{close-on, close-stop, close-end, next-movable}
@@ -14,7 +14,7 @@ use Rattle.closing.proofs.worklist.close.Tie as tie
 
 abbrev Inv-loop : tie.InvT-loop
 Inv-loop tables members₀ from n₀ k₀ members n k = Room members n
-    × (closeFrom (grammarIn tables) (maxMembers - k) k (held members 0 n) ≡ closeFrom (grammarIn tables) maxMembers 0 (held members₀ 0 from))
+    × (closeFrom (grammarIn tables) (maxMembers - k) k (configsFrom members 0 n) ≡ closeFrom (grammarIn tables) maxMembers 0 (configsFrom members₀ 0 from))
 
 abbrev μ-loop : tie.MeasureT-loop
 μ-loop tables members₀ from n₀ k₀ members n k = maxMembers - k

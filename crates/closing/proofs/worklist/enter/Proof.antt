@@ -3,12 +3,12 @@ use borrow.Author.Needs.{needs}
 use mathlib.Core.Path.{ap}
 use Prim.Native.Nat.{_≤_, _-_}
 use native.Mathlib.Omega.{arith}
-use Rattle.grammar.specs.Tables.{grammarIn}
+use Rattle.grammar.specs.inside.Tables.{grammarIn}
 use Rattle.derivation.proofs.FirstLaws.{rule-within}
 use Rattle.lookahead.specs.Configs.{entered}
 use Rattle.lookahead.specs.Closing.{addAll}
-use Rattle.configurations.specs.Packing.{configOf}
-use Rattle.configurations.specs.Held.{held}
+use Rattle.configurations.specs.inside.Packed.{configOf}
+use Rattle.configurations.specs.inside.Held.{configsFrom}
 use Rattle.configurations.proofs.GrowSteps.{Left, left-on, left-stop, left-none}
 use Rattle.closing.proofs.FollowLaws.{entering, entering-first, entering-none, entering-all, first-small}
 use Rattle.closing.proofs.worklist.enter.Statement.{statement}
@@ -16,7 +16,7 @@ use Rattle.closing.proofs.worklist.enter.Tie as tie
 
 abbrev Inv-loop : tie.InvT-loop
 Inv-loop tables members₀ from c a start end n₀ k₀ members n k = (start ≤ k)
-    × Left members n (entering tables (configOf c) k end) (addAll (held members₀ 0 from) (entered (grammarIn tables) (configOf c) a))
+    × Left members n (entering tables (configOf c) k end) (addAll (configsFrom members₀ 0 from) (entered (grammarIn tables) (configOf c) a))
 
 abbrev μ-loop : tie.MeasureT-loop
 μ-loop tables members₀ from c a start end n₀ k₀ members n k = end - k

@@ -6,7 +6,7 @@ use mathlib.Core.Path.{_≡_}
 use Prim.Native.Nat.{_-_}
 use Rattle.base.specs.Bits.{testBit}
 use Rattle.grammar.specs.Grammar.{suffix}
-use Rattle.grammar.specs.Tables.{placeWords, grammarIn}
+use Rattle.grammar.specs.inside.Tables.{placeWords, grammarIn}
 use Rattle.grammar.proofs.WordLaws.{facing-of}
 use Rattle.closures.specs.Closures.{passes}
 use Rattle.closures.proofs.ClosureSteps.{pass-end, pass-past, pass-token-stops, pass-token, pass-stops, pass-goes}

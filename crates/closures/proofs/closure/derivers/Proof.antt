@@ -2,9 +2,9 @@
 -- closure; what two passes leave open, rounds settle.
 use borrow.Author.Needs.{needs}
 use mathlib.Core.Path.{sym, _∙_}
-use Rattle.grammar.specs.Tables.{grammarIn}
+use Rattle.grammar.specs.inside.Tables.{grammarIn}
 use Rattle.grammar.proofs.WordLaws.{length-starts-in}
-use Rattle.closures.specs.Steps.{Derivers}
+use Rattle.closures.specs.inside.Steps.{Derivers}
 use Rattle.closures.proofs.ClosureSteps.{derivers-none, pass-keeps, closure-exact, closure-full}
 use Rattle.closures.proofs.closure.derivers.Statement.{statement}
 use Rattle.closures.proofs.closure.derivers.Tie as tie

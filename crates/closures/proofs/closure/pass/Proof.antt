@@ -2,8 +2,8 @@
 use mathlib.Core.Path.{_≡_, ap}
 use Prim.Native.Nat.{ℕ, _≤_}
 use native.Mathlib.Omega.{arith}
-use Rattle.grammar.specs.Tables.{grammarIn, nonterminalsIn}
-use Rattle.closures.specs.Steps.{passOf}
+use Rattle.grammar.specs.inside.Tables.{grammarIn, nonterminalsIn}
+use Rattle.closures.specs.inside.Steps.{passOf}
 use Rattle.closures.proofs.ClosureSteps.{pass-more, pass-done}
 use Rattle.closures.proofs.closure.pass.Statement.{statement}
 use Rattle.closures.proofs.closure.pass.Tie as tie

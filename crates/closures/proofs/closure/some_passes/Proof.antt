@@ -7,7 +7,7 @@ use lib.Seq.{slice}
 use Rattle.base.specs.Bits.{testBit}
 use Rattle.base.specs.Rounds.{anyOf}
 use Rattle.grammar.specs.Grammar.{suffix}
-use Rattle.grammar.specs.Tables.{grammarIn}
+use Rattle.grammar.specs.inside.Tables.{grammarIn}
 use Rattle.closures.specs.Closures.{passes, derivingRound}
 use Rattle.closures.proofs.ClosureSteps.{round-in, rule-within, any-none, any-found, any-later}
 use Rattle.closures.proofs.closure.some_passes.Statement.{statement}

@@ -6,8 +6,8 @@ use Prim.Native.Nat.{_<_, _-_, _^_}
 use native.Mathlib.Omega.{arith}
 use Rattle.base.specs.Bits.{testBit}
 use Rattle.base.proofs.Fixpoint.{Within}
-use Rattle.grammar.specs.Tables.{grammarIn}
-use Rattle.closures.specs.Steps.{Derivers}
+use Rattle.grammar.specs.inside.Tables.{grammarIn}
+use Rattle.closures.specs.inside.Steps.{Derivers}
 use Rattle.closures.proofs.RoundSteps.{round-grows, round-holds, round-keeps, round-exact}
 use Rattle.closures.proofs.rounds.by_rounds.Statement.{statement}
 use Rattle.closures.proofs.rounds.by_rounds.Tie as tie

@@ -3,7 +3,7 @@
 use borrow.Author.Needs.{needs}
 use Prim.Native.Nat.{_-_}
 use native.Mathlib.Omega.{arith}
-use Rattle.grammar.specs.Tables.{placeWords}
+use Rattle.grammar.specs.inside.Tables.{placeWords}
 use Rattle.grammar.proofs.WordLaws.{facing-of}
 use Rattle.closures.proofs.NoteSteps.{Asks, need-begin, need-end, need-past, need-never, need-token, need-more}
 use Rattle.closures.proofs.rounds.need_from.Statement.{statement}

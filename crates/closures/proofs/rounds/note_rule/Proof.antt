@@ -6,8 +6,8 @@ use Prim.Native.Nat.{suc, _+_, _-_, _≤_, _<_}
 use native.Mathlib.Numerals.{add-one}
 use native.Mathlib.Omega.{arith}
 use lib.ListN.{length, length-set}
-use Rattle.grammar.specs.Tables.{firstsAt, ruleAt}
-use Rattle.closures.specs.Steps.{rowWords, Noted}
+use Rattle.grammar.specs.inside.Tables.{firstsAt, ruleAt}
+use Rattle.closures.specs.inside.Steps.{rowWords, Noted}
 use Rattle.closures.proofs.ClosureSteps.{rule-within}
 use Rattle.closures.proofs.NoteSteps.{rule-from, noted-skip, noted-begin, noted-more, noted-done}
 use Rattle.closures.proofs.rounds.note_rule.Statement.{statement}

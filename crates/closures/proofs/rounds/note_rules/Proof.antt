@@ -4,8 +4,8 @@ use mathlib.Core.Path.{_≡_}
 use Prim.Native.Nat.{_-_, _≤_}
 use native.Mathlib.Omega.{arith}
 use lib.ListN.{length}
-use Rattle.grammar.specs.Tables.{nonterminalsIn}
-use Rattle.closures.specs.Steps.{rowWords, Noted}
+use Rattle.grammar.specs.inside.Tables.{nonterminalsIn}
+use Rattle.closures.specs.inside.Steps.{rowWords, Noted}
 use Rattle.closures.proofs.NoteSteps.{noted-none}
 use Rattle.closures.proofs.rounds.note_rules.Statement.{statement}
 use Rattle.closures.proofs.rounds.note_rules.Tie as tie

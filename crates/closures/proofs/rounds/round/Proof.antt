@@ -3,7 +3,7 @@ use borrow.Author.Needs.{needs}
 use mathlib.Core.Path.{_≡_, refl, ap, _∙_}
 use Prim.Native.Nat.{ℕ, _≤_, _-_}
 use native.Mathlib.Omega.{arith}
-use Rattle.closures.specs.Steps.{roundOf}
+use Rattle.closures.specs.inside.Steps.{roundOf}
 use Rattle.closures.proofs.RoundSteps.{round-more}
 use Rattle.closures.proofs.rounds.round.Statement.{statement}
 use Rattle.closures.proofs.rounds.round.Tie as tie

@@ -1,19 +1,18 @@
--- `configurations::members::is_member` meets its contract: members from k on are left to compare, and they have c exactly if all have it; one with
--- another head is another configuration.
+-- `configurations::members::is_member` meets its contract: members from k on are left to compare, and they have c exactly if all have it.
 use borrow.Author.Needs.{needs}
-use mathlib.Core.Path.{_≡_, refl, sym, _∙_, ap}
+use mathlib.Core.Path.{_≡_, refl, sym, ap, _∙_}
 use Prim.Native.Nat.{_-_, _≤_}
 use native.Mathlib.Omega.{arith}
 use Rattle.lookahead.specs.Closing.{member?}
-use Rattle.configurations.specs.Packing.{configOf}
-use Rattle.configurations.specs.Held.{held}
-use Rattle.configurations.proofs.HeldLaws.{held-all, member-has, exact-at, find-hit, find-next, find-end}
-use Rattle.configurations.proofs.CompareLaws.{heads-differ}
+use Rattle.configurations.specs.inside.Packed.{configOf}
+use Rattle.configurations.specs.inside.Held.{configsFrom}
+use Rattle.configurations.proofs.HeldLaws.{held-all}
+use Rattle.configurations.proofs.SearchLaws.{part-of, part-hit, part-none, block-is}
 use Rattle.configurations.proofs.members.is_member.Statement.{statement}
 use Rattle.configurations.proofs.members.is_member.Tie as tie
 
 abbrev Inv-loop : tie.InvT-loop
-Inv-loop members n c k₀ k = (k ≤ n) × (member? (configOf c) (held members k (n - k)) ≡ member? (configOf c) (held members 0 n))
+Inv-loop members n c k₀ k = (k ≤ n) × (member? (configOf c) (configsFrom members k (n - k)) ≡ member? (configOf c) (configsFrom members 0 n))
 
 abbrev μ-loop : tie.MeasureT-loop
 μ-loop members n c k₀ k = n - k
@@ -21,46 +20,42 @@ abbrev μ-loop : tie.MeasureT-loop
 loop-holds : tie.Need-loop-holds Inv-loop μ-loop
 loop-holds c = (omega arith, ap (member? _) (held-all _ _))
 
+add-loop : tie.Need-add-loop Inv-loop μ-loop
+add-loop c =
+    let at-entry = c .before .before in
+    omega (arith, at-entry .pre .0 .few, c .loop .inv .0)
+
 add-k : tie.Need-add-k Inv-loop μ-loop
 add-k c = search needs
 
-head-requires : tie.Need-head-requires Inv-loop μ-loop
-head-requires c κs =
+has-head-requires : tie.Need-has-head-requires Inv-loop μ-loop
+has-head-requires c κs =
     let at-entry = c .before .before .before in
-    member-has (at-entry .pre .0) _ (c .loop-test .taken)
+    (part-of (at-entry .pre .0) _ _ (omega arith) (c .loop-test .taken), at-entry .pre .1)
 
-member-requires : tie.Need-member-requires Inv-loop μ-loop
-member-requires c κs =
-    let in-loop = c .before .before .before in
+among-requires : tie.Need-among-requires Inv-loop μ-loop
+among-requires c κs =
+    let in-loop = c .before .before in
     let at-entry = in-loop .before .before .before in
-    member-has (at-entry .pre .0) _ (in-loop .loop-test .taken)
-
-equals-requires : tie.Need-equals-requires Inv-loop μ-loop
-equals-requires c κs =
-    let in-loop = c .before .before .before .before in
-    let at-entry = in-loop .before .before .before in
-    (at-entry .pre .1, exact-at (at-entry .pre .0) _ (in-loop .loop-test .taken) (c .member .ensures))
+    (part-of (at-entry .pre .0) _ _ (omega arith) (in-loop .loop-test .taken), at-entry .pre .1)
 
 returns : tie.Need-returns Inv-loop μ-loop
 returns c =
-    let at-equals = c .before in
-    let at-member = at-equals .before in
-    let in-loop = at-member .before .before .before .before in
+    let at-among = c .before in
+    let in-loop = at-among .before .before .before in
     let at-loop = in-loop .before in
-    find-hit _ _ _ _ (at-loop .loop .inv .1) (at-member .member .ensures) (at-equals .equals .ensures) (in-loop .loop-test .taken) (c .if2 .taken)
+    part-hit _ _ _ _ _ (in-loop .loop-test .taken) (at-loop .loop .inv .1) (block-is _ _ _ _ (at-among .among .ensures) (c .if2 .taken))
 
 loop-less : tie.Need-loop-less Inv-loop μ-loop
 loop-less c = search needs
 
 loop-again : tie.Need-loop-again Inv-loop μ-loop
 loop-again c =
-    let at-equals = c .before in
-    let at-member = at-equals .before in
-    let in-loop = at-member .before .before .before .before in
+    let at-among = c .before in
+    let in-loop = at-among .before .before .before in
     let at-loop = in-loop .before in (
-      omega arith,
-      find-next _ _ _ _ (at-loop .loop .inv .1) (at-member .member .ensures) (at-equals .equals .ensures) (in-loop .loop-test .taken)
-          (c .if2 .left),
+      in-loop .loop-test .taken,
+      part-none _ _ _ _ _ (in-loop .loop-test .taken) (at-loop .loop .inv .1) (block-is _ _ _ _ (at-among .among .ensures) (c .if2 .left)),
     )
 
 loop-less-2 : tie.Need-loop-less-2 Inv-loop μ-loop
@@ -68,20 +63,25 @@ loop-less-2 c = search needs
 
 loop-again-2 : tie.Need-loop-again-2 Inv-loop μ-loop
 loop-again-2 c =
-    let at-head = c .before .before in
-    let in-loop = at-head .before in
-    let at-loop = in-loop .before in
-    let at-entry = at-loop .before .before in
-    let exact = exact-at (at-entry .pre .0) _ (in-loop .loop-test .taken) refl in (
-      omega arith,
-      find-next _ _ _ _ (at-loop .loop .inv .1) refl (heads-differ _ _ (at-entry .pre .1) exact (omega (arith, at-head .head .ensures)))
-          (in-loop .loop-test .taken) refl,
+    let at-has-head = c .before in
+    let in-loop = at-has-head .before in
+    let at-loop = in-loop .before in (
+      in-loop .loop-test .taken,
+      part-none _ _ _ _ _ (in-loop .loop-test .taken) (at-loop .loop .inv .1) (at-has-head .has-head .ensures (c .if1 .left)),
     )
+
+among-requires-2 : tie.Need-among-requires-2 Inv-loop μ-loop
+among-requires-2 c κs =
+    let at-loop = c .before in
+    let at-entry = at-loop .before .before in
+    (part-of (at-entry .pre .0) _ _ (at-loop .loop .inv .0) (omega arith), at-entry .pre .1)
 
 returns-2 : tie.Need-returns-2 Inv-loop μ-loop
 returns-2 c =
-    let at-loop = c .before in
-    find-end _ _ _ _ (at-loop .loop .inv .1) (omega arith)
+    let at-loop = c .before .before in
+    let rest = c .among2 .ensures in
+    let all = at-loop .loop .inv .1 in
+    (cc)
 
 pub is-member-spec : {M : Type 1} → statement M
 is-member-spec =
@@ -90,13 +90,14 @@ is-member-spec =
     Inv-loop
     μ-loop
     loop-holds
+    add-loop
     add-k
-    head-requires
-    member-requires
-    equals-requires
+    has-head-requires
+    among-requires
     returns
     loop-less
     loop-again
     loop-less-2
     loop-again-2
+    among-requires-2
     returns-2)

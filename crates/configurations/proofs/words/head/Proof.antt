@@ -1,7 +1,7 @@
 -- `configurations::words::head` meets its contract: a configuration's head is the first of its words.
 use mathlib.Core.Path.{refl}
 use borrow.Author.Needs.{needs}
-use Rattle.configurations.specs.Packing.{packedAt}
+use Rattle.configurations.specs.inside.Packed.{packedAt}
 use Rattle.configurations.proofs.words.head.Statement.{statement}
 use Rattle.configurations.proofs.words.head.Tie as tie
 

@@ -4,7 +4,7 @@ use mathlib.Core.Path.{refl}
 use mathlib.Core.List.{[]}
 use Prim.Native.Nat.{_-_, _≤_}
 use native.Mathlib.Omega.{arith}
-use Rattle.grammar.specs.Tables.{grammarIn}
+use Rattle.grammar.specs.inside.Tables.{grammarIn}
 use Rattle.lookahead.specs.Closing.{addAll}
 use Rattle.lookahead.specs.Outcomes.{stepConfigs}
 use Rattle.configurations.specs.Packing.{unpackAll}

@@ -3,7 +3,7 @@ use borrow.Author.Needs.{needs}
 use mathlib.Core.List.{[]}
 use Prim.Native.Nat.{_-_, _≤_}
 use native.Mathlib.Omega.{arith}
-use Rattle.grammar.specs.Tables.{grammarIn}
+use Rattle.grammar.specs.inside.Tables.{grammarIn}
 use Rattle.derivation.proofs.FirstLaws.{rule-within}
 use Rattle.lookahead.specs.Closing.{addAll}
 use Rattle.lookahead.specs.Outcomes.{startConfigs}

@@ -5,13 +5,8 @@ use borrow.Author.Needs.{needs}
 use Rattle.learning.proofs.learn.start.Statement.{statement}
 use Rattle.learning.proofs.learn.start.Tie as tie
 
-slice-aggregate-begin : tie.Need-slice-aggregate-begin
-slice-aggregate-begin c = search needs
-
 begin-requires : tie.Need-begin-requires
-begin-requires c κs =
-    let at-entry = c .before .before .before in
-    record { ready = at-entry .pre .ready; long = search needs; named = at-entry .pre .named }
+begin-requires c κs = search needs
 
 enum-known-n : tie.Need-enum-known-n
 enum-known-n c = search needs
@@ -19,41 +14,30 @@ enum-known-n c = search needs
 enum-told : tie.Need-enum-told
 enum-told c = search needs
 
-returns : tie.Need-returns
-returns c =
-    let at-begin = c .before .before .before in
-    start-full _ _ (at-begin .begin .ensures) (c .enum-told .given .1) _
-
-slice-aggregate-finish : tie.Need-slice-aggregate-finish
-slice-aggregate-finish c = search needs
-
-finish-requires : tie.Need-finish-requires
-finish-requires c κs =
-    let at-n = c .before .before .before in
-    let at-begin = at-n .before .before .before in
-    let at-entry = at-begin .before .before .before .before in
-    record { ready = at-entry .pre .ready; room = grow-room (at-begin .begin .ensures) _ (at-n .n .given .1); long = at-entry .pre .long }
-
 same-length : tie.Need-same-length
 same-length c = search needs
 
+returns : tie.Need-returns
+returns c =
+    let at-begin = c .before .before .before .before in
+    start-full _ _ (at-begin .begin .ensures) (c .enum-told .given .1) _
+
+finish-requires : tie.Need-finish-requires
+finish-requires c κs =
+    let at-n = c .before .before in
+    let at-begin = at-n .before .before .before .before in
+    let at-entry = at-begin .before .before .before .before in
+    (at-entry .pre .ready, grow-room (at-begin .begin .ensures) _ (at-n .n .given .1))
+
+same-length-2 : tie.Need-same-length-2
+same-length-2 c = search needs
+
 returns-2 : tie.Need-returns-2
 returns-2 c =
-    let at-finish = c .before .before .before in
-    let at-n = at-finish .before .before .before .before in
-    let at-begin = at-n .before .before .before in
+    let at-finish = c .before .before in
+    let at-n = at-finish .before .before .before in
+    let at-begin = at-n .before .before .before .before in
     start-on _ _ (at-begin .begin .ensures) _ (at-n .n .given .1) _ _ (at-finish .finish .ensures)
 
 pub start-spec : {M : Type 1} → statement M
-start-spec =
-    tie.close
-    (tie.spec
-    slice-aggregate-begin
-    begin-requires
-    enum-known-n
-    enum-told
-    returns
-    slice-aggregate-finish
-    finish-requires
-    same-length
-    returns-2)
+start-spec = tie.close (tie.spec begin-requires enum-known-n enum-told same-length returns finish-requires same-length-2 returns-2)

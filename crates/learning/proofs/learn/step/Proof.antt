@@ -5,9 +5,6 @@ use borrow.Author.Needs.{needs}
 use Rattle.learning.proofs.learn.step.Statement.{statement}
 use Rattle.learning.proofs.learn.step.Tie as tie
 
-slice-aggregate-advance : tie.Need-slice-aggregate-advance
-slice-aggregate-advance c = search needs
-
 advance-requires : tie.Need-advance-requires
 advance-requires c κs = search needs
 
@@ -17,41 +14,30 @@ enum-known-n c = search needs
 enum-told : tie.Need-enum-told
 enum-told c = search needs
 
-returns : tie.Need-returns
-returns c =
-    let at-advance = c .before .before .before in
-    step-full _ _ _ (at-advance .advance .ensures) (c .enum-told .given .1) _
-
-slice-aggregate-finish : tie.Need-slice-aggregate-finish
-slice-aggregate-finish c = search needs
-
-finish-requires : tie.Need-finish-requires
-finish-requires c κs =
-    let at-n = c .before .before .before in
-    let at-advance = at-n .before .before .before in
-    let at-entry = at-advance .before .before .before .before .before in
-    record { ready = at-entry .pre .0; room = grow-room (at-advance .advance .ensures) _ (at-n .n .given .1); long = at-entry .pre .1 }
-
 same-length : tie.Need-same-length
 same-length c = search needs
 
+returns : tie.Need-returns
+returns c =
+    let at-advance = c .before .before .before .before in
+    step-full _ _ _ (at-advance .advance .ensures) (c .enum-told .given .1) _
+
+finish-requires : tie.Need-finish-requires
+finish-requires c κs =
+    let at-n = c .before .before in
+    let at-advance = at-n .before .before .before .before in
+    let at-entry = at-advance .before .before .before .before .before in
+    (at-entry .pre .0, grow-room (at-advance .advance .ensures) _ (at-n .n .given .1))
+
+same-length-2 : tie.Need-same-length-2
+same-length-2 c = search needs
+
 returns-2 : tie.Need-returns-2
 returns-2 c =
-    let at-finish = c .before .before .before in
-    let at-n = at-finish .before .before .before .before in
-    let at-advance = at-n .before .before .before in
+    let at-finish = c .before .before in
+    let at-n = at-finish .before .before .before in
+    let at-advance = at-n .before .before .before .before in
     step-on _ _ _ (at-advance .advance .ensures) _ (at-n .n .given .1) _ _ (at-finish .finish .ensures)
 
 pub step-spec : {M : Type 1} → statement M
-step-spec =
-    tie.close
-    (tie.spec
-    slice-aggregate-advance
-    advance-requires
-    enum-known-n
-    enum-told
-    returns
-    slice-aggregate-finish
-    finish-requires
-    same-length
-    returns-2)
+step-spec = tie.close (tie.spec advance-requires enum-known-n enum-told same-length returns finish-requires same-length-2 returns-2)

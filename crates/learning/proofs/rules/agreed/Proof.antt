@@ -4,14 +4,14 @@ use mathlib.Core.Path.{_≡_, refl}
 use Prim.Native.Nat.{_-_, _≤_}
 use native.Mathlib.Omega.{arith}
 use Rattle.lookahead.specs.Outcomes.{agreed}
-use Rattle.configurations.specs.Held.{held}
+use Rattle.configurations.specs.inside.Held.{configsFrom}
 use Rattle.configurations.proofs.HeldLaws.{member-has}
 use Rattle.learning.proofs.JudgeLaws.{agreed-not, agreed-next, agreed-end}
 use Rattle.learning.proofs.rules.agreed.Statement.{statement}
 use Rattle.learning.proofs.rules.agreed.Tie as tie
 
 abbrev Inv-loop : tie.InvT-loop
-Inv-loop members from n b k₀ k = (k ≤ n) × (agreed b (held members k (n - k)) ≡ agreed b (held members from (n - from)))
+Inv-loop members from n b k₀ k = (k ≤ n) × (agreed b (configsFrom members k (n - k)) ≡ agreed b (configsFrom members from (n - from)))
 
 abbrev μ-loop : tie.MeasureT-loop
 μ-loop members from n b k₀ k = n - k

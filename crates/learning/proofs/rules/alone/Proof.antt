@@ -6,8 +6,8 @@ use Prim.Native.Nat.{_-_, _≤_}
 use native.Mathlib.Omega.{arith}
 use Rattle.base.specs.Rounds.{anyOf}
 use Rattle.lookahead.specs.Outcomes.{rivals}
-use Rattle.configurations.specs.Packing.{configOf}
-use Rattle.configurations.specs.Held.{held}
+use Rattle.configurations.specs.inside.Packed.{configOf}
+use Rattle.configurations.specs.inside.Held.{configsFrom}
 use Rattle.configurations.proofs.HeldLaws.{member-has}
 use Rattle.learning.proofs.JudgeLaws.{alone-not, alone-next, alone-end}
 use Rattle.learning.proofs.rules.alone.Statement.{statement}
@@ -15,7 +15,7 @@ use Rattle.learning.proofs.rules.alone.Tie as tie
 
 abbrev Inv-loop : tie.InvT-loop
 Inv-loop members first n c k₀ k = (k ≤ n)
-    × (not (anyOf (rivals (configOf c)) (held members k (n - k))) ≡ not (anyOf (rivals (configOf c)) (held members first (n - first))))
+    × (not (anyOf (rivals (configOf c)) (configsFrom members k (n - k))) ≡ not (anyOf (rivals (configOf c)) (configsFrom members first (n - first))))
 
 abbrev μ-loop : tie.MeasureT-loop
 μ-loop members first n c k₀ k = n - k

@@ -13,7 +13,7 @@ returns c = judge-none _ _ _ (omega arith)
 member-requires : tie.Need-member-requires
 member-requires c κs =
     let at-entry = c .before .before in
-    member-has (at-entry .pre .0) _ (omega arith)
+    member-has (at-entry .pre .room) _ (omega arith)
 
 alternative-requires : tie.Need-alternative-requires
 alternative-requires c κs = search needs
@@ -44,8 +44,10 @@ returns-3 c =
     let at-agreed = at-if2 .before in
     let at-alternative = at-agreed .before in
     let at-member = at-alternative .before in
+    let at-known = at-member .before .before in
+    let at-entry = at-known .before in
     judge-apart _ _ _ (omega arith) (at-member .member .ensures) (at-alternative .alternative .ensures) (at-agreed .agreed .ensures) (at-if2 .if2 .left)
-    (at-shared .shared .ensures) (not-true _ (c .if3 .taken))
+    (at-shared .shared .ensures) (not-true _ (c .if3 .taken)) (at-entry .pre) (λ i. at-known .shared-slice-known .given i .fits)
 
 settled-requires : tie.Need-settled-requires
 settled-requires c κs = search needs
@@ -62,8 +64,11 @@ returns-4 c =
     let at-agreed = at-if2 .before in
     let at-alternative = at-agreed .before in
     let at-member = at-alternative .before in
+    let at-known = at-member .before .before in
+    let at-entry = at-known .before in
     judge-settled _ _ _ (omega arith) (at-member .member .ensures) (at-alternative .alternative .ensures) (at-agreed .agreed .ensures) (at-if2 .if2 .left)
-    (at-shared .shared .ensures) (not-false _ (at-if3 .if3 .left)) (at-settled .settled .ensures) (c .if4 .taken)
+    (at-shared .shared .ensures) (not-false _ (at-if3 .if3 .left)) (at-settled .settled .ensures) (c .if4 .taken) (at-entry .pre)
+    (λ i. at-known .shared-slice-known .given i .fits)
 
 returns-5 : tie.Need-returns-5
 returns-5 c =

@@ -7,7 +7,7 @@ use native.Mathlib.Omega.{arith}
 use Rattle.base.specs.Rounds.{anyOf}
 use Rattle.lookahead.specs.Configs.{Config}
 use Rattle.lookahead.specs.Outcomes.{rivals, settled}
-use Rattle.configurations.specs.Held.{held}
+use Rattle.configurations.specs.inside.Held.{configsFrom}
 use Rattle.configurations.proofs.HeldLaws.{member-has}
 use Rattle.learning.proofs.JudgeLaws.{settled-whole, settled-hit, settled-next, settled-end}
 use Rattle.learning.proofs.rules.settled.Statement.{statement}
@@ -15,7 +15,8 @@ use Rattle.learning.proofs.rules.settled.Tie as tie
 
 abbrev Inv-loop : tie.InvT-loop
 Inv-loop members first n k₀ k = (k ≤ n)
-    × (anyOf (λ (c : Config). not (anyOf (rivals c) (held members first (n - first)))) (held members k (n - k)) ≡ settled (held members first (n - first)))
+    × (anyOf (λ (c : Config). not (anyOf (rivals c) (configsFrom members first (n - first)))) (configsFrom members k (n - k))
+    ≡ settled (configsFrom members first (n - first)))
 
 abbrev μ-loop : tie.MeasureT-loop
 μ-loop members first n k₀ k = n - k

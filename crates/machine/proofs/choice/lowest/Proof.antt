@@ -1,19 +1,19 @@
 -- `machine::choice::lowest` meets its contract: the alternatives are tried from the first on, and the search goes on as long as none can end in s.
-use Prim.Native.Nat.{_+_, _-_, _≤_}
+use Prim.Native.Nat.{_-_, _≤_}
 use native.Mathlib.Omega.{arith}
 use borrow.Author.Needs.{needs}
 use Rattle.cells.proofs.Spots.{spot-in}
 use Rattle.derivation.proofs.FirstLaws.{rule-within, first-in}
 use Rattle.machine.proofs.CallLaws.{lent-of}
-use Rattle.machine.proofs.ChoiceLoops.{Seeking, seeking-at, seeking-begins, seeking-found, seeking-on, seeking-ends, sized}
+use Rattle.machine.proofs.ChoiceLoops.{Seeking, seeking-begins, seeking-found, seeking-on, seeking-ends, sized}
 use Rattle.machine.proofs.choice.lowest.Statement.{statement}
 use Rattle.machine.proofs.choice.lowest.Tie as tie
 
 abbrev Inv-loop : tie.InvT-loop
-Inv-loop tables ws a i s places start end left₀ left = (left ≤ end) × Seeking tables ws a i (s .words) start end (start + (end - left))
+Inv-loop tables ws a i s places start end k₀ k = (start ≤ k) × Seeking tables ws a i (s .words) start end k
 
 abbrev μ-loop : tie.MeasureT-loop
-μ-loop tables ws a i s places start end left₀ left = left
+μ-loop tables ws a i s places start end k₀ k = end - k
 
 size-requires : tie.Need-size-requires Inv-loop μ-loop
 size-requires c κs = search needs
@@ -32,15 +32,8 @@ loop-holds c =
     let at-entry = c .before .before .before .before .before in
     let at-rule-at = c .before in (
       omega arith,
-      seeking-at _ _ _ _ _ _ _ _ _ (omega arith)
-          (seeking-begins _ _ _ _ _ (at-entry .pre .ready) (at-entry .pre .named) (at-rule-at .rule-at .ensures) (c .rule-at2 .ensures)),
+      seeking-begins _ _ _ _ _ (at-entry .pre .ready) (at-entry .pre .named) (at-rule-at .rule-at .ensures) (c .rule-at2 .ensures),
     )
-
-sub-k : tie.Need-sub-k Inv-loop μ-loop
-sub-k c = search needs
-
-add-k : tie.Need-add-k Inv-loop μ-loop
-add-k c = search needs
 
 first-place-requires : tie.Need-first-place-requires Inv-loop μ-loop
 first-place-requires c κs =
@@ -68,12 +61,9 @@ cell-requires c κs =
     (omega (
       arith,
       at-size .size .ensures,
-      first-in _ (at-entry .pre .ready) _ (at-entry .pre .named) (at-rule-at .rule-at .ensures) (at-rule-at2 .rule-at2 .ensures) _ (omega arith)
-          (omega (arith, at-loop .loop .inv .0)) (c .first-place .ensures),
+      first-in _ (at-entry .pre .ready) _ (at-entry .pre .named) (at-rule-at .rule-at .ensures) (at-rule-at2 .rule-at2 .ensures) _
+          (at-loop .loop .inv .0) (omega arith) (c .first-place .ensures),
     )) (at-entry .pre .lent .here)
-
-sub-left : tie.Need-sub-left Inv-loop μ-loop
-sub-left c = search needs
 
 meets-requires : tie.Need-meets-requires Inv-loop μ-loop
 meets-requires c κs = search needs
@@ -95,8 +85,11 @@ returns c =
     let at-cell = c .before .before in
     let at-meets = c .before in
     seeking-found _ _ _ _ _ (at-entry .pre .ready) (at-entry .pre .named) (at-rule-at .rule-at .ensures) (at-rule-at2 .rule-at2 .ensures) _
-    (at-loop .loop .inv .1) (omega arith) (omega (arith, at-loop .loop .inv .0)) (at-first-place .first-place .ensures)
+    (at-loop .loop .inv .1) (at-loop .loop .inv .0) (omega arith) (at-first-place .first-place .ensures)
     (sized (at-size .size .ensures) _ _ _ (at-cell .cell .ensures)) (at-meets .meets .ensures) (c .if1 .taken)
+
+add-k : tie.Need-add-k Inv-loop μ-loop
+add-k c = search needs
 
 loop-less : tie.Need-loop-less Inv-loop μ-loop
 loop-less c = search needs
@@ -112,10 +105,9 @@ loop-again c =
     let at-cell = c .before .before in
     let at-meets = c .before in (
       omega (arith, at-loop .loop .inv .0),
-      seeking-at _ _ _ _ _ _ _ _ _ (omega (arith, at-loop .loop .inv .0))
-          (seeking-on _ _ _ _ _ (at-entry .pre .ready) (at-entry .pre .named) (at-rule-at .rule-at .ensures) (at-rule-at2 .rule-at2 .ensures) _
-          (at-loop .loop .inv .1) (omega arith) (omega (arith, at-loop .loop .inv .0)) (at-first-place .first-place .ensures)
-          (sized (at-size .size .ensures) _ _ _ (at-cell .cell .ensures)) (at-meets .meets .ensures) (c .if1 .left)),
+      seeking-on _ _ _ _ _ (at-entry .pre .ready) (at-entry .pre .named) (at-rule-at .rule-at .ensures) (at-rule-at2 .rule-at2 .ensures) _
+          (at-loop .loop .inv .1) (at-loop .loop .inv .0) (omega arith) (at-first-place .first-place .ensures)
+          (sized (at-size .size .ensures) _ _ _ (at-cell .cell .ensures)) (at-meets .meets .ensures) (c .if1 .left),
     )
 
 returns-2 : tie.Need-returns-2 Inv-loop μ-loop
@@ -134,15 +126,13 @@ lowest-spec =
     add-rule-at
     rule-at-requires-2
     loop-holds
-    sub-k
-    add-k
     first-place-requires
     cell-requires
-    sub-left
     meets-requires
     add-result
     sub-result
     returns
+    add-k
     loop-less
     loop-again
     returns-2)

@@ -6,15 +6,15 @@ use borrow.Author.Needs.{needs}
 use Rattle.base.proofs.Booleans.{clash}
 use Rattle.derivation.specs.Runs.{marked}
 use Rattle.grammar.proofs.WordLaws.{facing-of}
-use Rattle.grammar.specs.Tables.{grammarIn}
+use Rattle.grammar.specs.inside.Tables.{grammarIn}
 use Rattle.machine.proofs.AdvanceLaws.{place-small, turn-pop, turn-match, out-call, out-over, out-other, out-early, out-end}
 use Rattle.machine.proofs.MoveLaws.{moves-depth}
-use Rattle.machine.specs.Moves.{Moves, stay}
+use Rattle.machine.specs.inside.Moves.{MovesOn, stay}
 use Rattle.machine.proofs.steps.advance.Statement.{statement}
 use Rattle.machine.proofs.steps.advance.Tie as tie
 
 abbrev Inv-loop : tie.InvT-loop
-Inv-loop tables note ws base n p₀ i₀ d₀ p i d = Moves (grammarIn tables) (marked note) ws base p₀ d₀ i₀ p d i
+Inv-loop tables note ws base n p₀ i₀ d₀ p i d = MovesOn (grammarIn tables) (marked note) ws base p₀ d₀ i₀ p d i
 
 abbrev μ-loop : tie.MeasureT-loop
 μ-loop tables note ws base n p₀ i₀ d₀ p i d = (suc n - i) + d

@@ -1,5 +1,5 @@
 -- `positions::Positions::has` meets its contract: position j is bit j % wordBits of word j / wordBits, and that word is one of the five.
-use Rattle.positions.specs.Positions.{member}
+use Rattle.positions.specs.inside.Positions.{member}
 use borrow.Author.Needs.{needs}
 use Rattle.positions.proofs.Positions.has.Statement.{statement}
 use Rattle.positions.proofs.Positions.has.Tie as tie

@@ -1,6 +1,6 @@
 -- `positions::Positions::meets` meets its contract: each word is read where the array has it, and the code computes the same Boolean as `meetsOf`.
 use mathlib.Core.Path.{refl}
-use Rattle.positions.specs.Positions.{meetsOf}
+use Rattle.positions.specs.inside.Positions.{meetsOf}
 use borrow.Author.Needs.{needs}
 use Rattle.positions.proofs.Positions.meets.Statement.{statement}
 use Rattle.positions.proofs.Positions.meets.Tie as tie

@@ -1,5 +1,5 @@
 -- `positions::Positions::with` meets its contract: only the word of j is set anew, as in `withOf`.
-use Rattle.positions.specs.Positions.{withOf}
+use Rattle.positions.specs.inside.Positions.{withOf}
 use borrow.Author.Needs.{needs}
 use Rattle.positions.proofs.Positions.with.Statement.{statement}
 use Rattle.positions.proofs.Positions.with.Tie as tie

@@ -1,29 +1,27 @@
 -- `soundness::judgement::lowest_missing` meets its contract: no nonterminal before the one looked at is missing, so the search from there on gives what the
 -- whole search gives.
 use borrow.Author.Needs.{needs}
-use mathlib.Core.Path.{_≡_, ap, sym, _∙_}
+use mathlib.Core.Path.{_≡_, refl, ap, sym, _∙_}
 use mathlib.Core.Bool.{not}
 use Prim.Native.Nat.{_≤_, _-_}
 use native.Mathlib.Omega.{arith}
+use native.Mathlib.Numerals.{unary-clauses}
 use Rattle.base.specs.Bits.{testBit}
 use Rattle.base.specs.Search.{lowestFrom}
-use Rattle.base.proofs.Lowest.{lowest-none, lowest-hit, lowest-begin, lowest-next}
+use Rattle.base.proofs.Lowest.{lowest-none, lowest-hit, lowest-next}
 use Rattle.number.specs.declared.Refusal.the-variants.{Unproductive}
 use Rattle.soundness.specs.Check.{refuseAt}
 use Rattle.soundness.proofs.judgement.lowest_missing.Statement.{statement}
 use Rattle.soundness.proofs.judgement.lowest_missing.Tie as tie
 
 abbrev Inv-loop : tie.InvT-loop
-Inv-loop set n left₀ left = (left ≤ n) × (lowestFrom (λ a. not (testBit set a)) (n - left) left ≡ lowestFrom (λ a. not (testBit set a)) 0 n)
+Inv-loop set n a₀ a = (a ≤ n) × (lowestFrom (λ a. not (testBit set a)) a (n - a) ≡ lowestFrom (λ a. not (testBit set a)) 0 n)
 
 abbrev μ-loop : tie.MeasureT-loop
-μ-loop set n left₀ left = left
+μ-loop set n a₀ a = n - a
 
 loop-holds : tie.Need-loop-holds Inv-loop μ-loop
-loop-holds c = (omega arith, lowest-begin _ _)
-
-sub-a : tie.Need-sub-a Inv-loop μ-loop
-sub-a c = search needs
+loop-holds c = (omega arith, simp unary-clauses refl)
 
 has-requires : tie.Need-has-requires Inv-loop μ-loop
 has-requires c κs = search needs
@@ -35,8 +33,8 @@ returns c =
     ap (refuseAt Unproductive) (lowest-hit (λ a. not (testBit (at-entry .args .set) a)) _ _ (at-loop .loop .inv .1) (omega arith)
     (ap not (sym (c .before .has .ensures)) ∙ c .if1 .taken))
 
-sub-left : tie.Need-sub-left Inv-loop μ-loop
-sub-left c = search needs
+add-a : tie.Need-add-a Inv-loop μ-loop
+add-a c = search needs
 
 loop-less : tie.Need-loop-less Inv-loop μ-loop
 loop-less c = search needs
@@ -44,11 +42,9 @@ loop-less c = search needs
 loop-again : tie.Need-loop-again Inv-loop μ-loop
 loop-again c =
     let at-loop = c .before .before .before in
-    let at-entry = at-loop .before in (
-      omega arith,
-      lowest-next (λ a. not (testBit (at-entry .args .set) a)) _ _ (at-loop .loop .inv .1) (omega arith) (omega arith)
-          (ap not (sym (c .before .has .ensures)) ∙ c .if1 .left),
-    )
+    let at-entry = at-loop .before in
+    let held = ap not (sym (c .before .has .ensures)) ∙ c .if1 .left in
+    (omega arith, lowest-next (λ a. not (testBit (at-entry .args .set) a)) _ _ (at-loop .loop .inv .1) (omega arith) held)
 
 returns-2 : tie.Need-returns-2 Inv-loop μ-loop
 returns-2 c =
@@ -62,10 +58,9 @@ lowest-missing-spec =
     Inv-loop
     μ-loop
     loop-holds
-    sub-a
     has-requires
     returns
-    sub-left
+    add-a
     loop-less
     loop-again
     returns-2)

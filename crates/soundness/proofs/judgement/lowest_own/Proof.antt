@@ -1,30 +1,27 @@
 -- `soundness::judgement::lowest_own` meets its contract: no row before the one looked at holds its own nonterminal, so the search from there on gives what the
 -- whole search gives.
 use borrow.Author.Needs.{needs}
-use mathlib.Core.Path.{_≡_, ap, sym, _∙_}
+use mathlib.Core.Path.{_≡_, refl, ap, sym, _∙_}
 use Prim.Native.Nat.{_≤_, _-_}
 use native.Mathlib.Omega.{arith}
+use native.Mathlib.Numerals.{unary-clauses}
 use lib.ListN.{getD}
 use Rattle.base.specs.Bits.{testBit}
 use Rattle.base.specs.Search.{lowestFrom}
-use Rattle.base.proofs.Lowest.{lowest-none, lowest-hit, lowest-begin, lowest-next}
+use Rattle.base.proofs.Lowest.{lowest-none, lowest-hit, lowest-next}
 use Rattle.number.specs.declared.Refusal.the-variants.{LeftRecursive}
 use Rattle.soundness.specs.Check.{refuseAt}
 use Rattle.soundness.proofs.judgement.lowest_own.Statement.{statement}
 use Rattle.soundness.proofs.judgement.lowest_own.Tie as tie
 
 abbrev Inv-loop : tie.InvT-loop
-Inv-loop rows n left₀ left = (left ≤ n)
-    × (lowestFrom (λ a. testBit (getD rows a 0) a) (n - left) left ≡ lowestFrom (λ a. testBit (getD rows a 0) a) 0 n)
+Inv-loop rows n a₀ a = (a ≤ n) × (lowestFrom (λ a. testBit (getD rows a 0) a) a (n - a) ≡ lowestFrom (λ a. testBit (getD rows a 0) a) 0 n)
 
 abbrev μ-loop : tie.MeasureT-loop
-μ-loop rows n left₀ left = left
+μ-loop rows n a₀ a = n - a
 
 loop-holds : tie.Need-loop-holds Inv-loop μ-loop
-loop-holds c = (omega arith, lowest-begin _ _)
-
-sub-b : tie.Need-sub-b Inv-loop μ-loop
-sub-b c = search needs
+loop-holds c = (omega arith, simp unary-clauses refl)
 
 mul-has : tie.Need-mul-has Inv-loop μ-loop
 mul-has c = search needs
@@ -42,8 +39,8 @@ returns c =
     ap (refuseAt LeftRecursive) (lowest-hit (λ a. testBit (getD (at-entry .args .rows .now) a 0) a) _ _ (at-loop .loop .inv .1) (omega arith)
     (sym (c .before .has .ensures) ∙ c .if1 .taken))
 
-sub-left : tie.Need-sub-left Inv-loop μ-loop
-sub-left c = search needs
+add-a : tie.Need-add-a Inv-loop μ-loop
+add-a c = search needs
 
 loop-less : tie.Need-loop-less Inv-loop μ-loop
 loop-less c = search needs
@@ -51,11 +48,9 @@ loop-less c = search needs
 loop-again : tie.Need-loop-again Inv-loop μ-loop
 loop-again c =
     let at-loop = c .before .before .before .before in
-    let at-entry = at-loop .before .before in (
-      omega arith,
-      lowest-next (λ a. testBit (getD (at-entry .args .rows .now) a 0) a) _ _ (at-loop .loop .inv .1) (omega arith) (omega arith)
-          (sym (c .before .has .ensures) ∙ c .if1 .left),
-    )
+    let at-entry = at-loop .before .before in
+    let other = sym (c .before .has .ensures) ∙ c .if1 .left in
+    (omega arith, lowest-next (λ a. testBit (getD (at-entry .args .rows .now) a 0) a) _ _ (at-loop .loop .inv .1) (omega arith) other)
 
 returns-2 : tie.Need-returns-2 Inv-loop μ-loop
 returns-2 c =
@@ -69,12 +64,11 @@ lowest-own-spec =
     Inv-loop
     μ-loop
     loop-holds
-    sub-b
     mul-has
     shared-slice-read-has
     has-requires
     returns
-    sub-left
+    add-a
     loop-less
     loop-again
     returns-2)

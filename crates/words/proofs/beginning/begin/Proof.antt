@@ -1,4 +1,5 @@
 -- `words::beginning::begin` meets its contract: the grammar is judged first, and only for a sound one is the cache touched.
+use Rattle.soundness.proofs.VerdictLaws.{check-is}
 use Rattle.words.proofs.BeginSteps.{refused-is, sound-is, sound-short}
 use borrow.Author.Needs.{needs}
 use Rattle.words.proofs.beginning.begin.Statement.{statement}
@@ -17,12 +18,12 @@ settle-requires : tie.Need-settle-requires
 settle-requires c κs =
     let at-check = c .before .before .before in
     let at-entry = at-check .before .before .before in
-    sound-short _ (at-entry .args .cache .now) (at-check .check .ensures) (c .before .enum-told .given .1)
+    sound-short _ (at-entry .args .cache .now) (check-is _ _ (at-check .check .ensures)) (c .before .enum-told .given .1)
 
 returns : tie.Need-returns
 returns c =
     let at-check = c .before .before .before in
-    refused-is _ _ (at-check .check .ensures) (c .before .verdict .given .1)
+    refused-is _ _ (check-is _ _ (at-check .check .ensures)) (c .before .verdict .given .1)
 
 same-length : tie.Need-same-length
 same-length c = search needs
@@ -32,7 +33,7 @@ returns-2 c =
     let at-settle = c .before .before in
     let at-enum-told = at-settle .before .before in
     let at-check = at-enum-told .before .before in
-    sound-is _ _ (at-check .check .ensures) (at-enum-told .enum-told .given .1) (at-settle .settle .ensures)
+    sound-is _ _ (check-is _ _ (at-check .check .ensures)) (at-enum-told .enum-told .given .1) (at-settle .settle .ensures)
 
 pub begin-spec : {M : Type 1} → statement M
 begin-spec =

@@ -1,5 +1,5 @@
 -- `words::bytes::word_at` meets its contract: four bytes from here on, those past the end being 0.
-use Rattle.words.specs.Bytes.{wordAt}
+use Rattle.words.specs.inside.Bytes.{wordAt}
 use borrow.Author.Needs.{needs}
 use Rattle.words.proofs.bytes.word_at.Statement.{statement}
 use Rattle.words.proofs.bytes.word_at.Tie as tie

@@ -1,0 +1,89 @@
+-- DEMAND 3 of the calls: by their contracts a list of them does what the definitions do, and those agree from any coherent words.
+use mathlib.Core.Path.{_≡_, refl, sym, subst, ap, _∙_}
+use mathlib.Core.List.{List, [], _∷_}
+use Prim.Native.Nat.{ℕ}
+use lib.ListN.{length}
+use Rattle.grammar.specs.Decode.{Rules, Mark, got, decode}
+use Rattle.grammar.specs.Grammar.{Grammar, compile}
+use Rattle.reader.proofs.ReadLaws.{decode-limited}
+use Rattle.soundness.specs.declared.judgement.Verdict.the-variants.{Sound}
+use Rattle.soundness.specs.Check.{checkOf}
+use Rattle.soundness.proofs.VerdictLaws.{zero-sound}
+use Rattle.derivation.specs.Plain.{Answer, answer}
+use Rattle.words.specs.Begin.{Begun, BeginDid, beginWords}
+use Rattle.words.proofs.BeginMeans.{begins}
+use Rattle.cache.specs.Coherent.{Coherent}
+use Rattle.cache.proofs.SuitLaws.{decode-suits}
+use Rattle.cache.proofs.BeginLaws.{begun-coherent}
+use Rattle.adaptive.specs.Quick.{Reply}
+use Rattle.adaptive.specs.Teaching.{Call, Teaches, TeachesAll}
+use Rattle.adaptive.specs.inside.Agreement.{quick, AllAgree, wordsAfter}
+use Rattle.adaptive.proofs.TeachLaws.{teaches-one}
+use Rattle.adaptive.proofs.AgreementLaws.{agreement}
+use Rattle.demands.specs.Demand3.{Both, BothDid, Session, lastCache, calls, ReadBefore, AllSame, Throughout, Demand3}
+
+-- ---- the calls, from what the definitions do
+module _ (s : List ℕ) (g : Grammar) (alone : (c d e : List ℕ) (k : Call) → Teaches g c k d → Teaches g c k e → d ≡ e) where
+  same-words : {c : List ℕ} {x : Both} → BothDid s c x → (quick s c (x .lent)) .words ≡ x .cache
+  same-words d = sym (ap (λ (r : Reply). r .words) (d .quick))
+
+  all-same : (xs : List Both) (earlier : List Call) (c : List ℕ) → Session s c xs → AllAgree s g c earlier (calls xs) → AllSame g c earlier xs
+  all-same [] earlier c d h = tt
+  all-same (x ∷ xs) earlier c (d, ds) (h, hs) = (
+    record {
+      number = ap (λ (a : Answer). a .number) one;
+      place = ap (λ (a : Answer). a .place) one;
+      count = ap (λ (a : Answer). a .count) one;
+      row = ap (λ (a : Answer). a .row) one;
+      learned = taught;
+      only = λ e t. alone c e (x .cache) (x .lent) t taught;
+      nothing-new = λ b. nothing b;
+    },
+    all-same xs (x .lent ∷ earlier) (x .cache) ds (subst (λ (e : List ℕ). AllAgree s g e (x .lent ∷ earlier) (calls xs)) (same-words d) hs),
+  )
+    where
+      taught : Teaches g c (x .lent) (x .cache)
+      taught = subst (Teaches g c (x .lent)) (same-words d) (h .learned)
+
+      told : Answer → Answer
+      told a = answer (a .number) (a .place) (a .count) (a .row)
+
+      nothing : ReadBefore g earlier (x .lent) → x .cache ≡ c
+      nothing (j, i, n, p, q) = sym (same-words d) ∙ h .nothing-new j i n p q
+
+      one : told (x .quickly) ≡ told (x .plainly)
+      one = ap (λ (r : Reply). r .answer) (d .quick) ∙ (h .answer ∙ sym (d .plain))
+
+  last-cache : (xs : List Both) (c : List ℕ) → Session s c xs → lastCache c xs ≡ wordsAfter s c (calls xs)
+  unfolding wordsAfter
+  last-cache [] c d = refl
+  last-cache (x ∷ xs) c (d, ds) = last-cache xs (x .cache) ds ∙ ap (λ (e : List ℕ). wordsAfter s e (calls xs)) (sym (same-words d))
+
+-- ---- from coherent words
+throughout : (s : List ℕ) (r : Rules) (m : Mark) → decode s ≡ got r m → checkOf s ≡ Sound → (c : List ℕ) → Coherent (compile r) s c
+    → (xs : List Both) → Session s c xs → Throughout (compile r) c xs
+throughout s r m q v c h xs d =
+    let x = agreement s r m q v c (calls xs) h in
+    record {
+      each = all-same s (compile r) alone xs [] c d (x .each);
+      words = subst (TeachesAll (compile r) c (calls xs)) (sym (last-cache s (compile r) alone xs c d)) (x .words);
+    }
+  where
+    alone : (c d e : List ℕ) (k : Call) → Teaches (compile r) c k d → Teaches (compile r) c k e → d ≡ e
+    alone c d e k t u = teaches-one r (decode-limited s r m q) t u
+
+-- ---- and so from those that a beginning left
+begun-throughout : (s c₀ : List ℕ) (place : ℕ) (c : List ℕ) → BeginDid s c₀ 0 place c
+    → (r : Rules) × (m : Mark) × (decode s ≡ got r m) × ((xs : List Both) → Session s c xs → Throughout (compile r) c xs)
+begun-throughout s c₀ place c d =
+    let x = begins s c₀ (sym (ap (λ (k : Begun). k .number) d)) in
+    let w : c ≡ beginWords s (length c₀) = ap (λ (k : Begun). k .words) d ∙ x .words in
+    let h = begun-coherent (compile (x .rules)) s (decode-suits s (x .rules) (x .mark) (x .decoded)) (length c₀) (x .long) in
+    let h′ : Coherent (compile (x .rules)) s c = subst (λ (k : List ℕ). Coherent (compile (x .rules)) s k) (sym w) h in
+    (x .rules, x .mark, x .decoded, throughout s (x .rules) (x .mark) (x .decoded) (x .sound) c h′)
+
+pub demand3 : Demand3
+demand3 = record {
+  begun = begun-throughout;
+  coherent = λ s r m e place v c h xs d. throughout s r m e (zero-sound s place v) c h xs d;
+}

@@ -1,0 +1,5 @@
+-- Where a reader starts: the three demands, each said of what the calls were lent, answered and left, by their contracts alone.
+pub mod Demand1
+pub mod Demand2
+pub mod Demand3
+pub mod SixStates

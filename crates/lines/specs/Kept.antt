@@ -1,0 +1,31 @@
+-- The line that is open while bytes are read, and what is kept of it.
+use Prim.Native.Nat.{ℕ}
+use mathlib.Core.Bool.{cond}
+use mathlib.Core.List.{List, [], _∷_, _++_}
+use lib.ListN.{take}
+use lib.Dec.{eqb}
+use Rattle.lines.specs.Line.{maxKeptBytes}
+
+-- the byte that ends a line
+abbrev pub lineEnd : ℕ
+lineEnd = 10
+
+-- the open line after one more byte: behind a line's end it is empty
+unfoldable pub openOn : List ℕ → ℕ → List ℕ
+openOn o b = cond (eqb b lineEnd) [] (o ++ (b ∷ []))
+
+-- what is kept of it after one more byte: no more than maxKept
+unfoldable pub keptOn : List ℕ → ℕ → List ℕ
+keptOn k b = cond (eqb b lineEnd) [] (take maxKeptBytes (k ++ (b ∷ [])))
+
+-- the open line after these bytes: those behind the last line's end, and where there is none, what was open before them too
+unfoldable pub openAfter : List ℕ → List ℕ → List ℕ
+unfolding openOn
+openAfter o [] = o
+openAfter o (b ∷ s) = openAfter (openOn o b) s
+
+-- what is kept of it after these bytes; proofs/OpenLaws: the first maxKept bytes of the open line, which say what the whole of it says
+unfoldable pub keptAfter : List ℕ → List ℕ → List ℕ
+unfolding keptOn
+keptAfter k [] = k
+keptAfter k (b ∷ s) = keptAfter (keptOn k b) s

@@ -1,0 +1,3 @@
+-- Laws on measuring, one subject a file.
+pub mod SizeLaws
+pub mod CheckedLaws

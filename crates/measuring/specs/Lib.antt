@@ -1,0 +1,2 @@
+-- What measuring a grammar answers.
+pub mod Measuring
