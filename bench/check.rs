@@ -1,10 +1,6 @@
-//! The time of one grammar check, the second checker of the tests beside it.  Compiled with
-//! `rustc -O --edition 2021 -L target/staticlib -l static=allstar_c bench/check.rs -o target/bench/check`.
+//! The time of one grammar check, the second checker of the tests beside it.  `run` builds it.
 #![deny(unsafe_code)]
 
-#[allow(dead_code, unsafe_code)]
-#[path = "../tests/support/allstar.rs"]
-mod allstar;
 #[allow(dead_code)]
 #[path = "support/grammars.rs"]
 mod grammars;
@@ -16,6 +12,7 @@ mod timing;
 #[path = "../tests/support/tree.rs"]
 mod tree;
 
+use allstar::calls;
 use grammars::{chain, nonterminal, ordinary, token};
 use std::hint::black_box;
 use tree::{from_hex, Grammar};
@@ -26,7 +23,7 @@ fn main() {
         "input", "bytes", "places", "answer", "library ns", "second ns", "ratio"
     );
     for (name, bytes) in cases() {
-        let answer = allstar::check(&bytes);
+        let answer = calls::check(&bytes);
         if answer != second_checker::check(&bytes) {
             println!("{name}: the checkers disagree");
             std::process::exit(1);
@@ -34,7 +31,7 @@ fn main() {
         let places = second_checker::read(&bytes).map(|grammar| grammar.places().to_string());
         let [library, second] = timing::nanoseconds([
             &mut || {
-                black_box(allstar::check(black_box(&bytes)));
+                black_box(calls::check(black_box(&bytes)));
             },
             &mut || {
                 black_box(second_checker::check(black_box(&bytes)));

@@ -1,12 +1,8 @@
 //! The time of one start and of one step that are worked out, of an outcome that is recorded, and of
-//! beginning a cache, the grammar check alone beside it: each call checks the grammar first.  Compiled
-//! with `rustc -O --edition 2021 -L target/staticlib -l static=allstar_c -l static=learning_c
-//! bench/learning.rs -o target/bench/learning`.
+//! beginning a cache, the grammar check alone beside it: each call checks the grammar first.  `run`
+//! builds it.
 #![deny(unsafe_code)]
 
-#[allow(dead_code, unsafe_code)]
-#[path = "../tests/support/allstar.rs"]
-mod allstar;
 #[allow(dead_code)]
 #[path = "../tests/support/cache_words.rs"]
 mod cache_words;
@@ -34,6 +30,7 @@ mod timing;
 #[path = "../tests/support/tree.rs"]
 mod tree;
 
+use allstar::calls;
 use cache_words::{Places, HELD};
 use grammars::{dense, ordinary};
 use second_learner::{Configs, Held, Learner, Memory, Outcome, Said, Source};
@@ -85,13 +82,13 @@ fn main() {
                 black_box(learning_c::start(black_box(&bytes), &mut recorded, 0));
             },
             &mut || {
-                black_box(allstar::begin(black_box(&bytes), &mut short));
+                black_box(calls::begin(black_box(&bytes), &mut short));
             },
             &mut || {
-                black_box(allstar::begin(black_box(&bytes), &mut long));
+                black_box(calls::begin(black_box(&bytes), &mut long));
             },
             &mut || {
-                black_box(allstar::check(black_box(&bytes)));
+                black_box(calls::check(black_box(&bytes)));
             },
         ]);
         println!(

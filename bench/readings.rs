@@ -1,11 +1,8 @@
 //! The time of one reading: quick over a cache that has learned the note, quick over a freshly begun cache (the time of beginning taken off), plain,
 //! and the grammar check alone, side by side.
-//! Compiled with `rustc -O --edition 2021 -L target/staticlib -l static=allstar_c bench/readings.rs -o target/bench/readings`.
+//! `run` builds it.
 #![deny(unsafe_code)]
 
-#[allow(dead_code, unsafe_code)]
-#[path = "../tests/support/allstar.rs"]
-mod allstar;
 #[path = "support/grammars.rs"]
 mod grammars;
 #[allow(dead_code)]
@@ -26,6 +23,7 @@ mod timing;
 #[path = "../tests/support/tree.rs"]
 mod tree;
 
+use allstar::calls;
 use grammars::{chain, dense, ordinary, token};
 use notes::Source;
 use random::Random;
@@ -62,7 +60,7 @@ fn main() {
             count => vec![0; count.min(LONGEST_ROW)],
         };
         let mut workspace = vec![0; judgement.space];
-        let answer = allstar::plain(&grammar, &note, &mut row, &mut workspace);
+        let answer = calls::plain(&grammar, &note, &mut row, &mut workspace);
         if answer != judgement.answer(row.len(), workspace.len())
             || answer.number == 0 && row != *entries
         {
@@ -71,8 +69,8 @@ fn main() {
         }
         let mut cache = vec![0; CACHE];
         let mut quick_row = vec![0; row.len()];
-        allstar::begin(&grammar, &mut cache);
-        let quickly = allstar::quick(&grammar, &note, &mut quick_row, &mut cache, &mut workspace);
+        calls::begin(&grammar, &mut cache);
+        let quickly = calls::quick(&grammar, &note, &mut quick_row, &mut cache, &mut workspace);
         if quickly != answer || quick_row != row {
             println!("{name}: the readings disagree");
             std::process::exit(1);
@@ -85,22 +83,22 @@ fn main() {
         let [warm, cold, begin, plain, check] = timing::nanoseconds([
             &mut || {
                 let (grammar, note) = (black_box(&grammar), black_box(&note));
-                black_box(allstar::quick(grammar, note, &mut quick_row, &mut cache, &mut quick_space));
+                black_box(calls::quick(grammar, note, &mut quick_row, &mut cache, &mut quick_space));
             },
             &mut || {
                 let (grammar, note) = (black_box(&grammar), black_box(&note));
-                black_box(allstar::begin(grammar, &mut fresh));
-                black_box(allstar::quick(grammar, note, &mut cold_row, &mut fresh, &mut cold_space));
+                black_box(calls::begin(grammar, &mut fresh));
+                black_box(calls::quick(grammar, note, &mut cold_row, &mut fresh, &mut cold_space));
             },
             &mut || {
-                black_box(allstar::begin(black_box(&grammar), &mut begun));
+                black_box(calls::begin(black_box(&grammar), &mut begun));
             },
             &mut || {
                 let (grammar, note) = (black_box(&grammar), black_box(&note));
-                black_box(allstar::plain(grammar, note, &mut row, &mut workspace));
+                black_box(calls::plain(grammar, note, &mut row, &mut workspace));
             },
             &mut || {
-                black_box(allstar::check(black_box(&grammar)));
+                black_box(calls::check(black_box(&grammar)));
             },
         ]);
         let cold = cold - begin;

@@ -1,9 +1,6 @@
 //! Tests the grammar check against answers written down by hand and against the second checker.
 #![deny(unsafe_code)]
 
-#[allow(dead_code, unsafe_code)]
-#[path = "support/allstar.rs"]
-mod allstar;
 #[path = "support/corners.rs"]
 mod corners;
 #[path = "support/edges.rs"]
@@ -24,7 +21,7 @@ mod tiny;
 #[path = "support/tree.rs"]
 mod tree;
 
-use allstar::Verdict;
+use allstar::calls::{self, Measure, Verdict};
 use corners::CORNERS;
 use lent::Lent;
 use random::Random;
@@ -75,7 +72,7 @@ impl Run {
     fn expect(&mut self, case: edges::Case) {
         let answer = self.agree(case.why, &case.bytes);
         // Whatever stood where the place goes; and an empty slice points nowhere here.
-        let again = [0, 1, 0xffff_ffff_0000_0000].map(|it| allstar::check_over(&case.bytes, it));
+        let again = [0, 1, 0xffff_ffff_0000_0000].map(|it| calls::check_over(&case.bytes, it));
         if answer != case.answer || again.iter().any(|other| *other != answer) {
             report(case.why, &case.bytes);
             let all = again.map(|other| other.to_string()).join(", ");
@@ -99,15 +96,21 @@ impl Run {
     /// The same, with the bytes given that stand around the input.
     fn agree_amid(&mut self, origin: &str, before: &[u8], input: &[u8], behind: &[u8]) -> Verdict {
         self.input.lay(before, input, behind);
-        let library = allstar::check(self.input.part());
+        let library = calls::check(self.input.part());
+        let measured = calls::measure(self.input.part());
         if !self.input.is_unchanged() {
             report(origin, input);
-            fail("the call changed the lent bytes or those around them");
+            fail("a call changed the lent bytes or those around them");
         }
         let second = second_checker::check(input);
         if library != second {
             report(origin, input);
             fail(&format!("library: {library}\nsecond checker: {second}"));
+        }
+        let measure = measure(input, second);
+        if measured != measure {
+            report(origin, input);
+            fail(&format!("library: {measured:?}\nsecond checker: {measure:?}"));
         }
         self.all.count(library.number);
         library
@@ -123,6 +126,21 @@ impl Run {
             fail("some answer or corner came up too rarely in the drawn cases");
         }
         println!("grammars: {} cases agree ({})", self.all.cases(), self.all);
+    }
+}
+
+/// How large the second checker finds a grammar of this verdict.
+fn measure(input: &[u8], verdict: Verdict) -> Measure {
+    let read = second_checker::read(input).ok().filter(|_| verdict.number == 0);
+    let [kinds, nonterminals, places] = read.map_or([0; 3], |grammar| {
+        [grammar.kinds as u64, grammar.rules.len() as u64, grammar.places() as u64]
+    });
+    Measure {
+        number: verdict.number,
+        place: verdict.place,
+        kinds,
+        nonterminals,
+        places,
     }
 }
 

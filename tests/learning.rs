@@ -2,9 +2,6 @@
 //! second learner.
 #![deny(unsafe_code)]
 
-#[allow(dead_code, unsafe_code)]
-#[path = "support/allstar.rs"]
-mod allstar;
 #[path = "support/cache_words.rs"]
 mod cache_words;
 #[path = "support/edges.rs"]
@@ -41,7 +38,7 @@ mod tiny;
 #[path = "support/tree.rs"]
 mod tree;
 
-use allstar::Verdict;
+use allstar::calls::{self, Verdict};
 use cache_words::{Any, Places, Told, HIGHEST_TOKEN};
 use learning_corners::{Asked, CORNERS};
 use lent::Lent;
@@ -246,7 +243,7 @@ impl Run {
             _ => self.words[..length].to_vec(),
         };
         self.lay(grammar, &before);
-        let answer = allstar::begin(self.grammar.part(), self.cache.part());
+        let answer = calls::begin(self.grammar.part(), self.cache.part());
         let case = Case::new(origin, grammar, length);
         if answer != expected {
             case.fail(&format!("beginning: {answer}\nexpected: {expected}"));

@@ -2,9 +2,6 @@
 //! second parser and the second learner, and against the plain reading.
 #![deny(unsafe_code)]
 
-#[allow(dead_code, unsafe_code)]
-#[path = "support/allstar.rs"]
-mod allstar;
 #[allow(dead_code)]
 #[path = "support/cache_words.rs"]
 mod cache_words;
@@ -50,7 +47,7 @@ mod tree;
 #[path = "support/worked.rs"]
 mod worked;
 
-use allstar::Answer;
+use allstar::calls::{self, Answer};
 use cache_words::{Any, Places};
 use lengths::{row_length, workspace_length};
 use lent::Lent;
@@ -262,7 +259,7 @@ impl Run {
     /// The case's last reading.  Only what must be untouched is looked at.
     fn call(&mut self, case: &Case) -> Answer {
         self.lay(case);
-        let answer = allstar::quick(
+        let answer = calls::quick(
             self.grammar.part(),
             self.note.part(),
             self.row.part(),
@@ -307,7 +304,7 @@ impl Run {
         }
         case.compare(self.cache.part(), words);
         if !matches!(answer.number, 12 | 13) {
-            let beside = allstar::plain(
+            let beside = calls::plain(
                 &case.grammar,
                 &case.last().note,
                 &mut self.plain_row,
@@ -398,7 +395,7 @@ struct List<'a> {
 impl<'a> List<'a> {
     fn begin(run: &'a mut Run, origin: &str, known: &'a Known<'a>, length: usize) -> List<'a> {
         let mut words = run.words[..length].to_vec();
-        let verdict = allstar::begin(&known.bytes, &mut words);
+        let verdict = calls::begin(&known.bytes, &mut words);
         let case = Case::new(origin, &known.bytes, &words);
         if verdict.number != 0 {
             case.fail(&format!("beginning: {verdict}"));
@@ -509,7 +506,7 @@ impl<'a> List<'a> {
     }
 }
 
-/// The cases of document 01 for G1 over caches of several lengths, the lines that `notes` reads among
+/// The cases of the scope for G1 over caches of several lengths, the lines that `notes` reads among
 /// them, and the states held.
 fn notes_by_g1(run: &mut Run) {
     let bytes = from_hex(edges::G1);

@@ -1,9 +1,6 @@
 //! Tests the plain reading against answers written down by hand and against the second parser.
 #![deny(unsafe_code)]
 
-#[allow(dead_code, unsafe_code)]
-#[path = "support/allstar.rs"]
-mod allstar;
 #[path = "support/edges.rs"]
 mod edges;
 #[allow(dead_code)]
@@ -34,7 +31,7 @@ mod tree;
 #[path = "support/worked.rs"]
 mod worked;
 
-use allstar::Answer;
+use allstar::calls::{self, Answer};
 use lengths::{row_length, workspace_length};
 use lent::Lent;
 use notes::Source;
@@ -165,7 +162,7 @@ impl Run {
     /// A reading whose answer, and whose entries if it is accepted, are known.
     fn read(&mut self, case: &Case, expected: Answer, entries: &[u16]) {
         self.lay(case);
-        let answer = allstar::plain(
+        let answer = calls::plain(
             self.grammar.part(),
             self.note.part(),
             self.row.part(),
@@ -235,7 +232,7 @@ impl Run {
         // And an empty slice points nowhere here.
         let mut row = vec![7; case.row];
         let mut workspace = vec![7; case.workspace];
-        let answer = allstar::plain(case.grammar, case.note, &mut row, &mut workspace);
+        let answer = calls::plain(case.grammar, case.note, &mut row, &mut workspace);
         if answer != reading.answer {
             report(&case);
             fail(&format!("library: {answer}\nexpected: {}", reading.answer));

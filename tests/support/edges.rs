@@ -1,8 +1,8 @@
-//! Cases with the answer written down, not computed: those of document 01 and those worked out from
+//! Cases with the answer written down, not computed: those of the scope and those worked out from
 //! it by hand.
 #![forbid(unsafe_code)]
 
-use crate::allstar::Verdict;
+use allstar::calls::Verdict;
 use crate::tree::from_hex;
 
 pub struct Case {

@@ -1,6 +1,7 @@
 //! The calls of the crate learning_c, which exists for the tests: single starts and steps.  Unsafe
 //! code for nothing else.
 
+#[link(name = "learning_c", kind = "static")]
 extern "C" {
     fn learning_start(
         grammar: *const u8,

@@ -1,4 +1,4 @@
-//! Predictions with their answers written down, not computed: those of document 01, and those worked
+//! Predictions with their answers written down, not computed: those of the scope, and those worked
 //! out by hand.
 #![forbid(unsafe_code)]
 

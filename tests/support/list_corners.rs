@@ -2,7 +2,7 @@
 //! often the drawn readings touch each.
 #![forbid(unsafe_code)]
 
-use crate::allstar::Answer;
+use allstar::calls::Answer;
 use crate::second_parser::{Judgement, LONGEST_NOTE};
 use crate::second_reader::{Lessons, Read, Stop};
 

@@ -2,7 +2,7 @@
 //! the drawn readings touch each.
 #![forbid(unsafe_code)]
 
-use crate::allstar::Answer;
+use allstar::calls::Answer;
 use crate::second_parser::{space, Judgement, LONGEST_NOTE};
 use crate::tree::Grammar;
 

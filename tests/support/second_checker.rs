@@ -4,13 +4,13 @@
 //! as strongly connected components.
 #![forbid(unsafe_code)]
 
-use crate::allstar::Verdict;
+use allstar::calls::Verdict;
 use crate::tree::{Grammar, Production, Symbol};
 use std::ops::RangeInclusive;
 
 const MOST_PLACES: usize = 255;
 
-/// Refusals 1 to 7 of document 01, in its order.
+/// Refusals 1 to 7 of the scope, in its order.
 pub fn check(bytes: &[u8]) -> Verdict {
     match read(bytes) {
         Ok(grammar) => judge(&grammar),

@@ -6,7 +6,7 @@
 //! It recurses once for each symbol of each open production, and needs a deep stack for long notes.
 #![forbid(unsafe_code)]
 
-use crate::allstar::{Answer, Verdict};
+use allstar::calls::{Answer, Verdict};
 use crate::second_checker;
 use crate::tree::{Grammar, Symbol};
 

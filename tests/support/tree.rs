@@ -1,4 +1,4 @@
-//! A grammar as an owned tree, and the bytes that document 01 writes it in.
+//! A grammar as an owned tree, and the bytes that the scope writes it in.
 #![forbid(unsafe_code)]
 
 #[derive(Clone, Copy, Debug, PartialEq, Eq)]

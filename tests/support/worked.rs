@@ -1,8 +1,8 @@
-//! Plain readings with the answer written down, not computed: those of document 01, those of the
+//! Plain readings with the answer written down, not computed: those of the scope, those of the
 //! benchmark cases, and those worked out by hand.
 #![forbid(unsafe_code)]
 
-use crate::allstar::Answer;
+use allstar::calls::Answer;
 use crate::edges::G1;
 use crate::second_parser::space;
 use crate::tree::from_hex;

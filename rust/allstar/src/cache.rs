@@ -1,0 +1,76 @@
+//! A lookahead cache.
+
+use crate::calls;
+use crate::grammar::Grammar;
+use crate::reading::Reading;
+use crate::refusal::{CacheRefusal, NoteRefusal, Refusal};
+use crate::workspace::{workspace_words, Workspace};
+
+/// The words of a cache with so many slots.
+pub fn cache_words(slots: usize) -> usize {
+    2_048 + 320 * slots
+}
+
+/// A cache for one grammar, which it keeps. Readings over it give the same answers as without, and go faster
+/// the more it has learned.
+#[derive(Clone, Debug)]
+pub struct Cache {
+    grammar: Grammar,
+    words: Vec<u32>,
+}
+
+impl Cache {
+    /// Begins a cache with so many slots, 1 to 1,024: so many states it can learn. More than 1,024 are taken
+    /// as 1,024.
+    pub fn new(grammar: &Grammar, slots: usize) -> Result<Cache, CacheRefusal> {
+        let mut words = vec![0; cache_words(slots.min(1_024))];
+        let verdict = calls::begin(grammar.bytes(), &mut words);
+        match Refusal::new(verdict.number, verdict.place) {
+            None => Ok(Cache {
+                grammar: grammar.clone(),
+                words,
+            }),
+            Some(Refusal::Cache(refusal)) => Err(refusal),
+            Some(other) => unreachable!("beginning a cache answered {other:?}"),
+        }
+    }
+
+    /// Takes a cache up again from words that [`words`](Cache::words) gave, in this process or an earlier
+    /// one. It is only seen whether they were begun for this grammar at this length. If any other word has
+    /// changed since, answers can be wrong, and nothing else: whoever stores words takes care that they come
+    /// back whole.
+    pub fn from_words(grammar: &Grammar, mut words: Vec<u32>) -> Result<Cache, CacheRefusal> {
+        // With no row a reading predicts nothing, so that the cache stays as it is.
+        let mut space = vec![0; workspace_words(grammar.places(), 0)];
+        let answer = calls::quick(grammar.bytes(), &[], &mut [], &mut words, &mut space);
+        match Refusal::new(answer.number, answer.place) {
+            Some(Refusal::Cache(refusal)) => Err(refusal),
+            _ => Ok(Cache {
+                grammar: grammar.clone(),
+                words,
+            }),
+        }
+    }
+
+    /// The words, to be stored.
+    pub fn words(&self) -> &[u32] {
+        &self.words
+    }
+
+    /// The grammar.
+    pub fn grammar(&self) -> &Grammar {
+        &self.grammar
+    }
+
+    /// Reads a note, and learns.
+    pub fn read<'a>(
+        &'a mut self,
+        note: &'a [u16],
+        workspace: &'a mut Workspace,
+    ) -> Result<Reading<'a>, NoteRefusal> {
+        let Cache { grammar, words } = self;
+        workspace.read(grammar, note, |row, space| {
+            calls::quick(grammar.bytes(), note, row, words, space)
+        })
+    }
+}

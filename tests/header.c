@@ -1,0 +1,50 @@
+/* The header, included twice and used whole: compiled as C99, C11 and C++17 with all warnings, and run. */
+#include <allstar.h>
+#include <allstar.h>
+#include <stdio.h>
+#include <string.h>
+
+#define SAME(name, one, other) typedef char name[(one) == (other) ? 1 : -1]
+SAME(cache_min, ALLSTAR_CACHE_MIN, 2368);
+SAME(cache_max, ALLSTAR_CACHE_MAX, 329728);
+SAME(cache_of_six_slots, ALLSTAR_CACHE_WORDS(6), 3968);
+SAME(workspace_max, ALLSTAR_WORKSPACE_MAX, 271352);
+SAME(workspace_of_g1, ALLSTAR_WORKSPACE_WORDS(10, 16), 9552);
+SAME(version, ALLSTAR_VERSION, 10000);
+
+static uint32_t cache[ALLSTAR_CACHE_MIN], space[ALLSTAR_WORKSPACE_WORDS(10, 2)];
+
+int main(void)
+{
+    const uint8_t g1[] = {2, 2, 2, 1, 3, 2, 3, 4, 2, 1, 2, 2, 2, 4};
+    const uint16_t note[] = {1, 2};
+    uint16_t row[2], again[2];
+    uint64_t place, count, kinds, nonterminals, places;
+    uint32_t number, other;
+    if (allstar_version() != ALLSTAR_VERSION)
+        return 1;
+    if (allstar_check(g1, sizeof g1, &place) != ALLSTAR_OK || place != 0)
+        return 2;
+    if (allstar_measure(g1, sizeof g1, &place, &kinds, &nonterminals, &places) != ALLSTAR_OK || kinds != 2 ||
+        nonterminals != 2 || places != 10)
+        return 3;
+    if (allstar_plain(g1, sizeof g1, note, 2, row, 2, space, ALLSTAR_WORKSPACE_WORDS(places, 2), &place,
+                      &count) != ALLSTAR_OK || count != 2 || row[0] != 1 || row[1] != 2)
+        return 4;
+    if (allstar_plain(g1, sizeof g1, note, 2, row, 2, space, ALLSTAR_WORKSPACE_WORDS(places, 2) - 1, &place,
+                      &count) != ALLSTAR_SHORT_WORKSPACE)
+        return 5;
+    if (allstar_begin(g1, sizeof g1, cache, ALLSTAR_CACHE_MIN - 1, &place) != ALLSTAR_SHORT_CACHE ||
+        allstar_begin(g1, sizeof g1, cache, ALLSTAR_CACHE_MIN, &place) != ALLSTAR_OK)
+        return 6;
+    if (allstar_quick(g1, sizeof g1, note, 2, again, 2, cache, ALLSTAR_CACHE_MIN, space,
+                      ALLSTAR_WORKSPACE_WORDS(places, 2), &place, &count) != ALLSTAR_OK || count != 2 ||
+        memcmp(row, again, sizeof row) != 0)
+        return 7;
+    /* Each number has a text of its own. */
+    for (number = 0; number <= ALLSTAR_SHORT_ROW + 1; number++)
+        for (other = 0; other < number; other++)
+            if (strcmp(allstar_text(number), allstar_text(other)) == 0)
+                return 8;
+    return strcmp(allstar_text(99), allstar_text(ALLSTAR_SHORT_ROW + 1)) == 0 ? 0 : 9;
+}
