@@ -10,6 +10,7 @@ use lib.ListN.{length, getElem?, drop}
 use borrow.Author.Tests.{ltb-true, ltb-false}
 use Rattle.base.specs.Search.{LowestIs, this, nothing}
 use Rattle.base.proofs.Booleans.{true→T, false→¬T}
+use Rattle.base.proofs.Lists.{get-below}
 use Rattle.grammar.specs.declared.Symbol.{Symbol}
 use Rattle.grammar.specs.declared.Symbol.the-variants.{Token, Nonterminal, End}
 use Rattle.grammar.specs.Limits.{endPlace}
@@ -18,7 +19,6 @@ use Rattle.grammar.specs.Grammar.{Grammar, facing, admits, alternatives, first,
 use Rattle.derivation.specs.Machine.{Choice, choice, accepted, stuck, halt, moved, follow, run, runCall, step, reading}
 use Rattle.derivation.specs.Runs.{Serves}
 use Rattle.derivation.specs.inside.Choosers.{thence}
-use Rattle.derivation.proofs.Notes.{get-lt}
 use Rattle.derivation.proofs.Stretches.{get-in}
 use Rattle.derivation.proofs.LowestLaws.{lowest-serves}
 use Rattle.derivation.proofs.MachineFuel.{enough}
@@ -134,7 +134,7 @@ module _ (r : Rules) (limits : Limited r) (w : List ℕ) where
             admit true q =
                 let y = true→T (admits g n t) q in
                 rw (run-match g w (adaptively g w) k p S i room c e f y)
-                (matches e f y (rec (suc p ∷ S) (suc i) room c (omega (arith, get-lt w i f))))
+                (matches e f y (rec (suc p ∷ S) (suc i) room c (omega (arith, get-below w i f))))
             admit false q = rw (run-other g w (adaptively g w) k p S i room c e f q) (differs e f (false→¬T (admits g n t) q))
 
         go : (s : Symbol) → facing g p ≡ s → Left k → Proceeds g w (opened (p ∷ S)) i room c ((run g w (adaptively g w) (suc k) (p ∷ S) i room c) .state)

@@ -4,3 +4,4 @@ pub mod Bits
 pub mod Lists
 pub mod Fixpoint
 pub mod Lowest
+pub mod ClearLaws

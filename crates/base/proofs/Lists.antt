@@ -8,10 +8,62 @@ use Prim.Native.Nat.{ℕ, zero, suc, _+_, _-_, _≤_, _<_}
 use native.Mathlib.Omega.{arith}
 use native.Mathlib.Decide.{decLe, decLt}
 use lib.Dec.{T}
-use lib.ListN.{length, getD, getElem?, set, take, length-take, drop-of-length-le}
+use lib.ListN.{length, getD, getElem?, set, take, drop, length-take, drop-of-length-le}
 use lib.Seq.{sets, set-comm, slice, slice-cons}
+use Rattle.base.specs.Lists.{AllOf}
 use Rattle.base.specs.Rounds.{anyOf, upFrom}
 use Rattle.base.proofs.Booleans.{clash, or-T, T-or-l, T-or-r}
+
+-- ---- an element by its number
+module _ {A : Type 0} where
+  pub get-below : (l : List A) (n : ℕ) {x : A} → getElem? l n ≡ some x → n < length l
+  get-below [] n e = clash (cc)
+  get-below (y ∷ l) zero e = omega arith
+  get-below (y ∷ l) (suc n) e = let h = get-below l n e in omega arith
+
+  pub get-behind : (l : List A) (n : ℕ) → getElem? l n ≡ none → length l ≤ n
+  get-behind [] n e = omega arith
+  get-behind (y ∷ l) zero e = clash (cc)
+  get-behind (y ∷ l) (suc n) e = let h = get-behind l n e in omega arith
+
+  -- an element of the front part, and the one behind it
+  pub get-front : (l k : List A) (n : ℕ) → n < length l → getElem? (l ++ k) n ≡ getElem? l n
+  get-front [] k n h = absurd (omega arith)
+  get-front (y ∷ l) k zero h = refl
+  get-front (y ∷ l) k (suc n) h = get-front l k n (omega arith)
+
+  pub get-seam : (l : List A) (x : A) (k : List A) → getElem? (l ++ (x ∷ k)) (length l) ≡ some x
+  get-seam [] x k = refl
+  get-seam (y ∷ l) x k = get-seam l x k
+
+  -- the same element, where there is another for places behind the end
+  pub get-getD : (l : List A) (n : ℕ) (d : A) → n < length l → getElem? l n ≡ some (getD l n d)
+  get-getD [] n d h = absurd (omega arith)
+  get-getD (y ∷ l) zero d h = refl
+  get-getD (y ∷ l) (suc n) d h = get-getD l n d (omega arith)
+
+  pub getD-get : (l : List A) (n : ℕ) (d : A) {x : A} → getElem? l n ≡ some x → getD l n d ≡ x
+  getD-get [] n d e = clash (cc)
+  getD-get (y ∷ l) zero d e = cc
+  getD-get (y ∷ l) (suc n) d e = getD-get l n d e
+
+-- ---- every element has a property
+pub all-append : {A : Type 0} (P : A → Type 0) (l k : List A) → AllOf P l → AllOf P k → AllOf P (l ++ k)
+all-append P [] k h j = j
+all-append P (x ∷ l) k h j = (h .0, all-append P l k (h .1) j)
+
+pub append-all : {A : Type 0} (P : A → Type 0) (l k : List A) → AllOf P (l ++ k) → AllOf P l × AllOf P k
+append-all P [] k h = (tt, h)
+append-all P (x ∷ l) k h = let r = append-all P l k (h .1) in ((h .0, r .0), r .1)
+
+pub all-map : {A : Type 0} {P Q : A → Type 0} → ((x : A) → P x → Q x) → (l : List A) → AllOf P l → AllOf Q l
+all-map f [] h = tt
+all-map f (x ∷ l) (p, h) = (f x p, all-map f l h)
+
+pub all-drop : {A : Type 0} (P : A → Type 0) (n : ℕ) (l : List A) → AllOf P l → AllOf P (drop n l)
+all-drop P zero l h = h
+all-drop P (suc n) [] h = tt
+all-drop P (suc n) (x ∷ l) (p, h) = all-drop P n l h
 
 -- ---- some element passes a test
 abbrev pub Found : {A : Type 0} → (A → Bool) → List A → Type 0

@@ -46,6 +46,13 @@ lowest-is P p n to from = go (sought p 0 n)
     go (hit a l m t h) = this a (to a (omega arith) t) (λ c x. lower a h c x (decLe a c))
     go (miss h) = nothing (λ c x. let y = from c x in let l = y .1 in h c (omega arith) (omega arith) (y .0))
 
+-- there is one lowest
+pub lowest-one : {P : ℕ → Type 0} {o p : Option ℕ} → LowestIs P o → LowestIs P p → o ≡ p
+lowest-one (this a x h) (this b y k) = let l = h b y in let m = k a x in ap {B = Option ℕ} some (omega arith)
+lowest-one (this a x h) (nothing k) = absurd (k a x)
+lowest-one (nothing h) (this b y k) = absurd (h b y)
+lowest-one (nothing h) (nothing k) = refl
+
 -- ---- the search a number at a time, as a loop meets it
 module _ (p : ℕ → Bool) (i k : ℕ) {o : Option ℕ} (h : lowestFrom p i k ≡ o) where
   pub lowest-none : k ≡ 0 → none ≡ o

@@ -1,4 +1,5 @@
--- Shared definitions: bits of numbers, rounds of an operator, searches.
+-- Shared definitions: bits of numbers, lists, rounds of an operator, searches.
 pub mod Bits
 pub mod Rounds
+pub mod Lists
 pub mod Search

@@ -1,7 +1,10 @@
-// Casts, single bits of a word and words as sets, each a tiny function whose contract is arithmetic: no proof above this crate sees a shift or a mask.
+// Casts, single bits of a word and words as sets, each a tiny function whose contract is arithmetic: no proof above this crate sees a shift or a mask. And
+// the zeros behind what is written into a row.
 ghost use mathlib.Core.Path.{_≡_};
+ghost use mathlib.Core.List.{_++_};
 ghost use Prim.Native.Nat.{_-_, _^_, _≤_, _<_};
 ghost use lib.Bits.{bitXor};
+ghost use lib.ListN.{length, take, replicate};
 ghost use Rattle.base.specs.Bits.{wordBits, testBit, setBit, isSubset};
 
 // The bits of a word; a word is a set of numbers below that. specs/Bits has the same.
@@ -80,4 +83,17 @@ pub fn opposite(x: u32) -> u32
     ensures { λ r. ⌜ r ≡ bitXor x (2 ^ wordBits - 1) ⌝ }
 {
     x ^ u32::MAX
+}
+
+// Zeros from entry `from` on.
+pub fn clear_from(row: &mut [u16], from: usize)
+    requires { ⌜ from ≤ length (now row) ⌝ }
+    ensures { λ _. ⌜ now (row .exit) ≡ take from (now (row .entry)) ++ replicate (length (now (row .entry)) - from) 0 ⌝ }
+{
+    let n = row.len();
+    let mut k = from;
+    while k < n {
+        row[k] = 0;
+        k += 1;
+    }
 }

@@ -9,11 +9,12 @@ use native.Mathlib.Omega.{arith}
 use lib.Dec.{ltb}
 use lib.ListN.{length, drop}
 use borrow.Author.Tests.{ltb-true, ltb-false}
+use Rattle.base.proofs.Lists.{get-below}
 use Rattle.grammar.specs.Limits.{maxProductions}
 use Rattle.grammar.specs.Grammar.{Grammar, alternatives, first}
 use Rattle.grammar.specs.inside.Ordered.{Ordered}
 use Rattle.derivation.specs.Runs.{Run}
-use Rattle.derivation.proofs.Notes.{get-of-drop, get-lt}
+use Rattle.derivation.proofs.Notes.{get-of-drop}
 use Rattle.lookahead.specs.Configs.{Config}
 use Rattle.lookahead.specs.Outcomes.{Outcome, full, alternative, state, startOutcome, stepOutcome, States, begun, stepped}
 use Rattle.configurations.specs.Packing.{packAll, unpackAll}
@@ -142,7 +143,7 @@ module _ (g : Grammar) (bytes : List ℕ) (suits : Suits g bytes) where
         → meaningOf g a l ≡ at s → s < held (l .words) → decision (l .words) s ≡ a → keptWords (l .words) s ≡ packAll ks
         → States g a ks → Tokens (t ∷ ts) → Allows g ordered b w i (state ks) → drop i w ≡ t ∷ ts
         → FullOr b ((predictFrom g a (t ∷ ts) l) .forecast)
-    agree-step t ts rec a l s ks i h e m d z v k (over q) p = absurd (omega (arith, get-lt w i (get-of-drop w i p .0)))
+    agree-step t ts rec a l s ks i h e m d z v k (over q) p = absurd (omega (arith, get-below w i (get-of-drop w i p .0)))
     agree-step t ts rec a l s ks i h e m d z v k (there f) p =
         let x = ask-step g bytes suits (l .words) a s t h m (k t (List·Memᴰ·head refl)) d in
         let (here, rest) = get-of-drop w i p in

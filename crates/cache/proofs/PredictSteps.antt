@@ -9,13 +9,14 @@ use native.Mathlib.Omega.{arith}
 use lib.Dec.{ltb}
 use lib.ListN.{length, getD, getElem?, drop, drop-of-length-le}
 use borrow.Author.Tests.{ltb-true, ltb-false}
+use Rattle.base.proofs.Lists.{get-below}
 use Rattle.grammar.specs.Limits.{maxKinds}
 use Rattle.grammar.specs.Grammar.{Grammar, alternatives, compile}
 use Rattle.grammar.specs.inside.Tables.{grammarIn}
 use Rattle.derivation.specs.Runs.{marked}
 use Rattle.derivation.specs.inside.Ready.{Ready}
 use Rattle.derivation.specs.Demand2.{Known}
-use Rattle.derivation.proofs.Notes.{drop-of-get, get-lt}
+use Rattle.derivation.proofs.Notes.{drop-of-get}
 use Rattle.derivation.proofs.MarkedCells.{length-marked}
 use Rattle.derivation.proofs.TokenLaws.{token-mark, token-note}
 use Rattle.words.specs.Layout.{slots, fullWord, stateWord}
@@ -105,6 +106,6 @@ token-small t h w k j {u} e = go (ltb j (length w)) refl
         let z : some (getD w j 0) ≡ some u = sym (token-note w j l refl) ∙ e in
         let y : getD w j 0 ≡ u = cc in omega (arith, k j l .1, kinds)
     go false q =
-        let n : j < length (marked w) = get-lt (marked w) j e in
+        let n : j < length (marked w) = get-below (marked w) j e in
         let z : some 0 ≡ some u = sym (token-mark w j (omega (arith, ltb-false j (length w) q, length-marked w))) ∙ e in
         let y : 0 ≡ u = cc in omega arith

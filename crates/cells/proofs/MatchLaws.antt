@@ -9,9 +9,9 @@ use lib.Dec.{T}
 use lib.ListN.{length, getD, getElem?}
 use borrow.Author.Tests.{not-false}
 use Rattle.base.proofs.Booleans.{true→T}
+use Rattle.base.proofs.Lists.{get-below}
 use Rattle.grammar.specs.Grammar.{Grammar, admits}
 use Rattle.derivation.proofs.FirstLaws.{get-some}
-use Rattle.derivation.proofs.Notes.{get-lt}
 use Rattle.cells.specs.inside.Matches.{admitted, matchesAt}
 
 get-none : (l : List ℕ) (k : ℕ) → length l ≤ k → getElem? l k ≡ none
@@ -40,7 +40,7 @@ module _ (g : Grammar) (w : List ℕ) (i k : ℕ) where
   matches-inside x = go (matches-out x)
     where
       go : Met → i < length w
-      go (t, e, _) = get-lt w i e
+      go (t, e, _) = get-below w i e
 
   -- ---- as the code finds it
   pub matches-end : length w ≤ i → false ≡ matchesAt g w i k

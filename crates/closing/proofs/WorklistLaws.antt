@@ -9,6 +9,7 @@ use native.Mathlib.Omega.{arith}
 use lib.Dec.{eqb}
 use lib.ListN.{length, getElem?}
 use borrow.Author.Tests.{eq-eqb, ne-eqb}
+use Rattle.base.proofs.Lists.{get-below}
 use Rattle.grammar.specs.declared.Symbol.{Symbol}
 use Rattle.grammar.specs.declared.Symbol.the-variants.{Token, Nonterminal, End}
 use Rattle.grammar.specs.declared.Place.{Place}
@@ -27,7 +28,6 @@ use Rattle.configurations.specs.declared.config.Packed.{Packed}
 use Rattle.configurations.specs.inside.Packed.{configOf, packedAt, Pops}
 use Rattle.closing.specs.inside.Moving.{Movable, BeforeCall, Unknown}
 use Rattle.configurations.specs.inside.Held.{configAt, configsFrom, Room, Grows}
-use Rattle.lookahead.proofs.ListLaws.{get-below}
 use Rattle.configurations.proofs.HeldLaws.{length-held, get-held, said-at, exact-at}
 use Rattle.configurations.proofs.GrowSteps.{then, grow-room, grow-count, then-on, then-stop, addAll-none, addAll-one, addAll-append}
 

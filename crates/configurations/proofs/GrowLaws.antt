@@ -9,9 +9,10 @@ use lib.Dec.{leb, ltb}
 use lib.ListN.{length}
 use borrow.Author.Tests.{lt-ltb, le-ltb, le-leb, lt-leb}
 use Rattle.base.proofs.Booleans.{true→T}
+use Rattle.base.proofs.Lists.{get-below}
 use Rattle.lookahead.specs.Configs.{Config, In}
 use Rattle.lookahead.specs.Closing.{maxMembers, maxEntries, member?, shallow, add}
-use Rattle.lookahead.proofs.ListLaws.{in-get, get-below}
+use Rattle.lookahead.proofs.ListLaws.{in-get}
 use Rattle.lookahead.proofs.AddLaws.{member-in}
 use Rattle.configurations.specs.declared.config.Packed.{Packed}
 use Rattle.configurations.specs.declared.members.Added.the-variants.{Count, Full}

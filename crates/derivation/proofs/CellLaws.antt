@@ -11,7 +11,7 @@ use lib.Dec.{T, eqb→eq, eqb-refl, leb, leb→le, le→leb}
 use lib.ListN.{length, getElem?}
 use Rattle.base.specs.Rounds.{rounds, anyOf}
 use Rattle.base.proofs.Booleans.{clash, and-T, T-and, same}
-use Rattle.base.proofs.Lists.{Found, anyOf-T, T-anyOf, get-upFrom, upFrom-get}
+use Rattle.base.proofs.Lists.{Found, anyOf-T, T-anyOf, get-upFrom, upFrom-get, get-below}
 use Rattle.base.proofs.Fixpoint.{Within, settle}
 use Rattle.grammar.specs.declared.Symbol.{Symbol}
 use Rattle.grammar.specs.declared.Symbol.the-variants.{Token, Nonterminal, End}
@@ -20,7 +20,6 @@ use Rattle.grammar.proofs.GrammarLaws.{faces-place}
 use Rattle.derivation.specs.Runs.{Run, Opens}
 use Rattle.derivation.specs.inside.BigSteps.{Der, Ders, none, more, DerivesBy}
 use Rattle.derivation.specs.Cells.{Cell, cell, cuts, byToken, byCut, bySymbol, cellRound, cellCount, derives?, runs?}
-use Rattle.derivation.proofs.Notes.{get-lt}
 use Rattle.derivation.proofs.RunLaws.{der-le, der-in, run→ders, der+run}
 use Rattle.derivation.proofs.CellGrid.{cells, length-cells, cells-in, Inside, inside?}
 
@@ -100,7 +99,7 @@ module _ (g : Grammar) (w : List ℕ) where
       go l (end e q) = end e q
       go l (token e d a x) =
           let hp = faces-place g (c .place) (λ q. clash (cc)) in
-          let hi = get-lt w (c .from) d in
+          let hi = get-below w (c .from) d in
           absurd (out (record { place-in = hp; from-in = omega arith; upto-in = l }))
       go l (call b e d k k′ x y) =
           let hp = faces-place g (c .place) (λ q. clash (cc)) in

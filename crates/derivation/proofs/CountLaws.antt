@@ -10,7 +10,8 @@ use Rattle.base.proofs.Booleans.{clash}
 use Rattle.grammar.specs.declared.Symbol.{Symbol}
 use Rattle.grammar.specs.declared.Symbol.the-variants.{Nonterminal}
 use Rattle.grammar.specs.Limits.{endPlace}
-use Rattle.grammar.specs.Decode.{Rules, AllOf, Alternatives, Legal}
+use Rattle.base.specs.Lists.{AllOf}
+use Rattle.grammar.specs.Decode.{Rules, Alternatives, Legal}
 use Rattle.grammar.specs.Grammar.{facing, alternatives, first, sizeEach, sizeAll, startsEach, startsAll, compile, Limited}
 use Rattle.grammar.specs.inside.Tables.{grammarIn, nonterminalsIn, ruleAt}
 use Rattle.grammar.proofs.WordLaws.{length-starts-in}

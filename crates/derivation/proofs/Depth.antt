@@ -13,6 +13,7 @@ use native.Mathlib.Decide.{decLe}
 use lib.Dec.{T}
 use lib.ListN.{length, getElem?, length-map}
 use Rattle.base.proofs.Booleans.{clash}
+use Rattle.base.proofs.Lists.{get-below}
 use Rattle.grammar.specs.declared.Symbol.the-variants.{Token, Nonterminal}
 use Rattle.grammar.specs.Limits.{endPlace, endMark}
 use Rattle.grammar.specs.Grammar.{Grammar, facing, owner, admits, first, ofPlaces}
@@ -20,8 +21,8 @@ use Rattle.grammar.specs.inside.Ordered.{Ordered}
 use Rattle.grammar.proofs.GrammarLaws.{first-below}
 use Rattle.closures.specs.Textbook.{LeftRecursive}
 use Rattle.derivation.specs.inside.Steps.{Steps, Quiet, Reads}
-use Rattle.derivation.proofs.Notes.{get-lt}
-use Rattle.derivation.proofs.Pigeon.{Distinct, pigeon}
+use Rattle.base.specs.Lists.{Distinct}
+use Rattle.derivation.proofs.Pigeon.{pigeon}
 use Rattle.derivation.proofs.Entries.{known, Apart, apart-below, apart}
 use Rattle.derivation.specs.inside.Entries.{Entry, entry, Inside, Below, ground, wait}
 use Rattle.derivation.proofs.Entries.{open-start, open-steps}
@@ -160,7 +161,7 @@ depth g ordered w n reads G silent sound P within a b f d p i S x =
     frames sound ordered P within (open-steps g ordered w n reads G silent (open-start g ordered w n reads G silent a b f d) x)
 
 pub reads-note : (g : Grammar) (w : List ℕ) → Reads g w (length w)
-reads-note g w a b f p k i t d o e h c = get-lt w i h
+reads-note g w a b f p k i t d o e h c = get-below w i h
 
 -- what stands in a marked note is a token of the note, or the mark
 pub marked-get : (v : List ℕ) (i t : ℕ) → getElem? (v ++ (endMark ∷ [])) i ≡ some t → (i < length v) ⊎ (t ≡ endMark)

@@ -8,11 +8,11 @@ use lib.ListN.{length}
 use Rattle.base.specs.Search.{LowestIs, this, nothing}
 use Rattle.base.proofs.Booleans.{clash}
 use Rattle.base.proofs.Lowest.{lowest-is}
+use Rattle.base.proofs.Lists.{get-below}
 use Rattle.grammar.specs.Grammar.{Grammar, alternatives, first}
 use Rattle.derivation.specs.Machine.{serves?, lowest, plainly}
 use Rattle.derivation.specs.Runs.{Serves}
 use Rattle.derivation.specs.inside.Choosers.{AnyState, Reliable}
-use Rattle.derivation.proofs.Notes.{get-lt}
 use Rattle.derivation.proofs.CellLaws.{runs-iff}
 
 module _ (g : Grammar) (w : List ℕ) where
@@ -26,7 +26,7 @@ module _ (g : Grammar) (w : List ℕ) where
 
   pub first-lt : (a b f : ℕ) → first g a b ≡ some f → b < suc (length (alternatives g a))
   first-lt a zero f e = clash (cc)
-  first-lt a (suc b) f e = suc-le-suc (get-lt (alternatives g a) b e)
+  first-lt a (suc b) f e = suc-le-suc (get-below (alternatives g a) b e)
 
   serves-complete : (S : List ℕ) (a i b : ℕ) → Serves g w S a i b → T (serves? g w S i (first g a b)) × (b < suc (length (alternatives g a)))
   unfolding serves?

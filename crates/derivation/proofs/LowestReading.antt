@@ -8,6 +8,7 @@ use lib.ListN.{length, drop}
 use lib.Seq.{drop-length}
 use Rattle.base.specs.Search.{LowestIs, this, nothing}
 use Rattle.base.proofs.Booleans.{clash}
+use Rattle.base.proofs.Lists.{get-below}
 use Rattle.grammar.specs.declared.Symbol.{Symbol}
 use Rattle.grammar.specs.Grammar.{Grammar, suffix, production, ofPlaces}
 use Rattle.grammar.specs.Derivation.{Derives}
@@ -16,7 +17,7 @@ use Rattle.derivation.specs.inside.BigSteps.{spells}
 use Rattle.derivation.specs.Machine.{lowest, plainly, accepted, full, Action, Ended, step, followStep, run}
 use Rattle.derivation.specs.Runs.{Serves}
 use Rattle.derivation.specs.Chosen.{Chosen}
-use Rattle.derivation.proofs.Notes.{drop-of-get, get-lt}
+use Rattle.derivation.proofs.Notes.{drop-of-get}
 use Rattle.derivation.proofs.RunLaws.{run→leftmost, leftmost→run}
 use Rattle.derivation.proofs.MachineLaws.{Seen, ended, halted, crammed, popped, matched, picked, see, prefix-accepted, prefix-full}
 use Rattle.derivation.proofs.LowestLaws.{lowest-serves}
@@ -74,7 +75,7 @@ module _ (g : Grammar) (w : List ℕ) where
   follow-step k rec S i room c r l x (crammed e) q = clash (cc)
   follow-step k rec S i room c r l x (popped {p = p} {i = i₀} {room = room₀} {S = S′} e) q = rw (suffix-is g p, e) (rec S′ i₀ room₀ c r l q)
   follow-step k rec S i room c r l x (matched {p = p} {i = i₀} {room = room₀} {S = S′} e f t) q =
-      rw (suffix-is g p, e, drop-of-get w i₀ f) (Chosen.match t (rec (suc p ∷ S′) (suc i₀) room₀ c r (get-lt w i₀ f) q))
+      rw (suffix-is g p, e, drop-of-get w i₀ f) (Chosen.match t (rec (suc p ∷ S′) (suc i₀) room₀ c r (get-below w i₀ f) q))
   follow-step k rec S i room c r l x (picked {p = p} {a = a} {b = b} {f = f} {i = i₀} {room = room₀} {S = S′} e d y) q =
       let (s, u, z) = prefix-accepted b ((plainRun k (f ∷ suc p ∷ S′) i₀ room₀ c) .outcome) {r = r} q in
       let n = named (suc p ∷ S′) a i₀ d in
@@ -103,7 +104,7 @@ module _ (g : Grammar) (w : List ℕ) where
       rw (h .row) (omega arith)
   cram-step k rec S i room c r l y x (popped {p = p} {i = i₀} {room = room₀} {S = S′} e) q = rec S′ i₀ room₀ c r l q (rw (suffix-is g p, e) at y)
   cram-step k rec S i room c r l y x (matched {p = p} {k = k′} {t = t′} {i = i₀} {room = room₀} {S = S′} e f t) q =
-      rec (suc p ∷ S′) (suc i₀) room₀ c r (get-lt w i₀ f) q
+      rec (suc p ∷ S′) (suc i₀) room₀ c r (get-below w i₀ f) q
       (chosen-token {α = suffix g (suc p) ++ spells g S′} {k = k′} {t = t′} y (rw (suffix-is g p, e)) (drop-of-get w i₀ f))
   cram-step k rec S i room c r l y x (picked {p = p} {a = a} {b = b} {f = f} {i = i₀} {room = room₀} {S = S′} e d u) q =
       let h = chosen-call {α = suffix g (suc p) ++ spells g S′} {a = a} y (rw (suffix-is g p, e)) in

@@ -5,11 +5,11 @@ use Prim.Native.Nat.{ℕ, zero, suc, pred, _+_, _-_, _*_, _≤_, _<_}
 use native.Mathlib.Omega.{arith}
 use lib.ListN.{length}
 use Rattle.base.proofs.Booleans.{clash}
+use Rattle.base.proofs.Lists.{get-below}
 use Rattle.grammar.specs.Limits.{endPlace}
 use Rattle.grammar.specs.Grammar.{Grammar}
 use Rattle.derivation.specs.Machine.{Chooser, accepted, Action, halt, move, pick, prefixed, followStep, run, runCall, step, onCall, reading}
 use Rattle.derivation.specs.inside.Choosers.{names}
-use Rattle.derivation.proofs.Notes.{get-lt}
 use Rattle.derivation.proofs.MachineLaws.{Names, Called, no-room, unnamed, absent, taken, call-seen, prefix-accepted, Seen, ended}
 use Rattle.derivation.proofs.MachineLaws.{halted, crammed, popped, matched, picked, see}
 
@@ -30,7 +30,7 @@ module _ {C : Type 0} (g : Grammar) (w : List ℕ) (choose : Chooser C) where
   follow-more k l rec named S i room c x (crammed e) m n = refl
   follow-more k l rec named S i room c x (popped {i = i₀} {room = room₀} {S = S′} e) m n = rec l S′ i₀ room₀ c (omega arith) (omega arith)
   follow-more k l rec named S i room c x (matched {p = p} {i = i₀} {room = room₀} {S = S′} e f t) m n =
-      let h = get-lt w i₀ f in
+      let h = get-below w i₀ f in
       rec l (suc p ∷ S′) (suc i₀) room₀ c (omega arith) (omega arith)
   follow-more k l rec named S i room c x (picked {p = p} {b = b} {f = f} {i = i₀} {room = room₀} {S = S′} e d y) m n =
       ap (prefixed b) (rec l (f ∷ suc p ∷ S′) i₀ room₀ c (omega arith) (omega arith))

@@ -8,13 +8,13 @@ use native.Mathlib.Omega.{arith}
 use lib.Dec.{T, eqb, eqb-refl}
 use lib.ListN.{length}
 use Rattle.base.proofs.Booleans.{clash}
+use Rattle.base.proofs.Lists.{get-below}
 use Rattle.grammar.specs.declared.Symbol.the-variants.{Nonterminal}
 use Rattle.grammar.specs.Grammar.{Grammar, facing, admits, first}
 use Rattle.derivation.specs.Runs.{Run, Opens}
 use Rattle.derivation.specs.Machine.{Chooser, stuck, Action, onCall, step, followStep, run, runCall}
 use Rattle.derivation.specs.Runs.{Serves}
 use Rattle.derivation.specs.inside.Choosers.{names, Served, Ground, Reliable}
-use Rattle.derivation.proofs.Notes.{get-lt}
 use Rattle.derivation.proofs.RunLaws.{run-empty, run-end, run-token, run-call}
 use Rattle.derivation.proofs.MachineLaws.{Names, Called, no-room, unnamed, absent, taken, call-seen, prefix-stuck, call-state, step-state}
 use Rattle.derivation.proofs.MachineLaws.{Halted, over, past, other, unchosen, missing, Seen, ended, halted, crammed, popped, matched, picked, see}
@@ -63,7 +63,7 @@ module _ {C : Type 0} (Holds : C → Type 0) (g : Grammar) (w : List ℕ) (Stand
       rec S′ i₀ room₀ d (omega arith) h′ (ground .pops p i₀ S′ e y) (o .0, run-end (o .1) e) q
   live-step k rec S i room c d l h h′ y o x (matched {p = p} {k = k′} {i = i₀} {room = room₀} {S = S′} e f t) q =
       let (u, _, _, z) = run-token (o .1) e in
-      let n = get-lt w i₀ f in
+      let n = get-below w i₀ f in
       rec (suc p ∷ S′) (suc i₀) room₀ d (omega arith) h′ (ground .matches p k′ i₀ S′ e y) (o .0, z) q
   live-step k rec S i room c d l h h′ y o x (picked {p = p} {a = a} {b = b} {f = f} {i = i₀} {room = room₀} {S = S′} e n m) q =
       let waits = ground .calls p a i₀ S′ e y in

@@ -2,8 +2,8 @@
 use mathlib.Core.Path.{_≡_, refl}
 use mathlib.Core.Option.{some}
 use mathlib.Core.List.{List, [], _∷_, _++_}
-use Prim.Native.Nat.{ℕ, zero, suc, _<_, zero-le, suc-le-suc}
-use lib.ListN.{length, getElem?, drop}
+use Prim.Native.Nat.{ℕ, zero, suc}
+use lib.ListN.{getElem?, drop}
 use Rattle.base.proofs.Booleans.{clash}
 
 -- a token that is there: the rest of the row begins with it
@@ -17,11 +17,6 @@ get-of-drop [] zero e = (cc, cc)
 get-of-drop [] (suc i) e = (cc, cc)
 get-of-drop (x ∷ w) zero e = (cc, cc)
 get-of-drop (x ∷ w) (suc i) e = get-of-drop w i e
-
-pub get-lt : (w : List ℕ) (i : ℕ) {t : ℕ} → getElem? w i ≡ some t → i < length w
-get-lt [] i {t} e = clash (cc)
-get-lt (x ∷ w) zero e = suc-le-suc zero-le
-get-lt (x ∷ w) (suc i) e = suc-le-suc (get-lt w i e)
 
 -- two rows that are equal with one token more at the end are equal without
 pub snoc-same : (w v : List ℕ) (t u : ℕ) → w ++ (t ∷ []) ≡ v ++ (u ∷ []) → (w ≡ v) × (t ≡ u)

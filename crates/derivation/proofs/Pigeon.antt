@@ -8,11 +8,7 @@ use native.Mathlib.Omega.{arith}
 use lib.Dec.{eqb}
 use lib.ListN.{length}
 use borrow.Author.Tests.{eqb-true, eqb-false}
-
--- no member stands again later in the list
-pub data Distinct : List ℕ → Type 0 where
-  nil : Distinct []
-  also : {x : ℕ} {l : List ℕ} → ¬ List·Memᴰ x l → Distinct l → Distinct (x ∷ l)
+use Rattle.base.specs.Lists.{Distinct, nil, also}
 
 -- the list without its members k: then all that is left is below k, if all was below k + 1
 unfoldable without : ℕ → List ℕ → List ℕ
@@ -40,7 +36,7 @@ unfolding without
 without-distinct k nil = nil
 without-distinct k (also {x = x} {l = l} n d) = go (eqb x k) (without-distinct k d)
   where
-    go : (b : Bool) → Distinct (without k l) → Distinct (elim b [ true ↦ without k l | false ↦ x ∷ without k l ])
+    go : (b : Bool) → Distinct (without k l) → Distinct {A = ℕ} (elim b [ true ↦ without k l | false ↦ x ∷ without k l ])
     go true rec = rec
     go false rec = also (λ m. n (without-mem k l x m .0)) rec
 

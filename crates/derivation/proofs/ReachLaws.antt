@@ -5,10 +5,10 @@ use Prim.Native.Nat.{ℕ, suc, _≤_}
 use native.Mathlib.Omega.{arith}
 use native.Mathlib.Decide.{decLe}
 use lib.ListN.{length}
+use Rattle.base.proofs.Lists.{get-below}
 use Rattle.grammar.specs.Grammar.{Grammar}
 use Rattle.derivation.specs.inside.BigSteps.{Der}
 use Rattle.derivation.specs.inside.Reach.{Reach, start, match, call, return, Arrives}
-use Rattle.derivation.proofs.Notes.{get-lt}
 use Rattle.derivation.proofs.Stretches.{Alike, alike-in}
 use Rattle.derivation.proofs.RunLaws.{der-le, der-in}
 
@@ -16,7 +16,7 @@ use Rattle.derivation.proofs.RunLaws.{der-le, der-in}
 module _ {g : Grammar} {w : List ℕ} where
   pub reach-in : {p i : ℕ} → Reach g w p i → i ≤ length w
   reach-in (start b e) = omega arith
-  reach-in (match {i = i} x e d a) = get-lt w i d
+  reach-in (match {i = i} x e d a) = get-below w i d
   reach-in (call b x e d) = reach-in x
   reach-in (return b x e d z) = der-in z
 

@@ -9,6 +9,7 @@ use lib.Dec.{T}
 use lib.Seq.{drop-length}
 use lib.ListN.{length, length-drop, getElem?, drop}
 use Rattle.base.proofs.Booleans.{clash}
+use Rattle.base.proofs.Lists.{get-below}
 use Rattle.grammar.specs.declared.Symbol.{Symbol}
 use Rattle.grammar.specs.declared.Symbol.the-variants.{Token, Nonterminal, End}
 use Rattle.grammar.specs.Grammar.{Grammar, facing, admits, first, suffix, ofPlaces}
@@ -16,7 +17,7 @@ use Rattle.grammar.specs.Derivation.{Leftmost}
 use Rattle.grammar.proofs.GrammarLaws.{suffix-is, production-is, production-from}
 use Rattle.derivation.specs.Runs.{Run}
 use Rattle.derivation.specs.inside.BigSteps.{Der, Ders, none, more, Split, spells}
-use Rattle.derivation.proofs.Notes.{drop-of-get, get-of-drop, get-lt}
+use Rattle.derivation.proofs.Notes.{drop-of-get, get-of-drop}
 
 module _ {g : Grammar} {w : List ℕ} where
   -- ---- positions only go forward, and not past the end
@@ -145,7 +146,7 @@ module _ {g : Grammar} {w : List ℕ} where
       go (empty q h) rec = clash (cc)
       go (token p k′ S′ f q h) rec =
           let n = get-of-drop w i d in
-          h w i (length w) r (Run.match (cc) (n .0) c (rec (suc p ∷ S′) (suc i) (cc) (n .1) (get-lt w i (n .0))))
+          h w i (length w) r (Run.match (cc) (n .0) c (rec (suc p ∷ S′) (suc i) (cc) (n .1) (get-below w i (n .0))))
       go (call p a S′ f q h) rec = clash (cc)
   leftmost→run (Leftmost.expand {a = a} {b = b} {β = β} {α = α} {r = r} {w = v} c x) S i e d l =
       go (settle g S) (leftmost→run x) (production-from g a b c)

@@ -2,7 +2,8 @@
 use mathlib.Core.Path.{_≡_, refl}
 use mathlib.Core.List.{[], _∷_}
 use Rattle.grammar.specs.declared.Symbol.the-variants.{Nonterminal}
-use Rattle.grammar.specs.Decode.{AllOf, decode, got, mark}
+use Rattle.base.specs.Lists.{AllOf}
+use Rattle.grammar.specs.Decode.{decode, got, mark}
 use Rattle.grammar.specs.Encode.{encode}
 use Rattle.grammar.specs.Derivation.{Leftmost, done, match, expand, ofRules}
 use Rattle.soundness.specs.Check.{checkOf}

@@ -7,7 +7,8 @@ use native.Mathlib.Omega.{arith}
 use lib.ListN.{length, getElem?, take, drop, take-append-drop}
 use lib.Seq.{slice, take-take, length-take-le}
 use Rattle.base.proofs.Booleans.{clash}
-use Rattle.derivation.proofs.Notes.{drop-of-get, get-lt}
+use Rattle.base.proofs.Lists.{get-below}
+use Rattle.derivation.proofs.Notes.{drop-of-get}
 
 -- ---- single tokens
 pub get-take : (j i : ℕ) (w : List ℕ) → i < j → getElem? (take j w) i ≡ getElem? w i
@@ -60,4 +61,4 @@ alike-take w v k h n l = get-append (take k w) v n (omega (arith, length-take-le
 -- a position of one note, up to which another begins alike, is a position of the other
 pub alike-in : (w w′ : List ℕ) (k i : ℕ) → i ≤ k → Alike w w′ k → i ≤ length w → i ≤ length w′
 alike-in w w′ k zero l h b = omega arith
-alike-in w w′ k (suc i) l h b = let (t, e) = get-in w i (omega arith) in get-lt w′ i (sym (h i l) ∙ e)
+alike-in w w′ k (suc i) l h b = let (t, e) = get-in w i (omega arith) in get-below w′ i (sym (h i l) ∙ e)

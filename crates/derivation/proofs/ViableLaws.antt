@@ -16,12 +16,11 @@ use Rattle.grammar.specs.Grammar.{Grammar, nowhere, facing, first, before, spel
 use Rattle.grammar.specs.Derivation.{Syntax, Leftmost, Derives}
 use Rattle.grammar.proofs.GrammarLaws.{suffix-is, production-is, production-from, leftmost-append, admits-self}
 use Rattle.closures.specs.Textbook.{Productive}
-use Rattle.derivation.specs.Runs.{Run}
 use Rattle.derivation.specs.inside.BigSteps.{Der, Split, spells, DerivesBy}
 use Rattle.derivation.specs.Viable.{Sentence, Viable, WrongAt}
 use Rattle.derivation.specs.inside.Reach.{Rich, Reach, start, match, call, return, Arrives}
 use Rattle.derivation.proofs.Stretches.{take-get, slice-get, slice-append, take-slice, alike-take}
-use Rattle.derivation.proofs.RunLaws.{der-le, run-split, leftmost→run}
+use Rattle.derivation.proofs.RunLaws.{der-le, run-empty, run-split, leftmost→run}
 use Rattle.derivation.proofs.ReachLaws.{reach-alike, on-the-way}
 
 -- ---- a big step as the textbook has it
@@ -65,9 +64,6 @@ module _ (g : Grammar) (w : List ℕ) (rich : Rich g) where
 -- ---- a sentence is a big step of a production of the start symbol
 abbrev pub StartStep : Grammar → List ℕ → Type 0
 StartStep g w = (b : ℕ) × (f : ℕ) × (first g 0 b ≡ some f) × DerivesBy g w f 0 (length w)
-
-run-empty : {g : Grammar} {w : List ℕ} {i j : ℕ} {r : List ℕ} → Run g w [] i j r → i ≡ j
-run-empty (Run.done l) = refl
 
 sentence-from : {g : Grammar} {w : List ℕ} (b : ℕ) {β : List Symbol} {r : List ℕ} → Leftmost (ofPlaces g) (β ++ []) r w
     → (f : ℕ) × (first g 0 b ≡ some f) × (suffix g f ≡ β) → StartStep g w

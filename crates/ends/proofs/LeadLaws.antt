@@ -4,13 +4,13 @@ use mathlib.Core.Logic.{_⊎_, inl, inr, ⊎-elim}
 use mathlib.Core.Bool.{Bool, _&&_}
 use mathlib.Core.Option.{some}
 use mathlib.Core.List.{List, [], _∷_, _++_}
-use Prim.Native.Nat.{ℕ, zero, suc, _+_, _-_, _≤_, _<_}
+use Prim.Native.Nat.{ℕ, zero, suc, _+_, _≤_, _<_}
 use native.Mathlib.Omega.{arith}
 use lib.Dec.{T, eqb→eq, eqb-refl}
 use lib.ListN.{length, getElem?}
 use Rattle.base.proofs.Bits.{same?}
 use Rattle.base.proofs.Booleans.{clash, and-T, T-and, or-T, T-or-l, T-or-r, same}
-use Rattle.base.proofs.Lists.{anyOf-T, T-anyOf}
+use Rattle.base.proofs.Lists.{anyOf-T, T-anyOf, get-below}
 use Rattle.grammar.specs.declared.Symbol.{Symbol}
 use Rattle.grammar.specs.declared.Symbol.the-variants.{Token, Nonterminal, End}
 use Rattle.grammar.specs.Grammar.{Grammar, facing, admits, alternatives, first, before, suffix}
@@ -18,7 +18,6 @@ use Rattle.grammar.proofs.GrammarLaws.{suffix-is, first-pos}
 use Rattle.positions.specs.inside.Positions.{positionCount}
 use Rattle.derivation.specs.inside.BigSteps.{Der, DerivesBy}
 use Rattle.derivation.specs.Cells.{derives?}
-use Rattle.derivation.proofs.Notes.{get-lt}
 use Rattle.derivation.proofs.RunLaws.{der-le, der-in}
 use Rattle.derivation.proofs.CellLaws.{Kept, derives-sound, derives-complete}
 use Rattle.cells.specs.inside.Matches.{matchesAt}
@@ -127,7 +126,7 @@ module _ (g : Grammar) (N : ℕ) (w : List ℕ) (C : ℕ → ℕ → ℕ → Boo
         → DerivesBy g w p i j
     by-sound rest k rec (end e q) = ([], rw (← q) (Der.finish {i = i} e k))
     by-sound rest k rec (token e d a x) =
-        let n = get-lt w i d in
+        let n = get-below w i d in
         let (r, y) = cell-out (suc p) (suc i) j (known .kept .next p h (λ q. clash (cc))) (omega arith) n l x in
         (r, Der.match e d a y)
     by-sound rest k rec (later {b = b} m e u v x y) =

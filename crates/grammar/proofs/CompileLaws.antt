@@ -8,7 +8,8 @@ use lib.ListN.{length, getD, getElem?, drop, replicate, length-append}
 use lib.Seq.{drop-at}
 use Rattle.grammar.specs.Types.{Symbol, Token, Nonterminal, End, Place}
 use Rattle.grammar.specs.Limits.{maxPlaces, endMark, nobody}
-use Rattle.grammar.specs.Decode.{Rules, AllOf, Legal, Production, Alternatives}
+use Rattle.base.specs.Lists.{AllOf}
+use Rattle.grammar.specs.Decode.{Rules, Legal, Production, Alternatives}
 use Rattle.grammar.specs.Grammar.{Grammar, at, nowhere, first, alternatives, spell, suffix, production, layOne, layEach, layAll, sizeEach}
 use Rattle.grammar.specs.Grammar.{sizeAll, startsEach, startsAll, padded, compile, Limited, admits, ofPlaces}
 use Rattle.grammar.specs.Derivation.{oneth, ofRules}

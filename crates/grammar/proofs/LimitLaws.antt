@@ -6,11 +6,13 @@ use Prim.Native.Nat.{ℕ, suc}
 use native.Mathlib.Omega.{arith}
 use lib.ListN.{length}
 use Rattle.grammar.specs.Types.{Symbol}
-use Rattle.grammar.specs.Decode.{Rules, AllOf, Legal, Production, Alternatives}
+use Rattle.base.specs.Lists.{AllOf}
+use Rattle.grammar.specs.Decode.{Rules, Legal, Production, Alternatives}
 use Rattle.grammar.specs.Grammar.{sizeEach, sizeAll, Limited}
 use Rattle.grammar.specs.Encode.{oneSymbol, productionParts, nonterminalParts, partsOf}
 use Rattle.grammar.specs.Faults.{Permitted, placesOf, InLimits}
-use Rattle.grammar.proofs.PartLaws.{all-append, append-all, places-append}
+use Rattle.base.proofs.Lists.{all-append, append-all}
+use Rattle.grammar.proofs.PartLaws.{places-append}
 
 -- ---- a property of the parts of every element
 module _ {A B : Type 0} (P : B → Type 0) (Q : A → Type 0) (w : A → List B) where

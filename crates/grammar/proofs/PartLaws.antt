@@ -8,9 +8,10 @@ use lib.ListN.{length, drop, length-append}
 use lib.Seq.{drop-drop, drop-append-seam}
 use Rattle.number.specs.Number.{shortest, maxNumber}
 use Rattle.number.specs.Forms.{CutShort, Misspelled}
+use Rattle.base.proofs.Lists.{all-append, append-all}
 use Rattle.grammar.specs.Types.{Refusal, Unfinished, Malformed, OverLimit, UnknownSymbol}
 use Rattle.grammar.specs.Limits.{maxPlaces}
-use Rattle.grammar.specs.Decode.{AllOf, Mark, mark, Parsed, got, refused}
+use Rattle.grammar.specs.Decode.{Mark, mark, Parsed, got, refused}
 use Rattle.grammar.specs.Encode.{Part, highestKind, nonterminalCount, productionCount, symbolCount, oneSymbol, numberOf, bytesOf}
 use Rattle.grammar.specs.Faults.{Permitted, placesOf, InLimits}
 
@@ -41,14 +42,6 @@ pub places-append : (l k : List Part) → placesOf (l ++ k) ≡ placesOf l + pla
 unfolding placesOf
 places-append [] k = omega arith
 places-append (x ∷ l) k = omega (arith, places-append l k)
-
-pub all-append : {A : Type 0} (P : A → Type 0) (l k : List A) → AllOf P l → AllOf P k → AllOf P (l ++ k)
-all-append P [] k h j = j
-all-append P (x ∷ l) k h j = (h .0, all-append P l k (h .1) j)
-
-pub append-all : {A : Type 0} (P : A → Type 0) (l k : List A) → AllOf P (l ++ k) → AllOf P l × AllOf P k
-append-all P [] k h = (tt, h)
-append-all P (x ∷ l) k h = let r = append-all P l k (h .1) in ((h .0, r .0), r .1)
 
 -- an element of two lists joined is in the first or in the second of them
 pub data Falls {A : Type 0} (xs ys ahead : List A) (due : A) (behind : List A) : Type 0 where

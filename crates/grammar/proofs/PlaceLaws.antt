@@ -10,7 +10,8 @@ use lib.ListN.{length, getD, replicate}
 use Rattle.base.proofs.Booleans.{clash}
 use Rattle.grammar.specs.Types.{Symbol, Token, Nonterminal, End, Place}
 use Rattle.grammar.specs.Limits.{maxPlaces, endPlace, endMark, nobody}
-use Rattle.grammar.specs.Decode.{Rules, AllOf, Legal, Production, Alternatives}
+use Rattle.base.specs.Lists.{AllOf}
+use Rattle.grammar.specs.Decode.{Rules, Legal, Production, Alternatives}
 use Rattle.grammar.specs.Grammar.{at, nowhere, facing, owner, admits, first}
 use Rattle.grammar.specs.Grammar.{layOne, layEach, layAll, sizeEach, sizeAll, startsAll, padded, compile, Limited}
 use Rattle.grammar.proofs.GrammarLaws.{first-below, admits-mark}

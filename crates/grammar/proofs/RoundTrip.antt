@@ -10,11 +10,12 @@ use Rattle.number.specs.Forms.{Bytes}
 use Rattle.number.proofs.ShortestForm.{shortest-one, shortest-two, shortest-three}
 use Rattle.grammar.specs.Types.{Token, Nonterminal, End}
 use Rattle.grammar.specs.Limits.{maxKinds, maxNonterminals}
-use Rattle.grammar.specs.Decode.{Rules, AllOf, mark, got, decode}
+use Rattle.base.specs.Lists.{AllOf}
+use Rattle.grammar.specs.Decode.{Rules, mark, got, decode}
 use Rattle.grammar.specs.Grammar.{sizeAll, Limited}
 use Rattle.grammar.specs.Encode.{Part, highestKind, nonterminalCount, productionCount, symbolCount, oneSymbol, numberOf, bytesOf, partsOf, encode}
 use Rattle.grammar.specs.Faults.{Permitted}
-use Rattle.grammar.proofs.PartLaws.{all-append}
+use Rattle.base.proofs.Lists.{all-append}
 use Rattle.grammar.proofs.LimitLaws.{limited-in-limits}
 use Rattle.grammar.proofs.EncodeLaws.{decoded-iff}
 

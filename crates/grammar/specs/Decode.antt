@@ -4,6 +4,7 @@ use mathlib.Core.List.{List, [], _∷_}
 use mathlib.Core.Bool.{cond}
 use lib.ListN.{length}
 use lib.Dec.{ltb, eqb}
+use Rattle.base.specs.Lists.{AllOf}
 use Rattle.grammar.specs.Types.{Refusal, OverLimit, Trailing, Read, Value, Refused, Symbol, Token, Nonterminal, End}
 use Rattle.grammar.specs.Limits.{maxKinds, maxNonterminals, maxProductions, maxLength, maxPlaces}
 use Rattle.number.specs.Number.{limitedAt, symbolAt}
@@ -12,11 +13,6 @@ use Rattle.number.specs.Number.{limitedAt, symbolAt}
 pub record Rules : Type 0 where
   pub kinds : ℕ
   pub productions : List (List (List Symbol))
-
--- every element of a list has a property
-abbrev pub AllOf : {A : Type 0} → (A → Type 0) → List A → Type 0
-AllOf P [] = Unit {0}
-AllOf P (x ∷ l) = P x × AllOf P l
 
 -- a symbol of a grammar with t kinds and n nonterminals
 abbrev pub Legal : ℕ → ℕ → Symbol → Type 0

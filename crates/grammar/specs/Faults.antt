@@ -7,7 +7,8 @@ use Rattle.number.specs.Number.{shortest, maxNumber}
 use Rattle.number.specs.Forms.{CutShort, Misspelled}
 use Rattle.grammar.specs.Types.{Refusal, Unfinished, Malformed, OverLimit, UnknownSymbol, Trailing, Unproductive, LeftRecursive}
 use Rattle.grammar.specs.Limits.{maxKinds, maxNonterminals, maxProductions, maxLength, maxPlaces}
-use Rattle.grammar.specs.Decode.{Rules, AllOf, Legal}
+use Rattle.base.specs.Lists.{AllOf}
+use Rattle.grammar.specs.Decode.{Rules, Legal}
 use Rattle.grammar.specs.Grammar.{Limited}
 use Rattle.grammar.specs.Encode.{Part, highestKind, nonterminalCount, productionCount, symbolCount, oneSymbol, numberOf, partsOf, bytesOf, encode}
 

@@ -7,7 +7,8 @@ use lib.Dec.{eqb}
 use lib.ListN.{length, getD, drop, replicate}
 use Rattle.grammar.specs.Types.{Symbol, Token, Nonterminal, End, Place}
 use Rattle.grammar.specs.Limits.{maxKinds, maxNonterminals, maxPlaces, nobody, endMark}
-use Rattle.grammar.specs.Decode.{Rules, AllOf, Alternatives}
+use Rattle.base.specs.Lists.{AllOf}
+use Rattle.grammar.specs.Decode.{Rules, Alternatives}
 use Rattle.grammar.specs.Derivation.{Syntax, oneth}
 
 -- the highest kind, T; the number of places, P; the first place of each production of each nonterminal; the places, the end place included

@@ -15,7 +15,8 @@ use Rattle.base.proofs.Lists.{anyOf-T, T-anyOf}
 use Rattle.grammar.specs.Grammar.{Grammar}
 use Rattle.lookahead.specs.Configs.{Config, In, Closes}
 use Rattle.lookahead.specs.Closing.{maxMembers, maxEntries, sameList, sameConfig, member?, shallow, add, addAll}
-use Rattle.lookahead.specs.Rules.{Distinct, Each, Over, deep, many}
+use Rattle.base.specs.Lists.{Distinct}
+use Rattle.lookahead.specs.Rules.{Each, Over, deep, many}
 use Rattle.lookahead.proofs.ListLaws.{Sub, get-in, in-get, distinct-snoc, each-snoc}
 
 -- ---- the tests

@@ -9,11 +9,11 @@ use lib.ListN.{length, getElem?}
 use native.Mathlib.Omega.{arith}
 use borrow.Author.Tests.{ltb-true, ltb-false}
 use Rattle.base.proofs.Booleans.{clash, true→T}
+use Rattle.base.proofs.Lists.{get-below}
 use Rattle.grammar.specs.Limits.{endPlace, endMark}
 use Rattle.grammar.specs.Grammar.{Grammar, admits, first}
 use Rattle.grammar.specs.inside.Ordered.{Ordered}
 use Rattle.derivation.specs.Runs.{Run}
-use Rattle.derivation.proofs.Notes.{get-lt}
 use Rattle.lookahead.specs.Configs.{Config, config, In, Closes, from}
 use Rattle.lookahead.specs.Closing.{maxKept, close}
 use Rattle.lookahead.specs.Order.{kept?, kept}
@@ -159,6 +159,6 @@ module _ (g : Grammar) (ordered : Ordered g) where
         go : (x : Bool) → ltb (suc i) (length w) ≡ x → Allows b w (suc i) (stepOutcome g (h .faced .token) ks)
         go true e = step-allows h (ltb-true (suc i) (length w) e)
         go false e =
-            let l = get-lt w i (h .faced .stands) in
+            let l = get-below w i (h .faced .stands) in
             let z : suc i ≡ length w = omega (arith, ltb-false (suc i) (length w) e) in
             step-last h z (m i (h .faced .token) (h .faced .stands) z)

@@ -11,7 +11,8 @@ use Rattle.base.proofs.Booleans.{clash}
 use Rattle.grammar.specs.declared.Symbol.{Symbol}
 use Rattle.grammar.specs.declared.Symbol.the-variants.{Token, Nonterminal, End}
 use Rattle.grammar.specs.Limits.{maxProductions, maxPlaces, endPlace, endMark, nobody}
-use Rattle.grammar.specs.Decode.{Rules, AllOf, Alternatives, Legal}
+use Rattle.base.specs.Lists.{AllOf}
+use Rattle.grammar.specs.Decode.{Rules, Alternatives, Legal}
 use Rattle.grammar.specs.Grammar.{Grammar, facing, owner, admits, alternatives, first, sizeEach, sizeAll, startsAll, compile, Limited}
 use Rattle.grammar.proofs.OrderedLaws.{compile-ordered}
 use Rattle.grammar.proofs.PlaceLaws.{Faces, compile-faces, compile-within, compile-end-only}

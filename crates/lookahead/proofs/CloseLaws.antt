@@ -8,11 +8,13 @@ use native.Mathlib.Omega.{arith}
 use native.Mathlib.Decide.{decLt}
 use lib.ListN.{length, getElem?}
 use Rattle.base.proofs.Booleans.{clash}
+use Rattle.base.proofs.Lists.{get-below, get-behind, get-front}
 use Rattle.grammar.specs.Grammar.{Grammar}
 use Rattle.lookahead.specs.Configs.{Config, In, Closes, from, move, moves}
 use Rattle.lookahead.specs.Closing.{maxMembers, maxEntries, addAll, closeFrom, close}
-use Rattle.lookahead.specs.Rules.{Distinct, nil, Each, Over, deep, many}
-use Rattle.lookahead.proofs.ListLaws.{Sub, get-in, in-get, get-below, get-behind, get-front, distinct-short}
+use Rattle.base.specs.Lists.{Distinct, nil}
+use Rattle.lookahead.specs.Rules.{Each, Over, deep, many}
+use Rattle.lookahead.proofs.ListLaws.{Sub, get-in, in-get, distinct-short}
 use Rattle.lookahead.proofs.MoveLaws.{moves-right}
 use Rattle.lookahead.proofs.AddLaws.{Work, Grown, Adds, stopped, went, grown-sub, addAll-right}
 

@@ -1,16 +1,17 @@
 -- Lists as sets: members of mapped lists, lists with no member twice.
 use mathlib.Core.Path.{_≡_, refl, sym, ap, _∙_}
 use mathlib.Core.Logic.{_⊎_, inl, inr}
-use mathlib.Core.Option.{none, some}
+use mathlib.Core.Option.{some}
 use mathlib.Core.List.{List, [], _∷_, _++_, map, List·Memᴰ·head}
 use mathlib.Core.List.{List·Memᴰ·tail, List·Memᴰ·not-nil, List·Memᴰ·cases-cons, List·Memᴰ·eq-of-singleton, List·Memᴰ·append-cases}
 use mathlib.Core.List.{Memᴰ·cast}
-use Prim.Native.Nat.{ℕ, zero, suc, _≤_, _<_}
+use Prim.Native.Nat.{ℕ, zero, suc, _≤_}
 use native.Mathlib.Omega.{arith}
 use lib.ListN.{length, getElem?}
 use Rattle.base.proofs.Booleans.{clash}
 use Rattle.lookahead.specs.Configs.{In}
-use Rattle.lookahead.specs.Rules.{Distinct, nil, also, Each}
+use Rattle.base.specs.Lists.{Distinct, nil, also}
+use Rattle.lookahead.specs.Rules.{Each}
 
 -- every member of l is one of m
 abbrev pub Sub : {A : Type 0} → List A → List A → Type 0
@@ -35,22 +36,6 @@ module _ {A : Type 0} where
   pub in-get : {l : List A} {x : A} → In x l → (n : ℕ) × (getElem? l n ≡ some x)
   in-get (List·Memᴰ·head e) = (zero, cc)
   in-get (List·Memᴰ·tail m) = let t = in-get m in (suc (t .0), t .1)
-
-  pub get-below : (l : List A) (n : ℕ) {x : A} → getElem? l n ≡ some x → n < length l
-  get-below [] n e = clash (cc)
-  get-below (y ∷ l) zero e = omega arith
-  get-below (y ∷ l) (suc n) e = let h = get-below l n e in omega arith
-
-  pub get-behind : (l : List A) (n : ℕ) → getElem? l n ≡ none → length l ≤ n
-  get-behind [] n e = omega arith
-  get-behind (y ∷ l) zero e = clash (cc)
-  get-behind (y ∷ l) (suc n) e = let h = get-behind l n e in omega arith
-
-  -- an element of the front part
-  pub get-front : (l k : List A) (n : ℕ) → n < length l → getElem? (l ++ k) n ≡ getElem? l n
-  get-front [] k n h = absurd (omega arith)
-  get-front (y ∷ l) k zero h = refl
-  get-front (y ∷ l) k (suc n) h = get-front l k n (omega arith)
 
   -- a new member behind the others
   pub distinct-snoc : {l : List A} {d : A} → Distinct l → ¬ In d l → Distinct (l ++ (d ∷ []))

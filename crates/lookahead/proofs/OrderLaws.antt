@@ -11,7 +11,8 @@ use Rattle.base.proofs.Booleans.{true→T, false→¬T}
 use Rattle.grammar.specs.Grammar.{Grammar}
 use Rattle.lookahead.specs.Configs.{Config, In}
 use Rattle.lookahead.specs.Order.{kept?, keep, key, Packable, insert, sort, Ascending, none, next, kept}
-use Rattle.lookahead.specs.Rules.{Distinct, nil, also, Each}
+use Rattle.base.specs.Lists.{Distinct, nil, also}
+use Rattle.lookahead.specs.Rules.{Each}
 use Rattle.lookahead.proofs.ListLaws.{Sub}
 use Rattle.lookahead.proofs.KeyLaws.{key-one}
 

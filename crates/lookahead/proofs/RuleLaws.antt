@@ -15,7 +15,8 @@ use Rattle.lookahead.specs.Configs.{Config, In}
 use Rattle.lookahead.specs.Closing.{maxKept}
 use Rattle.lookahead.specs.Order.{kept, Ascending, none, next}
 use Rattle.lookahead.specs.Outcomes.{Outcome, full, alternative, state, rivals, agreed, shared, settled, resolved, judged, withinKept, outcome}
-use Rattle.lookahead.specs.Rules.{Distinct, nil, also, Each, Keeps, TooLarge, closed-over, kept-many, Nothing, Agreed, Rival, Conflict, Kept, Gives}
+use Rattle.base.specs.Lists.{Distinct, nil, also}
+use Rattle.lookahead.specs.Rules.{Each, Keeps, TooLarge, closed-over, kept-many, Nothing, Agreed, Rival, Conflict, Kept, Gives}
 use Rattle.lookahead.specs.Rules.{rule1, rule2, rule3, rule4, rule5}
 use Rattle.lookahead.proofs.ListLaws.{distinct-short}
 use Rattle.lookahead.proofs.CloseLaws.{Closure, Closed, over, whole, close-right, within}

@@ -1,6 +1,6 @@
 -- The table of worked cases holds, by computation.
 use mathlib.Core.Path.{refl}
-use Rattle.grammar.specs.Decode.{AllOf}
+use Rattle.base.specs.Lists.{AllOf}
 use Rattle.lookahead.specs.Worked.{WalkHolds, walks}
 
 pub all-hold : AllOf WalkHolds walks

@@ -2,10 +2,11 @@
 use mathlib.Core.Path.{_≡_}
 use mathlib.Core.Logic.{_↔_}
 use mathlib.Core.Option.{some}
-use mathlib.Core.List.{List, [], _∷_}
+use mathlib.Core.List.{List, []}
 use Prim.Native.Nat.{ℕ, _<_}
 use lib.Dec.{T}
 use lib.ListN.{length}
+use Rattle.base.specs.Lists.{Distinct}
 use Rattle.grammar.specs.declared.Symbol.the-variants.{Token}
 use Rattle.grammar.specs.Grammar.{Grammar, facing, admits, first}
 use Rattle.lookahead.specs.Configs.{Config, config, In, Closes}
@@ -31,11 +32,6 @@ pub record StepsOver (g : Grammar) (t : ℕ) (ks : List Config) (c : Config) : T
   pub is : c ≡ onward source
 
 -- ---- how many
--- no member stands again later in the list
-pub data Distinct {A : Type 0} : List A → Type 0 where
-  nil : Distinct []
-  also : {x : A} {l : List A} → ¬ In x l → Distinct l → Distinct (x ∷ l)
-
 -- a property of all members
 abbrev pub Each : {A : Type 0} → (A → Type 0) → List A → Type 0
 Each {A} P l = (x : A) → In x l → P x

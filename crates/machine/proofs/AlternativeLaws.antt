@@ -12,6 +12,7 @@ use lib.Seq.{length-slice}
 use Rattle.base.specs.Search.{lowestFrom, LowestIs, this, nothing}
 use Rattle.base.proofs.Booleans.{clash}
 use Rattle.base.proofs.Lowest as search
+use Rattle.base.proofs.Lists.{get-below}
 use Rattle.grammar.specs.Grammar.{alternatives, first}
 use Rattle.grammar.specs.inside.Tables.{cornersAt, grammarIn, nonterminalsIn, ruleAt}
 use Rattle.grammar.proofs.GrammarLaws.{first-below}
@@ -20,7 +21,6 @@ use Rattle.derivation.specs.Runs.{marked}
 use Rattle.derivation.specs.Machine.{lowest}
 use Rattle.derivation.specs.Runs.{Serves}
 use Rattle.derivation.specs.inside.Ready.{Ready}
-use Rattle.derivation.proofs.Notes.{get-lt}
 use Rattle.derivation.proofs.LowestLaws.{lowest-serves}
 use Rattle.derivation.proofs.FirstLaws.{rule-within, rules-are, first-at}
 use Rattle.machine.specs.inside.Choice.{endsIn, orZero, lowestIn}
@@ -47,7 +47,7 @@ module _ (t : List ℕ) (h : Ready t) (a b : ℕ) (named : Named t a b) where
 
       go : (b : ℕ) → first (grammarIn t) a b ≡ some (named .0) → ruleAt t a + b ≤ ruleAt t (suc a)
       go zero e = clash (cc)
-      go (suc b) e = let l = get-lt (alternatives (grammarIn t) a) b e in omega (arith, n)
+      go (suc b) e = let l = get-below (alternatives (grammarIn t) a) b e in omega (arith, n)
 
   pub named-in : ruleAt t (suc a) ≤ cornersAt
   named-in = h .fits .within a named-below

@@ -7,6 +7,7 @@ use Prim.Native.Nat.{ℕ, suc, _+_, _-_, _*_}
 use native.Mathlib.Numerals.{add-one}
 use native.Mathlib.Omega.{arith}
 use lib.ListN.{length, getD, take, set, length-set}
+use Rattle.base.proofs.Lists.{get-below}
 use Rattle.grammar.specs.Limits.{endPlace}
 use Rattle.grammar.specs.declared.Symbol.the-variants.{End}
 use Rattle.grammar.specs.Grammar.{Grammar, facing, first}
@@ -15,7 +16,6 @@ use Rattle.derivation.specs.Runs.{marked}
 use Rattle.derivation.specs.Machine.{Chooser, Conclusion, accepted, stuck, full, after, Ended, ended, beyond, prefixed, run, runCall, reading}
 use Rattle.derivation.specs.inside.Choosers.{names, thence}
 use Rattle.derivation.specs.inside.Frames.{frameWords, returnsOf}
-use Rattle.derivation.proofs.Notes.{get-lt}
 use Rattle.derivation.proofs.MachineSteps.{after-accepted, after-stuck, after-full, beyond-entry, run-end, run-match, run-none, run-other, run-calls}
 use Rattle.derivation.proofs.MachineSteps.{call-full, call-unserved, call-pick, run-nothing, run-left}
 use Rattle.machine.specs.inside.Space.{ground, opened}
@@ -51,7 +51,7 @@ module _ {C : Type 0} (g : Grammar) (w : List ℕ) (choose : Chooser C) (ws : Li
       moves-run x ∙ (run-end g w choose (callSteps w room (p ∷ S) i) p S i room c e ∙ ap (λ (k : ℕ). run g w choose k S i room c) z)
   moves-run (matched {p = p} {d = d} {i = i} x e f a) =
       let S : List ℕ = returnsOf ws base d in
-      let l = get-lt w i f in
+      let l = get-below w i f in
       let z : callSteps w room (p ∷ S) i ≡ suc (callSteps w room (suc p ∷ S) (suc i)) = omega arith in
       moves-run x
       ∙ (run-match g w choose (callSteps w room (p ∷ S) i) p S i room c e f a ∙ ap (λ (k : ℕ). run g w choose k (suc p ∷ S) (suc i) room c) z)

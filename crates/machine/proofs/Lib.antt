@@ -9,6 +9,5 @@ pub mod AdvanceLaws
 pub mod WaitLaws
 pub mod CallLaws
 pub mod SpaceLaws
-pub mod ClearLaws
 pub mod EndingLaws
 pub mod GoingLaws

@@ -7,6 +7,7 @@ use native.Mathlib.Nat.{mul-comm}
 use native.Mathlib.Omega.{arith}
 use lib.ListN.{length}
 use Rattle.base.proofs.Booleans.{clash}
+use Rattle.base.proofs.Lists.{get-below}
 use Rattle.grammar.specs.declared.Symbol.the-variants.{Nonterminal}
 use Rattle.grammar.specs.Limits.{endPlace}
 use Rattle.grammar.specs.Grammar.{Grammar, facing, first, ofPlaces}
@@ -20,7 +21,6 @@ use Rattle.derivation.specs.inside.Entries.{Open, Below}
 use Rattle.derivation.proofs.CompiledDepth.{end-quiet, compile-reads}
 use Rattle.derivation.proofs.FrameWords.{held-pop, held-match, held-room, room, returns-length}
 use Rattle.derivation.specs.inside.Entries.{FramesOpen}
-use Rattle.derivation.proofs.Notes.{get-lt}
 use Rattle.derivation.proofs.ReadyLaws.{ready-ordered, ready-call}
 use Rattle.cells.specs.inside.Chart.{Lent}
 use Rattle.machine.specs.inside.Frames.{Good}
@@ -38,7 +38,7 @@ module _ {g : Grammar} {w ws : List ℕ} {base p₀ d₀ i₀ : ℕ} where
   pub moves-position : {p d i : ℕ} → MovesOn g w ws base p₀ d₀ i₀ p d i → i₀ ≤ length w → i ≤ length w
   moves-position stay h = h
   moves-position (popped x e) h = moves-position x h
-  moves-position (matched {i = i} x e f a) h = let l = get-lt w i f in omega arith
+  moves-position (matched {i = i} x e f a) h = let l = get-below w i f in omega arith
 
   pub moves-good : {p d i : ℕ} (K : ℕ → Type 0) → MovesOn g w ws base p₀ d₀ i₀ p d i → i₀ ≤ length w → Good g w ws base K d₀ p₀ i₀
       → Good g w ws base K d p i

@@ -2,9 +2,6 @@
 use gate::Reading;
 use positions::Positions;
 ghost use mathlib.Core.Path.{_≡_};
-ghost use mathlib.Core.List.{_++_};
-ghost use Prim.Native.Nat.{_-_, _≤_};
-ghost use lib.ListN.{length, take, replicate};
 ghost use Rattle.grammar.specs.inside.Tables.{grammarIn};
 ghost use Rattle.derivation.specs.Plain.{sentence?, clear, onConclusion};
 ghost use Rattle.derivation.specs.ReachRounds.{wrongPlace};
@@ -17,19 +14,6 @@ pub enum Conclusion {
     Accepted(usize),
     Stuck,
     Full,
-}
-
-// Zeros from entry `from` on.
-pub fn clear_from(row: &mut [u16], from: usize)
-    requires { ⌜ from ≤ length (now row) ⌝ }
-    ensures { λ _. ⌜ now (row .exit) ≡ take from (now (row .entry)) ++ replicate (length (now (row .entry)) - from) 0 ⌝ }
-{
-    let n = row.len();
-    let mut k = from;
-    while k < n {
-        row[k] = 0;
-        k += 1;
-    }
 }
 
 // Whether the note is a sentence.
@@ -46,7 +30,7 @@ fn no_sentence(tables: &[u16], note: &[u16], row: &mut [u16], ws: &[u32]) -> Rea
     requires { ⌜ Given (now tables) (now note) (now ws) ⌝ }
     ensures { λ r. ⌜ answered r (now (row .exit)) ≡ clear 10 (wrongPlace (grammarIn (now (tables .entry))) (now (note .entry))) (now (row .entry)) ⌝ }
 {
-    clear_from(row, 0);
+    base::clear_from(row, 0);
     let wrong = reach::wrong_place(tables, note, ws);
     Reading::NoSentence(wrong)
 }
@@ -65,13 +49,13 @@ pub fn finish(
 {
     match outcome {
         Conclusion::Accepted(entries) => {
-            clear_from(row, entries);
+            base::clear_from(row, entries);
             Reading::Accepted(entries)
         }
         Conclusion::Stuck => no_sentence(tables, note, row, ws),
         Conclusion::Full => {
             if is_sentence(tables, note, ws) {
-                clear_from(row, 0);
+                base::clear_from(row, 0);
                 return Reading::ShortRow;
             }
             no_sentence(tables, note, row, ws)

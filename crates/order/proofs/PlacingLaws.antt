@@ -16,7 +16,8 @@ use Rattle.grammar.specs.Grammar.{Grammar}
 use Rattle.grammar.specs.inside.Tables.{grammarIn, nonterminalsIn, cornerRow}
 use Rattle.corners.specs.Corners.{move?, Cornered}
 use Rattle.derivation.specs.inside.Ready.{Ready}
-use Rattle.derivation.proofs.Pigeon.{Distinct, nil, also, pigeon}
+use Rattle.base.specs.Lists.{Distinct, nil, also}
+use Rattle.derivation.proofs.Pigeon.{pigeon}
 use Rattle.order.specs.inside.Order.{Among, Lined, InOrder}
 use Rattle.order.specs.inside.Placing.{ripeOf, Placing}
 

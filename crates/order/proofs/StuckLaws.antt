@@ -16,7 +16,8 @@ use Rattle.grammar.specs.inside.Tables.{grammarIn, nonterminalsIn, cornerRow}
 use Rattle.closures.specs.Textbook.{Move, Reaches, one, LeftRecursive}
 use Rattle.corners.specs.Corners.{Cornered}
 use Rattle.corners.proofs.LeftRecursion.{move-iff, move-to, reaches-trans}
-use Rattle.derivation.proofs.Pigeon.{Distinct, nil, also, pigeon}
+use Rattle.base.specs.Lists.{Distinct, nil, also}
+use Rattle.derivation.proofs.Pigeon.{pigeon}
 use Rattle.derivation.specs.inside.Ready.{Ready}
 use Rattle.order.specs.inside.Placing.{ripeOf}
 

@@ -36,7 +36,7 @@ fn finish(tables: &[u16], note: &[u16], row: &mut [u16], ws: &mut [u32], stop: S
     let outcome = stop.outcome;
     match outcome {
         Conclusion::Accepted(entries) => {
-            machine::ending::clear_from(row, entries);
+            base::clear_from(row, entries);
             Reading::Accepted(entries)
         }
         Conclusion::Stuck => {

@@ -10,7 +10,7 @@ use lib.Dec.{T}
 use lib.ListN.{length, getElem?}
 use borrow.Author.Tests.{not-true, not-false}
 use Rattle.base.proofs.Booleans.{clash, true→T, false→¬T}
-use Rattle.base.proofs.Lists.{Found, anyOf-T, T-anyOf}
+use Rattle.base.proofs.Lists.{Found, anyOf-T, T-anyOf, get-below}
 use Rattle.grammar.specs.declared.Symbol.the-variants.{Token, Nonterminal, End}
 use Rattle.grammar.specs.Limits.{maxPlaces}
 use Rattle.grammar.specs.Grammar.{Grammar, facing, admits, first, alternatives}
@@ -20,7 +20,6 @@ use Rattle.positions.specs.inside.Positions.{positionCount, member}
 use Rattle.derivation.specs.Cells.{derives?}
 use Rattle.derivation.specs.inside.Ready.{Ready}
 use Rattle.derivation.specs.inside.Reach.{Reach}
-use Rattle.derivation.proofs.Notes.{get-lt}
 use Rattle.derivation.proofs.RunLaws.{der-le, der-in}
 use Rattle.derivation.proofs.CellLaws.{derives-sound, derives-complete}
 use Rattle.derivation.proofs.ReadyLaws.{ready-first, ready-next, ready-size}
@@ -39,7 +38,7 @@ module _ {g : Grammar} {w : List ℕ} {p i : ℕ} where
   leads-le (return b e d x) = der-le x
 
   pub leads-in : {q j : ℕ} → i ≤ length w → Leads g w p i q j → j ≤ length w
-  leads-in l (match e d a) = get-lt w i d
+  leads-in l (match e d a) = get-below w i d
   leads-in l (call b e d) = l
   leads-in l (return b e d x) = der-in x
 

@@ -13,7 +13,8 @@ use Rattle.base.proofs.Lists.{sets-sets, sets-append}
 use Rattle.reader.specs.inside.Types.{Read, Cursor, Value, Refused, OverLimit, Trailing, Symbol}
 use Rattle.grammar.specs.Limits.{maxKinds, maxNonterminals, maxProductions, maxLength, maxPlaces}
 use Rattle.number.specs.Number.{limitedAt, symbolAt, cursor}
-use Rattle.grammar.specs.Decode.{Rules, AllOf, Legal, Production, Alternatives, Mark, mark, Parsed, got, refused, andThen, times, fromRead, limited, written}
+use Rattle.base.specs.Lists.{AllOf}
+use Rattle.grammar.specs.Decode.{Rules, Legal, Production, Alternatives, Mark, mark, Parsed, got, refused, andThen, times, fromRead, limited, written}
 use Rattle.grammar.specs.Decode.{symbol, readProduction, nonterminal, ending, decode}
 use Rattle.grammar.specs.Grammar.{at, layOne, layEach, layAll, sizeEach, sizeAll, startsEach, Limited}
 use Rattle.grammar.specs.inside.Tables.{wordOf, firstsAt, rulesAt}

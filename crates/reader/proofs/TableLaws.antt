@@ -9,7 +9,8 @@ use lib.Seq.{sets, slice, set-at, take-at, drop-at, getD-append-add, drop-drop, 
 use Rattle.base.specs.Rounds.{upFrom}
 use Rattle.reader.specs.inside.Types.{Symbol, Token, Nonterminal, End, Place}
 use Rattle.grammar.specs.Limits.{maxKinds, maxNonterminals, maxPlaces, endPlace, endMark, nobody}
-use Rattle.grammar.specs.Decode.{Rules, AllOf, Legal, Production, Alternatives}
+use Rattle.base.specs.Lists.{AllOf}
+use Rattle.grammar.specs.Decode.{Rules, Legal, Production, Alternatives}
 use Rattle.grammar.specs.Grammar.{at, nowhere, layOne, layEach, layAll, sizeEach, sizeAll, startsEach, startsAll, padded, compile, Limited}
 use Rattle.grammar.specs.inside.Tables.{codes, owners, placeWords, ruleWords, firstsAt, rulesAt, kindsAt, nonterminalsAt, sizeAt, tableWords}
 use Rattle.grammar.specs.inside.Tables.{codeOf, wordOf, placeOf}

@@ -1,12 +1,12 @@
--- `machine::ending::clear_from` meets its contract: each turn clears one entry more, and what is left to clear gives the same row.
+-- `base::clear_from` meets its contract: each turn clears one entry more, and what is left to clear gives the same row.
 use mathlib.Core.Path.{_≡_, refl}
 use Prim.Native.Nat.{_-_}
 use native.Mathlib.Omega.{arith}
 use lib.ListN.{length, length-set}
 use borrow.Author.Needs.{needs}
-use Rattle.machine.proofs.ClearLaws.{zeros, zeros-next, zeros-end}
-use Rattle.machine.proofs.ending.clear_from.Statement.{statement}
-use Rattle.machine.proofs.ending.clear_from.Tie as tie
+use Rattle.base.proofs.ClearLaws.{zeros, zeros-next, zeros-end}
+use Rattle.base.proofs.clear_from.Statement.{statement}
+use Rattle.base.proofs.clear_from.Tie as tie
 
 abbrev Inv-loop : tie.InvT-loop
 Inv-loop row₀ from n k₀ row k = (zeros (n - k) k row ≡ zeros (n - from) from row₀) × (length row ≡ length row₀)
