@@ -9,6 +9,7 @@
  *   allstar_plain     reads a note
  *   allstar_begin     makes a cache for a grammar
  *   allstar_quick     reads a note over a cache: the same answer, and faster the more the cache has learned
+ *   allstar_split     makes a note of a typed line: its words, numbers and marks become tokens
  *
  * Every call is safe for any bytes, tokens and words of any number. Memory stays the caller's: a call reads
  * what is lent as const, writes what is lent otherwise, and keeps nothing. A pointer is never null, also
@@ -24,7 +25,7 @@
 
 /* The version of this header; allstar_version() tells that of the library that is linked. */
 #define ALLSTAR_VERSION_MAJOR 1
-#define ALLSTAR_VERSION_MINOR 0
+#define ALLSTAR_VERSION_MINOR 1
 #define ALLSTAR_VERSION_PATCH 0
 #define ALLSTAR_VERSION (ALLSTAR_VERSION_MAJOR * 10000 + ALLSTAR_VERSION_MINOR * 100 + ALLSTAR_VERSION_PATCH)
 
@@ -48,7 +49,11 @@ enum allstar_number {
     ALLSTAR_SHORT_WORKSPACE = 11, /* fewer than ALLSTAR_WORKSPACE_WORDS words */
     ALLSTAR_SHORT_CACHE = 12,     /* fewer than ALLSTAR_CACHE_MIN words */
     ALLSTAR_FOREIGN_CACHE = 13,   /* the cache was not begun for these grammar bytes at this length */
-    ALLSTAR_SHORT_ROW = 14        /* the note is a sentence; its derivation has more entries than the row */
+    ALLSTAR_SHORT_ROW = 14,       /* what is to be written has more entries than the row */
+    /* A typed line, or the list lent with it, is refused. The place is a byte of the line, counted from 0. */
+    ALLSTAR_LONG_LINE = 15,       /* it has more than ALLSTAR_LINE_MAX bytes */
+    ALLSTAR_FOREIGN_BYTE = 16,    /* a byte is below 32 or above 126; the first such */
+    ALLSTAR_BAD_LIST = 17         /* not words with single blanks between, more than 66, or one of them twice */
 };
 
 /* The limits of grammars and notes. */
@@ -56,6 +61,17 @@ enum allstar_number {
 #define ALLSTAR_NONTERMINALS_MAX 32
 #define ALLSTAR_PLACES_MAX 255
 #define ALLSTAR_TOKENS_MAX 128
+
+/* The limits of typed lines: their bytes, and the words of a list. */
+#define ALLSTAR_LINE_MAX 512
+#define ALLSTAR_LISTED_MAX 66
+
+/* The kinds of a typed line's tokens: a word that is not listed, a number, the first mark and the first listed
+ * word. The 32 marks follow each other in the order of their bytes, listed words in the order of the list. */
+#define ALLSTAR_KIND_WORD 1
+#define ALLSTAR_KIND_NUMBER 2
+#define ALLSTAR_KIND_MARK 3
+#define ALLSTAR_KIND_LISTED 35
 
 #ifdef __cplusplus
 #define ALLSTAR_SIZE(number) (static_cast<size_t>(number))
@@ -176,6 +192,36 @@ uint32_t allstar_quick(const uint8_t *grammar, size_t grammar_length,
                        uint32_t *workspace, size_t workspace_length,
                        uint64_t *place, uint64_t *count);
 
+/* Makes a note of a typed line. Lent are
+ *   the line        its bytes, at most 512, without a line end
+ *   the words       the list: up to 66 words with single blanks between and nothing before or behind them, none
+ *                   of them twice; of any length. An empty list has no words
+ *   the tokens      the row that takes the kinds; any length, 0 too. 128 entries are enough for every line
+ * A letter is A to Z or a to z, a digit 0 to 9, a blank byte 32, a mark one of the other 32 bytes from 33 to
+ * 126; any other byte is foreign. From left to right, each as long as it can be: a word is a letter and all
+ * letters and digits behind it; a number all digits of a run, and where a point and at least one digit follow,
+ * the point and all digits of that run; a mark stands alone. Blanks separate. The kinds are
+ *   1               a word that is not listed
+ *   2               a number
+ *   3 to 34         a mark, by the order of the bytes: ! is 3, ~ is 34
+ *   35 to 100       a word of the list, byte for byte, by its order: the first is 35
+ * So 12ab is a number and a word, 1.2.3 a number, a point and a number, `12.` a number and a point.
+ * Answers 0 if the row holds the tokens, else the number of the refusal, the first that applies in this order:
+ *   15       the line has more than 512 bytes
+ *   17       the list is no list
+ *   16       a byte of the line is foreign
+ *   8        the line has more than 128 tokens
+ *   14       the line has more tokens than the row has entries
+ * and stores the place: for 16 the first foreign byte, counted from 0; else 0. It stores the count of tokens
+ * too, 0 where refused.
+ *
+ * The row afterwards: accepted, it holds the kinds, and zeros behind them; after 14 it holds zeros alone; after
+ * any other refusal it is untouched. */
+uint32_t allstar_split(const uint8_t *line, size_t line_length,
+                       const uint8_t *words, size_t words_length,
+                       uint16_t *tokens, size_t tokens_length,
+                       uint64_t *place, uint64_t *count);
+
 /* What a number says, in words. The string is never null and lasts for ever. */
 static inline const char *allstar_text(uint32_t number)
 {
@@ -209,7 +255,13 @@ static inline const char *allstar_text(uint32_t number)
     case ALLSTAR_FOREIGN_CACHE:
         return "the cache was not begun for this grammar at this length";
     case ALLSTAR_SHORT_ROW:
-        return "the derivation has more entries than the row";
+        return "the row is too short";
+    case ALLSTAR_LONG_LINE:
+        return "the line has more than 512 bytes";
+    case ALLSTAR_FOREIGN_BYTE:
+        return "the line has a foreign byte";
+    case ALLSTAR_BAD_LIST:
+        return "the list of words is no list";
     default:
         return "no number of this library";
     }

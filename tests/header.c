@@ -10,15 +10,19 @@ SAME(cache_max, ALLSTAR_CACHE_MAX, 329728);
 SAME(cache_of_six_slots, ALLSTAR_CACHE_WORDS(6), 3968);
 SAME(workspace_max, ALLSTAR_WORKSPACE_MAX, 271352);
 SAME(workspace_of_g1, ALLSTAR_WORKSPACE_WORDS(10, 16), 9552);
-SAME(version, ALLSTAR_VERSION, 10000);
+SAME(listed_last, ALLSTAR_KIND_LISTED + ALLSTAR_LISTED_MAX - 1, ALLSTAR_KINDS_MAX);
+SAME(version, ALLSTAR_VERSION, 10100);
 
+static const uint8_t too_long[ALLSTAR_LINE_MAX + 1] = {0};
 static uint32_t cache[ALLSTAR_CACHE_MIN], space[ALLSTAR_WORKSPACE_WORDS(10, 2)];
 
 int main(void)
 {
     const uint8_t g1[] = {2, 2, 2, 1, 3, 2, 3, 4, 2, 1, 2, 2, 2, 4};
+    const uint8_t line[] = {'k', 'g', '1', ' ', '2', '.', '5', 'a'};
+    const uint8_t list[] = {'k', 'g', '1'};
     const uint16_t note[] = {1, 2};
-    uint16_t row[2], again[2];
+    uint16_t row[2], again[2], tokens[4];
     uint64_t place, count, kinds, nonterminals, places;
     uint32_t number, other;
     if (allstar_version() != ALLSTAR_VERSION)
@@ -41,10 +45,21 @@ int main(void)
                       ALLSTAR_WORKSPACE_WORDS(places, 2), &place, &count) != ALLSTAR_OK || count != 2 ||
         memcmp(row, again, sizeof row) != 0)
         return 7;
+    if (allstar_split(line, sizeof line, list, sizeof list, tokens, 4, &place, &count) != ALLSTAR_OK || count != 3 ||
+        tokens[0] != ALLSTAR_KIND_LISTED || tokens[1] != ALLSTAR_KIND_NUMBER || tokens[2] != ALLSTAR_KIND_WORD ||
+        tokens[3] != 0)
+        return 8;
+    if (allstar_split(line, sizeof line, list, sizeof list, tokens, 2, &place, &count) != ALLSTAR_SHORT_ROW ||
+        count != 0 || tokens[0] != 0)
+        return 9;
+    if (allstar_split(too_long, sizeof too_long, list, sizeof list, tokens, 4, &place, &count) != ALLSTAR_LONG_LINE ||
+        allstar_split(too_long, ALLSTAR_LINE_MAX, list, sizeof list, tokens, 4, &place, &count) !=
+            ALLSTAR_FOREIGN_BYTE || place != 0)
+        return 10;
     /* Each number has a text of its own. */
-    for (number = 0; number <= ALLSTAR_SHORT_ROW + 1; number++)
+    for (number = 0; number <= ALLSTAR_BAD_LIST + 1; number++)
         for (other = 0; other < number; other++)
             if (strcmp(allstar_text(number), allstar_text(other)) == 0)
-                return 8;
-    return strcmp(allstar_text(99), allstar_text(ALLSTAR_SHORT_ROW + 1)) == 0 ? 0 : 9;
+                return 11;
+    return strcmp(allstar_text(99), allstar_text(ALLSTAR_BAD_LIST + 1)) == 0 ? 0 : 12;
 }

@@ -7,7 +7,8 @@
 mod tree;
 
 use allstar::{
-    calls, Cache, CacheRefusal, Grammar, GrammarRefusal, Node, NoteRefusal, Refusal, Symbol, Workspace,
+    calls, Cache, CacheRefusal, Grammar, GrammarRefusal, LineRefusal, Node, NoteRefusal, Refusal, Symbol,
+    WordList, Workspace,
 };
 use std::collections::BTreeMap;
 use std::error::Error;
@@ -30,6 +31,7 @@ fn main() {
     readings();
     caches();
     long_rows();
+    typed_lines();
     println!("surface: header, package and library say the same");
 }
 
@@ -76,7 +78,7 @@ fn declarations() {
             (name.to_string(), parameters.collect::<Vec<_>>().join(", "))
         })
         .collect();
-    assert_eq!(of_header.len(), 6);
+    assert_eq!(of_header.len(), 7);
     assert_eq!(of_header, of_package);
     assert_eq!(of_header, of_library);
 }
@@ -144,7 +146,7 @@ fn numbers() {
             Some(refusal) => {
                 assert_eq!((refusal.number(), refusal.text()), (number, text));
                 assert!(refusal.to_string().starts_with(text));
-                assert!(refusal.place() == 7 || ![1, 2, 3, 4, 5, 6, 7, 9, 10].contains(&number));
+                assert!(refusal.place() == 7 || ![1, 2, 3, 4, 5, 6, 7, 9, 10, 16].contains(&number));
                 // ALLSTAR_SHORT_ROW is `ShortRow`.
                 let words = name.trim_start_matches("ALLSTAR_").split('_');
                 let camel = words.map(|word| format!("{}{}", &word[..1], word[1..].to_lowercase()));
@@ -154,8 +156,8 @@ fn numbers() {
         }
         count += 1;
     }
-    assert_eq!(count, 15);
-    assert_eq!(Refusal::new(15, 0), None);
+    assert_eq!(count, 18);
+    assert_eq!(Refusal::new(18, 0), None);
 }
 
 /// What tests/header.c says of the header's macros.
@@ -297,4 +299,26 @@ fn long_rows() {
             Err(refusal) => assert!(!fits && refusal == NoteRefusal::ShortRow),
         };
     }
+}
+
+/// Typed lines of the package: tokens, and every refusal.
+fn typed_lines() {
+    let words = WordList::new("kg grade").unwrap();
+    assert_eq!(words.bytes(), b"kg grade");
+    assert_eq!(words.split(b"grade A: 12.5kg"), Ok(vec![36, 1, 18, 2, 35]));
+    assert_eq!(words.split(b""), Ok(vec![]));
+    assert_eq!(words.split(&[b'.'; 128]), Ok(vec![16; 128]));
+    assert_eq!(words.split(&[b'.'; 129]), Err(NoteRefusal::LongNote.into()));
+    assert_eq!(words.split(&[b' '; allstar::MAX_LINE]), Ok(vec![]));
+    assert_eq!(words.split(&[b' '; 513]), Err(LineRefusal::LongLine.into()));
+    assert_eq!(
+        words.split(b"5\t2"),
+        Err(LineRefusal::ForeignByte { byte: 1 }.into())
+    );
+    for list in ["kg  grade", " kg", "kg ", "kg kg", "1a", "k-g", " "] {
+        assert_eq!(WordList::new(list), Err(LineRefusal::BadList), "{list:?}");
+    }
+    let many: Vec<String> = (0..67).map(|nth| format!("w{nth}")).collect();
+    assert!(WordList::new(many[..allstar::MAX_LISTED].join(" ")).is_ok());
+    assert_eq!(WordList::new(many.join(" ")), Err(LineRefusal::BadList));
 }

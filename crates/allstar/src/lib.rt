@@ -5,12 +5,13 @@
 //   plain(grammar, note, row, workspace)           the note's derivation into the row, or a refusal
 //   begin(grammar, cache)                          a lookahead cache for the grammar
 //   quick(grammar, note, row, cache, workspace)    the same answer as `plain`, always, and faster the more the cache has learned
+//   split(line, words, tokens)                     the tokens of a typed line into the row `tokens`, or a refusal; the words of a list have kinds of their own
 //
 // Nobody has to check anything before a call: bytes, notes and caches may be anything, and every call looks at all it needs itself. Nothing is stored but
 // in what is lent. A derivation is the leftmost one that takes, at each step, the lowest alternative from which the whole rest of the note can still be
 // derived; the row gets the alternatives taken, counted from 1, in order, and zeros behind them.
 //
-// Answers are enums with a case for each refusal; `number()`, `place()` and, for readings, `count()` give them as numbers:
+// Answers are enums with a case for each refusal; `number()`, `place()` and, for readings and splittings, `count()` give them as numbers:
 //
 //   0    accepted                                             8    more than 128 tokens in the note
 //   1    the bytes end before the grammar does                9    a token that the grammar does not know, at place
@@ -19,9 +20,13 @@
 //   4    a symbol that does not exist                         12   cache shorter than 2,368 words
 //   5    bytes behind the grammar                             13   cache not begun for this grammar at this length
 //   6    a nonterminal that derives no row of tokens          14   a sentence whose derivation is longer than the row
-//   7    a left recursive nonterminal
+//   7    a left recursive nonterminal                         15   more than 512 bytes in the line
+//                                                             16   a foreign byte in the line, the first at place
+//                                                             17   a list that is anything but words with single blanks between, or has more than 66, or
+//                                                                  one of them twice
 //
-// After 10 and 14 the row is all zeros and the cache keeps what it learned; every other refusal leaves row and cache as they were.
+// After 10 and 14 the row is all zeros and the cache keeps what it learned; every other refusal leaves row and cache as they were. A line that makes more
+// tokens than a note may have is refused with 8, one that makes more than the row has entries with 14.
 //
 // A note of so many tokens by a grammar of so many places takes SPACE_WORDS + SPACE_WORDS_EACH * places * (tokens + 1) words of workspace; a cache of so
 // many slots has FIXED_WORDS + SLOT_WORDS * slots words, at least MIN_WORDS, and no more than MAX_SLOTS slots are used.
@@ -39,6 +44,9 @@ pub use plain::plain;
 pub use quick::quick;
 pub use soundness::Verdict;
 pub use soundness::check;
+pub use splitter::MAX_LINE;
+pub use splitter::Splitting;
+pub use splitter::split;
 pub use words::layout::FIXED_WORDS;
 pub use words::layout::MAX_SLOTS;
 pub use words::layout::MIN_WORDS;

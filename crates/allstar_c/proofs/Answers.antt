@@ -1,4 +1,4 @@
--- Measures, beginnings and readings told in numbers are the answers of the definitions.
+-- Measures, beginnings, readings and splittings told in numbers are the answers of the definitions.
 use mathlib.Core.Path.{_≡_}
 use mathlib.Core.List.{List}
 use Prim.Native.Nat.{ℕ}
@@ -12,6 +12,9 @@ use Rattle.gate.specs.declared.reading.Reading.{Reading}
 use Rattle.gate.specs.Reading.{readingNumber, readingPlace, readingCount, answered}
 use Rattle.adaptive.specs.Quick.{Reply, reply}
 use Rattle.quick.specs.inside.Replied.{replied}
+use Rattle.splitter.specs.declared.splitting.Splitting.{Splitting}
+use Rattle.splitter.specs.Splitting.{SplitAnswer, splitAnswer}
+use Rattle.splitter.specs.Contract.{splittingNumber, splittingPlace, splittingCount}
 
 pub told : (r : Reading) (row : List ℕ) {n p c : ℕ} {x : Answer} → n ≡ readingNumber r → p ≡ readingPlace r → c ≡ readingCount r
     → answered r row ≡ x
@@ -29,3 +32,8 @@ told-begun b c e f h = rw (e, f) h
 pub told-measure : (m : Measure) {n p t k q : ℕ} {x : Measure} → n ≡ measureNumber m → p ≡ measurePlace m → t ≡ measureKinds m
     → k ≡ measureNonterminals m → q ≡ measurePlaces m → m ≡ x → figures n p t k q ≡ figuresOf x
 told-measure m a b c d e h = rw (a, b, c, d, e, h)
+
+pub told-split : (r : Splitting) (row : List ℕ) {n p c : ℕ} {x : SplitAnswer} → n ≡ splittingNumber r → p ≡ splittingPlace r → c ≡ splittingCount r
+    → splitAnswer (splittingNumber r) (splittingPlace r) (splittingCount r) row ≡ x
+    → splitAnswer n p c row ≡ x
+told-split r row e f g h = rw (e, f, g) h

@@ -5,13 +5,14 @@ ghost use Rattle.soundness.specs.Check.{CheckDid};
 ghost use Rattle.words.specs.Begin.{BeginDid};
 ghost use Rattle.plain.specs.Contract.{PlainDid};
 ghost use Rattle.quick.specs.Contract.{QuickDid};
+ghost use Rattle.splitter.specs.Contract.{SplitDid};
 ghost use Rattle.measuring.specs.Measuring.{figures, figuresOf, measureOf};
 ghost use Rattle.allstar_c.specs.Version.{version};
 
 // The library's version. specs/Version has the same.
 const MAJOR: u32 = 1;
 
-const MINOR: u32 = 0;
+const MINOR: u32 = 1;
 
 const PATCH: u32 = 0;
 
@@ -74,6 +75,25 @@ pub extern "C" fn allstar_quick(
     *place = reply.place() as u64;
     *count = reply.count() as u64;
     reply.number()
+}
+
+// Makes tokens of a typed line. Answers the scope's number, 0 if the line was split, stores the place and the count of tokens, and leaves the row as
+// splitting does.
+#[no_mangle]
+pub extern "C" fn allstar_split(
+    line: &[u8],
+    words: &[u8],
+    tokens: &mut [u16],
+    place: &mut u64,
+    count: &mut u64,
+) -> u32
+    ensures { λ r. ⌜ SplitDid (now (line .entry)) (now (words .entry)) (now (tokens .entry))
+        r (now (place .exit)) (now (count .exit)) (now (tokens .exit)) ⌝ }
+{
+    let splitting = splitter::split(line, words, tokens);
+    *place = splitting.place() as u64;
+    *count = splitting.count() as u64;
+    splitting.number()
 }
 
 // Measures a grammar. Answers the check's number, 0 if it is sound, and stores the place and the highest token kind, the number of nonterminals and the

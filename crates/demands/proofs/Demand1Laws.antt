@@ -1,6 +1,6 @@
 -- DEMAND 1 of the calls, of the row and the cache: what is refused before the note is read leaves both as they were, and behind that there are 0, 10 and 14.
-use mathlib.Core.Path.{_≡_, refl, sym, subst, ap, _∙_}
-use mathlib.Core.Logic.{_⊎_, inl, inr}
+use mathlib.Core.Path.{_≡_, refl, sym, subst}
+use mathlib.Core.Logic.{inl, inr}
 use mathlib.Core.Bool.{Bool, true, false, cond}
 use mathlib.Core.List.{List}
 use Prim.Native.Nat.{ℕ}
@@ -8,7 +8,7 @@ use native.Mathlib.Omega.{arith}
 use lib.Dec.{ltb}
 use lib.ListN.{length}
 use borrow.Author.Tests.{ltb-true, ltb-false}
-use Rattle.base.proofs.Booleans.{clash, true→T}
+use Rattle.base.proofs.Booleans.{true→T}
 use Rattle.grammar.specs.Decode.{Rules, Mark, got, decode}
 use Rattle.grammar.specs.Grammar.{Grammar, compile}
 use Rattle.reader.proofs.ReadLaws.{decode-limited}
@@ -24,7 +24,7 @@ use Rattle.words.specs.Begin.{Begun, begun, beginWords, begin12, beginning, beg
 use Rattle.adaptive.specs.Quick.{Reply, reply, quickNote, overCache, quickReading}
 use Rattle.adaptive.proofs.QuickLaws.{over-12, over-13, over-begun}
 use Rattle.adaptive.proofs.TeachLaws.{note-reads, note-one, note-extends}
-use Rattle.demands.specs.Demand1.{Clears, Came, RowAfter, CacheLearned, CacheAfter, Demand1}
+use Rattle.demands.specs.Demand1.{Clears, Came, RowAfter, CacheAfter, Demand1}
 
 -- ---- the row
 abbrev RowOf : List ℕ → Answer → Type 0
@@ -44,7 +44,7 @@ accepted-row : (d row : List ℕ) → RowOf row (accept d row)
 accepted-row d row = record { untouched = λ q. absurd (q (inl refl)); zeros = λ q. absurd (not-cleared q); uncounted = λ q. absurd (q refl) }
 
 -- 10 and 14, or accepted
-came : (g : Grammar) (w row : List ℕ) (o : Conclusion) → Came (onConclusion g w row o .number) × RowOf row (onConclusion g w row o)
+pub came : (g : Grammar) (w row : List ℕ) (o : Conclusion) → Came (onConclusion g w row o .number) × RowOf row (onConclusion g w row o)
 unfolding onConclusion
 came g w row (accepted d) = (inl refl, accepted-row d row)
 came g w row stuck = (inr (inl refl), cleared-row 10 (wrongPlace g w) row (inl refl))

@@ -17,13 +17,13 @@ use Rattle.lines.proofs.LineLaws.{at-blank, at-digit, at-other}
 use Rattle.lines.specs.Line.{maxLineTokens, maxDigits, maxToken, maxKeptBytes, blank, fits?, grown, put, tokenEnded, tokensFrom, few, lineOf}
 
 -- ---- keeping a byte
-pub kept-full : (s : List ℕ) (k b : ℕ) → maxKeptBytes ≤ k → k ≤ maxKeptBytes → maxKeptBytes ≤ length s → take k s ≡ take maxKeptBytes (take k s ++ (b ∷ []))
-kept-full s k b h l e = sym (take-at (take k s) (b ∷ []) maxKeptBytes (omega (arith, length-take k s)))
+pub kept-full : (s : List ℕ) (k b : ℕ) → length s ≤ k → k ≤ length s → take k s ≡ take (length s) (take k s ++ (b ∷ []))
+kept-full s k b h l = sym (take-at (take k s) (b ∷ []) (length s) (omega (arith, length-take k s)))
 
-pub kept-more : (s : List ℕ) (k b : ℕ) → k < maxKeptBytes → maxKeptBytes ≤ length s → take (k + 1) (set s k b) ≡ take maxKeptBytes (take k s ++ (b ∷ []))
-kept-more s k b h e =
+pub kept-more : (s : List ℕ) (k b : ℕ) → k < length s → take (k + 1) (set s k b) ≡ take (length s) (take k s ++ (b ∷ []))
+kept-more s k b h =
     rw (add-one k, take-suc-set s k b (omega arith))
-    (sym (take-all maxKeptBytes (take k s ++ (b ∷ [])) (omega (arith, length-append (take k s) (b ∷ []), length-take k s))))
+    (sym (take-all (length s) (take k s ++ (b ∷ [])) (omega (arith, length-append (take k s) (b ∷ []), length-take k s))))
 
 -- ---- a good line is short
 ended-some : (d v : ℕ) (o : Option (List ℕ)) {w : List ℕ} → tokenEnded d v o ≡ some w → (u : List ℕ) × (o ≡ some u) × (length w ≡ suc (length u))

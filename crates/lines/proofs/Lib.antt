@@ -4,3 +4,4 @@ pub mod KeptLaws
 pub mod CountLaws
 pub mod LineCases
 pub mod OpenLaws
+pub mod HeadedLaws

@@ -4,7 +4,6 @@ use mathlib.Core.Bool.{cond}
 use mathlib.Core.List.{List, [], _∷_, _++_}
 use lib.ListN.{take}
 use lib.Dec.{eqb}
-use Rattle.lines.specs.Line.{maxKeptBytes}
 
 -- the byte that ends a line
 abbrev pub lineEnd : ℕ
@@ -14,9 +13,9 @@ lineEnd = 10
 unfoldable pub openOn : List ℕ → ℕ → List ℕ
 openOn o b = cond (eqb b lineEnd) [] (o ++ (b ∷ []))
 
--- what is kept of it after one more byte: no more than maxKept
-unfoldable pub keptOn : List ℕ → ℕ → List ℕ
-keptOn k b = cond (eqb b lineEnd) [] (take maxKeptBytes (k ++ (b ∷ [])))
+-- what is kept of it after one more byte: no more than m bytes
+unfoldable pub keptOn : ℕ → List ℕ → ℕ → List ℕ
+keptOn m k b = cond (eqb b lineEnd) [] (take m (k ++ (b ∷ [])))
 
 -- the open line after these bytes: those behind the last line's end, and where there is none, what was open before them too
 unfoldable pub openAfter : List ℕ → List ℕ → List ℕ
@@ -24,8 +23,8 @@ unfolding openOn
 openAfter o [] = o
 openAfter o (b ∷ s) = openAfter (openOn o b) s
 
--- what is kept of it after these bytes; proofs/OpenLaws: the first maxKept bytes of the open line, which say what the whole of it says
-unfoldable pub keptAfter : List ℕ → List ℕ → List ℕ
+-- what is kept of it after these bytes; proofs/OpenLaws: the first m bytes of the open line
+unfoldable pub keptAfter : ℕ → List ℕ → List ℕ → List ℕ
 unfolding keptOn
-keptAfter k [] = k
-keptAfter k (b ∷ s) = keptAfter (keptOn k b) s
+keptAfter m k [] = k
+keptAfter m k (b ∷ s) = keptAfter m (keptOn m k b) s

@@ -1,9 +1,9 @@
-// The lines of the program `notes`: what a line's bytes say, and the part of a line that is kept while it is read.
+// The lines of the programs: what a line of `notes` says, and the part of a line that is kept while it is read.
 ghost use mathlib.Core.Path.{_≡_};
 ghost use mathlib.Core.List.{_++_, _∷_, []};
 ghost use Prim.Native.Nat.{_≤_};
 ghost use lib.ListN.{length, take};
-ghost use Rattle.lines.specs.Line.{maxLineTokens, maxKeptBytes, lineOf};
+ghost use Rattle.lines.specs.Line.{maxLineTokens, lineOf};
 ghost use Rattle.lines.specs.inside.Parsed.{noteIn, lineCount};
 
 // The most tokens of a line, the most digits of a token, and the highest token. specs/Line has the same.
@@ -82,11 +82,11 @@ pub fn parse(line: &[u8], note: &mut [u16]) -> Line
 
 // Keeps one more byte of a line, if there is room, and answers how many are kept.
 pub fn keep(line: &mut [u8], kept: usize, byte: u8) -> usize
-    requires { ⌜ (kept ≤ maxKeptBytes) × (maxKeptBytes ≤ length (now line)) ⌝ }
-    ensures { λ r. ⌜ take r (now (line .exit)) ≡ take maxKeptBytes (take kept (now (line .entry)) ++ (byte ∷ [])) ⌝ }
-    ensures { λ r. ⌜ r ≤ maxKeptBytes ⌝ }
+    requires { ⌜ kept ≤ length (now line) ⌝ }
+    ensures { λ r. ⌜ take r (now (line .exit)) ≡ take (length (now (line .entry))) (take kept (now (line .entry)) ++ (byte ∷ [])) ⌝ }
+    ensures { λ r. ⌜ r ≤ length (now (line .entry)) ⌝ }
 {
-    if KEPT_BYTES <= kept {
+    if line.len() <= kept {
         return kept;
     }
     line[kept] = byte;

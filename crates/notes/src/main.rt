@@ -76,8 +76,8 @@ fn answer(line: &[u8], cache: &mut [u32], space: &mut [u32]) {
 
 // One byte more: a line that it ends is answered, and answers how many bytes are kept of the line that is open then.
 fn step(byte: u8, line: &mut [u8], kept: usize, cache: &mut [u32], space: &mut [u32]) -> usize
-    requires { ⌜ (kept ≤ maxKeptBytes) × (maxKeptBytes ≤ length (now line)) ⌝ }
-    ensures { λ r. ⌜ take r (now (line .exit)) ≡ keptOn (take kept (now (line .entry))) byte ⌝ }
+    requires { ⌜ (kept ≤ maxKeptBytes) × (length (now line) ≡ maxKeptBytes) ⌝ }
+    ensures { λ r. ⌜ take r (now (line .exit)) ≡ keptOn maxKeptBytes (take kept (now (line .entry))) byte ⌝ }
     ensures { λ r. ⌜ r ≤ maxKeptBytes ⌝ }
 {
     if byte != 10 {
@@ -89,8 +89,8 @@ fn step(byte: u8, line: &mut [u8], kept: usize, cache: &mut [u32], space: &mut [
 
 // The bytes of one reading of the input. What is then kept of the open line says what all of it says (`kept-open-says` of `lines`).
 fn feed(bytes: &[u8], line: &mut [u8], kept: usize, cache: &mut [u32], space: &mut [u32]) -> usize
-    requires { ⌜ (kept ≤ maxKeptBytes) × (maxKeptBytes ≤ length (now line)) ⌝ }
-    ensures { λ r. ⌜ take r (now (line .exit)) ≡ keptAfter (take kept (now (line .entry))) (now (bytes .entry)) ⌝ }
+    requires { ⌜ (kept ≤ maxKeptBytes) × (length (now line) ≡ maxKeptBytes) ⌝ }
+    ensures { λ r. ⌜ take r (now (line .exit)) ≡ keptAfter maxKeptBytes (take kept (now (line .entry))) (now (bytes .entry)) ⌝ }
     ensures { λ r. ⌜ r ≤ maxKeptBytes ⌝ }
 {
     let n = bytes.len();

@@ -40,14 +40,14 @@ pub struct Measure {
     pub places: u64,
 }
 
-/// What [`plain`] and [`quick`] answer.
+/// What [`plain`], [`quick`] and [`split`] answer.
 #[derive(Clone, Copy, Debug, PartialEq, Eq)]
 pub struct Answer {
     /// 0, or the number of the refusal.
     pub number: u32,
     /// The place of the refusal, or 0.
     pub place: u64,
-    /// How many entries of the row are the derivation; 0 where refused.
+    /// How many entries of the row are the derivation, or the line's tokens; 0 where refused.
     pub count: u64,
 }
 
@@ -180,6 +180,29 @@ pub fn quick(
             cache.len(),
             workspace.as_mut_ptr(),
             workspace.len(),
+            &mut place,
+            &mut count,
+        )
+    };
+    Answer { number, place, count }
+}
+
+/// Makes a note of a typed line: writes the kinds of its words, numbers and marks to `tokens`. The words of the
+/// list have kinds of their own.
+#[inline]
+pub fn split(line: &[u8], words: &[u8], tokens: &mut [u16]) -> Answer {
+    let (mut place, mut count) = (NONE, NONE);
+    // SAFETY: line and words are valid for reads and the tokens for reads and writes of that many elements (an
+    // empty slice has a non-null, dangling pointer), `place` and `count` are valid for a write, no two of them
+    // overlap, and the library keeps none.
+    let number = unsafe {
+        ffi::allstar_split(
+            line.as_ptr(),
+            line.len(),
+            words.as_ptr(),
+            words.len(),
+            tokens.as_mut_ptr(),
+            tokens.len(),
             &mut place,
             &mut count,
         )

@@ -50,4 +50,15 @@ extern "C" {
         place: *mut u64,
         count: *mut u64,
     ) -> u32;
+
+    pub fn allstar_split(
+        line: *const u8,
+        line_length: usize,
+        words: *const u8,
+        words_length: usize,
+        tokens: *mut u16,
+        tokens_length: usize,
+        place: *mut u64,
+        count: *mut u64,
+    ) -> u32;
 }

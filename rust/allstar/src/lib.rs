@@ -18,8 +18,9 @@
 //!
 //! A [`Grammar`] is checked bytes. A [`Cache`] belongs to a grammar and learns; [`Grammar::read`] does
 //! without one. A [`Workspace`] is what readings work in; it sizes itself. A [`Reading`] has the derivation,
-//! as a row of alternatives and as a tree. Refusals are enums with a case for each, and errors. [`calls`] has
-//! the calls of the library as they are, for whoever wants to lend his own memory.
+//! as a row of alternatives and as a tree. A [`WordList`] makes notes of typed lines. Refusals are enums with a
+//! case for each, and errors. [`calls`] has the calls of the library as they are, for whoever wants to lend his
+//! own memory.
 //!
 //! The package links `liballstar_c.a`: with cargo, its build script finds it; with `rustc` alone, the command
 //! says where it is.
@@ -33,13 +34,21 @@ mod ffi;
 mod grammar;
 mod reading;
 mod refusal;
+mod word_list;
 mod workspace;
 
 pub use cache::{cache_words, Cache};
 pub use grammar::{Grammar, Symbol};
 pub use reading::{Node, Reading};
-pub use refusal::{CacheRefusal, GrammarRefusal, NoteRefusal, Refusal};
+pub use refusal::{CacheRefusal, GrammarRefusal, LineRefusal, NoteRefusal, Refusal};
+pub use word_list::WordList;
 pub use workspace::{workspace_words, Workspace};
 
 /// The most tokens that a note may have.
 pub const MAX_TOKENS: usize = 128;
+
+/// The most bytes that a typed line may have.
+pub const MAX_LINE: usize = 512;
+
+/// The most words that a list may have.
+pub const MAX_LISTED: usize = 66;

@@ -1,4 +1,4 @@
-//! Why something is refused: the numbers 1 to 14 of the library, with their places.
+//! Why something is refused: the numbers 1 to 17 of the library, with their places.
 
 use std::error::Error;
 use std::fmt;
@@ -72,6 +72,20 @@ pub enum CacheRefusal {
     ForeignCache,
 }
 
+/// Why a typed line, or the list lent with it, is refused. Bytes count from 0.
+#[derive(Clone, Copy, Debug, PartialEq, Eq, Hash)]
+pub enum LineRefusal {
+    /// 15: the line has more than 512 bytes.
+    LongLine,
+    /// 16: a byte of the line is below 32 or above 126.
+    ForeignByte {
+        /// The first such.
+        byte: usize,
+    },
+    /// 17: the list is anything but words with single blanks between, has more than 66, or one of them twice.
+    BadList,
+}
+
 /// Any refusal: what all the others turn into by `?`.
 #[derive(Clone, Copy, Debug, PartialEq, Eq, Hash)]
 pub enum Refusal {
@@ -83,6 +97,8 @@ pub enum Refusal {
     ShortWorkspace,
     /// 12 and 13: of a cache.
     Cache(CacheRefusal),
+    /// 15 to 17: of a typed line.
+    Line(LineRefusal),
 }
 
 impl Refusal {
@@ -105,11 +121,14 @@ impl Refusal {
             12 => CacheRefusal::ShortCache.into(),
             13 => CacheRefusal::ForeignCache.into(),
             14 => NoteRefusal::ShortRow.into(),
+            15 => LineRefusal::LongLine.into(),
+            16 => LineRefusal::ForeignByte { byte: at }.into(),
+            17 => LineRefusal::BadList.into(),
             _ => return None,
         })
     }
 
-    /// The library's number, 1 to 14.
+    /// The library's number, 1 to 17.
     pub fn number(self) -> u32 {
         self.parts().0
     }
@@ -125,7 +144,7 @@ impl Refusal {
     }
 
     fn parts(self) -> (u32, usize, &'static str) {
-        use {CacheRefusal::*, GrammarRefusal::*, NoteRefusal::*};
+        use {CacheRefusal::*, GrammarRefusal::*, LineRefusal::*, NoteRefusal::*};
         match self {
             Refusal::Grammar(it) => match it {
                 Unfinished { byte } => (1, byte, "the bytes end before the grammar does"),
@@ -140,12 +159,17 @@ impl Refusal {
                 LongNote => (8, 0, "the note has more than 128 tokens"),
                 UnknownToken { token } => (9, token, "the grammar does not know a token of the note"),
                 NotASentence { token } => (10, token, "the note is no sentence"),
-                ShortRow => (14, 0, "the derivation has more entries than the row"),
+                ShortRow => (14, 0, "the row is too short"),
             },
             Refusal::ShortWorkspace => (11, 0, "the working space is too short"),
             Refusal::Cache(it) => match it {
                 ShortCache => (12, 0, "the cache is too short"),
                 ForeignCache => (13, 0, "the cache was not begun for this grammar at this length"),
+            },
+            Refusal::Line(it) => match it {
+                LongLine => (15, 0, "the line has more than 512 bytes"),
+                ForeignByte { byte } => (16, byte, "the line has a foreign byte"),
+                BadList => (17, 0, "the list of words is no list"),
             },
         }
     }
@@ -155,7 +179,7 @@ impl fmt::Display for Refusal {
     fn fmt(&self, out: &mut fmt::Formatter) -> fmt::Result {
         let (number, place, text) = self.parts();
         match number {
-            1..=5 => write!(out, "{text}, at byte {place}"),
+            1..=5 | 16 => write!(out, "{text}, at byte {place}"),
             6 | 7 => write!(out, "{text}: {place}"),
             9 | 10 => write!(out, "{text}, at token {place}"),
             _ => write!(out, "{text}"),
@@ -165,7 +189,7 @@ impl fmt::Display for Refusal {
 
 impl Error for Refusal {}
 
-/// What each of the three kinds takes from [`Refusal`].
+/// What each of the four kinds takes from [`Refusal`].
 macro_rules! kinds {
     ($($case:ident $kind:ident),*) => { $(
         impl $kind {
@@ -191,4 +215,4 @@ macro_rules! kinds {
     )* };
 }
 
-kinds!(Grammar GrammarRefusal, Note NoteRefusal, Cache CacheRefusal);
+kinds!(Grammar GrammarRefusal, Note NoteRefusal, Cache CacheRefusal, Line LineRefusal);

@@ -1,5 +1,4 @@
--- `lines::keep` meets its contract: where there is room the byte is stored behind those that are kept; where there is none, the first maxKept bytes stay as
--- they are.
+-- `lines::keep` meets its contract: where there is room the byte is stored behind those that are kept; where there is none, they stay as they are.
 use native.Mathlib.Omega.{arith}
 use Rattle.lines.proofs.KeptLaws.{kept-full, kept-more}
 use borrow.Author.Needs.{needs}
@@ -7,7 +6,7 @@ use Rattle.lines.proofs.keep.Statement.{statement}
 use Rattle.lines.proofs.keep.Tie as tie
 
 returns : tie.Need-returns
-returns c = (kept-full (c .before .args .line .now) (c .before .args .kept) (c .before .args .byte) (omega arith) (omega arith) (omega arith), omega arith)
+returns c = (kept-full (c .before .args .line .now) (c .before .args .kept) (c .before .args .byte) (omega arith) (omega arith), omega arith)
 
 slice-write-line : tie.Need-slice-write-line
 slice-write-line c = search needs
@@ -19,7 +18,7 @@ same-length : tie.Need-same-length
 same-length c = search needs
 
 returns-2 : tie.Need-returns-2
-returns-2 c = (kept-more (c .before .args .line .now) (c .before .args .kept) (c .before .args .byte) (omega arith) (omega arith), omega arith)
+returns-2 c = (kept-more (c .before .args .line .now) (c .before .args .kept) (c .before .args .byte) (omega arith), omega arith)
 
 pub keep-spec : {M : Type 1} → statement M
 keep-spec = tie.close (tie.spec returns slice-write-line add-result same-length returns-2)

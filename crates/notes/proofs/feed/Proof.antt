@@ -13,7 +13,7 @@ use Rattle.notes.proofs.feed.Tie as tie
 abbrev Inv-loop : tie.InvT-loop
 Inv-loop bytes line₀ kept cache₀ space₀ n k₀ i₀ line cache space k i = (k ≤ maxKeptBytes) × (length line ≡ length line₀)
     × (length cache ≡ length cache₀) × (length space ≡ length space₀)
-    × (keptAfter (take k line) (drop i bytes) ≡ keptAfter (take kept line₀) bytes)
+    × (keptAfter maxKeptBytes (take k line) (drop i bytes) ≡ keptAfter maxKeptBytes (take kept line₀) bytes)
 
 abbrev μ-loop : tie.MeasureT-loop
 μ-loop bytes line₀ kept cache₀ space₀ n k₀ i₀ line cache space k i = n - i
@@ -42,7 +42,7 @@ loop-again c =
       omega arith,
       omega arith,
       omega arith,
-      feed-on _ _ _ _ (at-loop .loop .inv .4) (at-loop-test .loop-test .taken) (at-step .step .ensures .0),
+      feed-on _ _ _ _ _ (at-loop .loop .inv .4) (at-loop-test .loop-test .taken) (at-step .step .ensures .0),
     )
 
 same-length : tie.Need-same-length Inv-loop μ-loop
@@ -55,7 +55,7 @@ same-length-3 : tie.Need-same-length-3 Inv-loop μ-loop
 same-length-3 c = search needs
 
 returns : tie.Need-returns Inv-loop μ-loop
-returns c = (feed-end _ _ _ _ (c .before .loop .inv .4) (c .loop-test .left), c .before .loop .inv .0)
+returns c = (feed-end _ _ _ _ _ (c .before .loop .inv .4) (c .loop-test .left), c .before .loop .inv .0)
 
 pub feed-spec : {M : Type 1} → statement M
 feed-spec =

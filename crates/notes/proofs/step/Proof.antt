@@ -17,7 +17,8 @@ returns : tie.Need-returns
 returns c =
     let at-keep = c .before .before in
     let at-if = at-keep .before .before in
-    (kept-byte _ _ (at-if .if1 .taken) (at-keep .keep .ensures .0), at-keep .keep .ensures .1)
+    let at-entry = at-if .before .before .before .before in
+    (kept-byte _ _ _ (at-if .if1 .taken) (rw (at-entry .pre .1) at (at-keep .keep .ensures .0)), omega arith)
 
 slice-reshare-prefix-answer : tie.Need-slice-reshare-prefix-answer
 slice-reshare-prefix-answer c = search needs
@@ -41,7 +42,7 @@ returns-2 : tie.Need-returns-2
 returns-2 c =
     let at-answer = c .before .before .before .before in
     let at-if = at-answer .before .before .before .before in
-    (kept-end _ _ (at-if .if1 .left), omega arith)
+    (kept-end _ _ _ (at-if .if1 .left), omega arith)
 
 pub step-spec : {M : Type 1} → statement M
 step-spec =

@@ -1,0 +1,2 @@
+-- Laws on what the program keeps.
+pub mod KeptLaws

@@ -1,0 +1,2 @@
+-- How much of its input the program keeps.
+pub mod Sizes
