@@ -40,6 +40,10 @@ true→T b e = subst T (sym e) tt
 pub false→¬T : (b : Bool) → b ≡ false → ¬ T b
 false→¬T b e t = rw e at t
 
+pub ¬T→false : (b : Bool) → ¬ T b → b ≡ false
+¬T→false true h = absurd (h tt)
+¬T→false false h = refl
+
 -- two tests that imply each other are equal
 pub same : (a b : Bool) → (T a → T b) → (T b → T a) → a ≡ b
 same true true h k = refl

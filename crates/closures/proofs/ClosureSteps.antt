@@ -13,16 +13,17 @@ use lib.Seq.{slice, slice-cons}
 use borrow.Author.Tests.{not-true, not-false}
 use Rattle.base.specs.Bits.{testBit, setBit}
 use Rattle.base.specs.Rounds.{anyOf}
-use Rattle.base.proofs.Booleans.{or-T, T-or-r, true→T, T→true}
+use Rattle.base.proofs.Booleans.{clash, or-T, T-or-r, true→T, T→true}
 use Rattle.base.proofs.Bits.{test-set, test-none, test-below, set-ge}
 use Rattle.grammar.specs.declared.Symbol.{Symbol}
 use Rattle.grammar.specs.declared.Symbol.the-variants.{Token, Nonterminal, End}
 use Rattle.grammar.specs.Grammar.{Grammar, suffix, facing}
+use Rattle.grammar.specs.Limits.{maxNonterminals}
 use Rattle.grammar.specs.inside.Tables.{placeWords, cornersAt, grammarIn, nonterminalsIn, ruleAt, TablesFit}
 use Rattle.grammar.proofs.WordLaws.{facing-past, alternatives-in}
 use Rattle.closures.specs.Closures.{passes, passesBy, derivingRound, deriving?}
-use Rattle.closures.specs.inside.Steps.{judgedStep, passOf, Derivers, DerivingIs}
-use Rattle.closures.proofs.Deriving.{passes-place, round-within, deriving-exact}
+use Rattle.closures.specs.inside.Steps.{judgedStep, Confined, Empties, passOf, Derivers, DerivingIs}
+use Rattle.closures.proofs.Deriving.{passes-place, round-within, deriving-exact, deriving-iff}
 
 -- ---- along a production
 module _ (t : List ℕ) (tokens : Bool) (x first p : ℕ)
@@ -57,7 +58,7 @@ module _ (t : List ℕ) (tokens : Bool) (x first p : ℕ)
 
 -- ---- over the productions of a nonterminal
 module _ (t : List ℕ) (P : ℕ → Bool) (k e : ℕ) where
-  any-next : k < e → e ≤ length t → anyOf P (slice k e t) ≡ (P (getD t k 0) || anyOf P (slice (k + 1) e t))
+  pub any-next : k < e → e ≤ length t → anyOf P (slice k e t) ≡ (P (getD t k 0) || anyOf P (slice (k + 1) e t))
   unfolding anyOf
   any-next l h = rw (add-one, slice-cons k e t 0 l h)
 
@@ -97,6 +98,10 @@ module _ (tokens : Bool) (g : Grammar) (a x : ℕ) {b : Bool} (e : b ≡ testBit
     pub step-stays : d ≡ false → x ≡ judgedStep tokens g a x
     unfolding judgedStep
     step-stays l = rw (sym e ∙ h, sym f ∙ l)
+
+  pub step-cannot : b ≡ false → (n can : ℕ) {d : Bool} → Confined tokens g n can → a < n → d ≡ testBit can a → not d ≡ true → x ≡ judgedStep tokens g a x
+  unfolding Confined
+  step-cannot h n can {d} s l f z = step-stays h (sym (s a l (sym f ∙ not-true d z) (testBit x))) refl
 
 -- ---- a pass, from the last nonterminal to the first
 pub pass-more : (tokens : Bool) (g : Grammar) (a x : ℕ) {y r : ℕ} → 0 < a → passOf tokens g a x ≡ y → r ≡ judgedStep tokens g (a - 1) x
@@ -144,10 +149,6 @@ module _ (tokens : Bool) (g : Grammar) where
   pub pass-keeps : (n x : ℕ) {r : ℕ} → r ≡ passOf tokens g n x → Derivers tokens g x → Derivers tokens g r
   pass-keeps n x e s = rw e (pass-derives n x s)
 
-  pub derivers-none : Derivers tokens g 0
-  unfolding Derivers
-  derivers-none a t = absurd (rw test-none at t)
-
   -- a pass that adds nothing leaves nothing to add
   step-same : (n x : ℕ) → passOf tokens g n x ≡ x → (a : ℕ) → a < n → judgedStep tokens g a x ≡ x
   unfolding passOf
@@ -176,3 +177,29 @@ module _ (tokens : Bool) (g : Grammar) where
   pub closure-full : (n x : ℕ) → length (g .starts) ≡ n → Derivers tokens g x → x ≡ 2 ^ n - 1 → DerivingIs tokens g x
   unfolding DerivingIs Derivers
   closure-full n x m s e = deriving-exact tokens g (testBit x) s (λ a l t. true→T (testBit x a) (rw e (test-below n a (omega (arith, m)))))
+
+-- ---- what the closure begins with
+none-derives : (tokens : Bool) (g : Grammar) → Derivers tokens g 0
+unfolding Derivers
+none-derives tokens g a t = absurd (rw test-none at t)
+
+-- an empty production derives the empty row
+pub empties-derive : (g : Grammar) (n x : ℕ) → Empties g n x → Derivers false g x
+unfolding Derivers
+empties-derive g n x h a t = round-within false g (testBit 0) (none-derives false g) a (h .has a t)
+
+-- without one nothing does
+pub none-empty : (g : Grammar) (n x : ℕ) → length (g .starts) ≡ n → Empties g n x → x ≡ 0 → DerivingIs false g 0
+unfolding DerivingIs Derivers
+none-empty g n x m h e =
+    deriving-exact false g (testBit 0) (none-derives false g) (λ a l t. let s = h .all a (omega (arith, m)) t in rw e at s)
+
+-- what derives the empty row derives a row
+pub nullable-derive : (g : Grammar) (x : ℕ) → DerivingIs false g x → Derivers true g x
+unfolding DerivingIs Derivers
+nullable-derive g x h a t = let d = deriving-iff false g a .0 (rw (h a) at t) in deriving-iff true g a .1 (d .0, tt, d .2)
+
+-- all nonterminals that there can be
+pub confined-all : (tokens : Bool) (g : Grammar) (n : ℕ) → n ≤ maxNonterminals → Confined tokens g n (2 ^ maxNonterminals - 1)
+unfolding Confined
+confined-all tokens g n h a l e X = let y : true ≡ false = sym (test-below maxNonterminals a (omega arith)) ∙ e in clash (cc)

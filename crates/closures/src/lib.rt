@@ -2,4 +2,5 @@
 mod closure;
 mod rounds;
 
-pub use closure::derivers;
+pub use closure::nullable;
+pub use closure::productive;

@@ -176,19 +176,21 @@ pub corners-are : (nullable : ℕ) (g : Grammar) (n : ℕ) (rows : List ℕ) →
 unfolding MoveRows Corners
 corners-are nullable g n rows d h a c l = moves-are nullable g a (getD rows a 0) d (h a l) c
 
+-- what a row holds
+pub row-is : (g : Grammar) (n : ℕ) (rows : List ℕ) → Corners g n rows → (a : ℕ) → a < n → (c : ℕ) → holds rows a c ≡ move? g a c
+unfolding Corners
+row-is g n rows h a l c = h a c l
+
 -- ---- so the rows are right
 module _ (g : Grammar) (n : ℕ) (rows : List ℕ) (e : n ≡ length (g .starts)) (named : (a c : ℕ) → Move (ofPlaces g) a c → c < n) (few : n ≤ length rows)
     (h : Corners g n rows) where
-  row-is : (a : ℕ) → a < n → (c : ℕ) → holds rows a c ≡ move? g a c
-  unfolding Corners
-  row-is a l c = h a c l
-
   pub reached : (a : ℕ) → a < n → holds (reachOf n n rows) a a ≡ leftRecursive? g a
   reached a l =
       rows-recursive g (holds (reachOf n n rows)) a
       (rows-exact-below g (holds (reachOf n n rows))
       (λ a c m. omega (arith, e, named a c m))
-      (λ a c la lc t. reach-keeps n n rows few a c (omega (arith, e)) (rw (row-is a (omega (arith, e)) c) t))
+      (λ a c la lc t. reach-keeps n n rows few a c (omega (arith, e)) (rw (row-is g n rows h a (omega (arith, e)) c) t))
       (λ a b c la lb lc s t. reach-closed n n rows few (omega arith) a b c (omega (arith, e)) (omega (arith, e)) (omega (arith, e)) s t)
-      (λ a c la t. reach-sound n g n rows few (omega arith) (λ a c la t. one (move-iff g a c .0 (rw (row-is a la c) at t))) a c (omega (arith, e)) t)
+      (λ a c la t. reach-sound n g n rows few (omega arith) (λ a c la t. one (move-iff g a c .0 (rw (row-is g n rows h a la c) at t))) a c
+      (omega (arith, e)) t)
       a (omega (arith, e)) a)

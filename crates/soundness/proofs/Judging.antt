@@ -29,9 +29,11 @@ use Rattle.corners.specs.Corners.{Corners, Cornered, leftRecursive?}
 use Rattle.soundness.specs.Check.{lowestUnproductive, lowestLeftRecursive, refuseAt, unproductiveOf, leftRecursiveOf, judgeOf, onDecoded, checkOf}
 use Rattle.closures.specs.inside.Steps.{DerivingIs}
 use Rattle.corners.specs.inside.Steps.{reachOf}
+use Rattle.corners.specs.inside.Ending.{AllEnd}
 use Rattle.soundness.specs.inside.Compiled.{Judgement, Compiled}
 use Rattle.corners.proofs.LeftRecursion.{move-to}
 use Rattle.corners.proofs.Warshall.{reached}
+use Rattle.corners.proofs.EndingLaws.{own-recursive}
 
 -- ---- 6
 pub unproductive-is : (t : List ℕ) (x n : ℕ) → DerivingIs true (grammarIn t) x → n ≡ nonterminalsIn t
@@ -43,19 +45,35 @@ unproductive-is t x n d e =
     ∙ ap (lowestFrom (λ a. not (deriving? true (grammarIn t) a)) 0) (e ∙ sym (length-starts-in t)))
 
 -- ---- 7
-pub recursive-is : (t : List ℕ) → TablesFit t → (n : ℕ) (rows : List ℕ) → n ≡ nonterminalsIn t → length rows ≡ maxNonterminals
-    → Corners (grammarIn t) (nonterminalsIn t) rows → {after : List ℕ} → after ≡ reachOf n n rows
-    → refuseAt LeftRecursive (lowestFrom (λ a. testBit (getD after a 0) a) 0 n) ≡ leftRecursiveOf (grammarIn t)
+-- by rows of which each holds its own nonterminal if and only if that is left recursive
+recursive-by : (t : List ℕ) (n : ℕ) (rows : List ℕ) → n ≡ length (grammarIn t .starts)
+    → ((a : ℕ) → a < n → testBit (getD rows a 0) a ≡ leftRecursive? (grammarIn t) a)
+    → refuseAt LeftRecursive (lowestFrom (λ a. testBit (getD rows a 0) a) 0 n) ≡ leftRecursiveOf (grammarIn t)
 unfolding leftRecursiveOf lowestLeftRecursive
-recursive-is t f n rows e l h {after} q =
-    let g : Grammar = grammarIn t in
-    let m : n ≡ length (g .starts) = e ∙ sym (length-starts-in t) in
-    let named : (a c : ℕ) → Move (ofPlaces g) a c → c < n = λ a c v. let (p, u) = move-to g v in omega (arith, e, f .named p c u) in
-    let rows-n : Corners g n rows = rw e h in
+recursive-by t n rows m h =
     ap (refuseAt LeftRecursive)
-    (lowest-same (λ a. testBit (getD after a 0) a) (leftRecursive? g) 0 n
-    (λ a k b. ap (λ (r : List ℕ). testBit (getD r a 0) a) q ∙ reached g n rows m named (omega (arith, l, e, f .few)) rows-n a (omega (arith, b)))
-    ∙ ap (lowestFrom (leftRecursive? g) 0) m)
+    (lowest-same (λ a. testBit (getD rows a 0) a) (leftRecursive? (grammarIn t)) 0 n (λ a k b. h a (omega (arith, b)))
+    ∙ ap (lowestFrom (leftRecursive? (grammarIn t)) 0) m)
+
+module _ (t : List ℕ) (n : ℕ) (rows : List ℕ) (e : n ≡ nonterminalsIn t) (h : Corners (grammarIn t) (nonterminalsIn t) rows) where
+  starts-n : n ≡ length (grammarIn t .starts)
+  starts-n = e ∙ sym (length-starts-in t)
+
+  rows-n : Corners (grammarIn t) n rows
+  rows-n = rw e h
+
+  -- the rows as they are, where moves end
+  pub recursive-own : AllEnd rows n → refuseAt LeftRecursive (lowestFrom (λ a. testBit (getD rows a 0) a) 0 n) ≡ leftRecursiveOf (grammarIn t)
+  recursive-own d = recursive-by t n rows starts-n (own-recursive (grammarIn t) n rows starts-n rows-n d)
+
+  -- the rows closed
+  pub recursive-is : TablesFit t → length rows ≡ maxNonterminals → {after : List ℕ} → after ≡ reachOf n n rows
+      → refuseAt LeftRecursive (lowestFrom (λ a. testBit (getD after a 0) a) 0 n) ≡ leftRecursiveOf (grammarIn t)
+  recursive-is f l {after} q =
+      let g : Grammar = grammarIn t in
+      let named : (a c : ℕ) → Move (ofPlaces g) a c → c < n = λ a c v. let (p, u) = move-to g v in omega (arith, e, f .named p c u) in
+      recursive-by t n after starts-n
+      (λ a k. ap (λ (r : List ℕ). testBit (getD r a 0) a) q ∙ reached g n rows starts-n named (omega (arith, l, e, f .few)) rows-n a k)
 
 -- ---- 6 before 7
 module _ (t₀ : List ℕ) (f : TablesFit t₀) {v : Verdict} (e : v ≡ unproductiveOf (grammarIn t₀)) where

@@ -2,14 +2,16 @@
 use number::Read;
 use number::Refusal;
 ghost use mathlib.Core.Path.{_≡_};
-ghost use mathlib.Core.Bool.{not};
+ghost use mathlib.Core.Bool.{false, not};
 ghost use Prim.Native.Nat.{_≤_};
 ghost use lib.ListN.{length, getD, replicate};
 ghost use Rattle.base.specs.Bits.{testBit};
 ghost use Rattle.base.specs.Search.{lowestFrom};
 ghost use Rattle.grammar.specs.Limits.{maxNonterminals};
-ghost use Rattle.grammar.specs.inside.Tables.{grammarIn, TablesFit, SameTables, tableWords};
+ghost use Rattle.grammar.specs.inside.Tables.{grammarIn, nonterminalsIn, TablesFit, SameTables, tableWords};
+ghost use Rattle.closures.specs.inside.Steps.{DerivingIs};
 ghost use Rattle.corners.specs.Corners.{Cornered};
+ghost use Rattle.corners.specs.inside.Steps.{MoveRows};
 ghost use Rattle.soundness.specs.Check.{refuseAt, unproductiveOf, leftRecursiveOf, judgeOf, verdictNumber, verdictPlace, CheckDid};
 ghost use Rattle.soundness.specs.inside.Compiled.{Judgement, Compiled};
 
@@ -71,28 +73,32 @@ fn lowest_own(rows: &[u32], n: usize) -> Verdict
     Verdict::Sound
 }
 
-// Refusal 6.
-fn unproductive(tables: &[u16]) -> Verdict
-    requires { ⌜ TablesFit (now tables) ⌝ }
+// Refusal 6. Those that derive the empty row are known.
+fn unproductive(tables: &[u16], nullable: u32) -> Verdict
+    requires { ⌜ TablesFit (now tables) × DerivingIs false (grammarIn (now tables)) nullable ⌝ }
     ensures { λ r. ⌜ r ≡ unproductiveOf (grammarIn (now (tables .entry))) ⌝ }
 {
-    let productive = closures::derivers(tables, true);
+    let productive = closures::productive(tables, nullable);
     let n = grammar::nonterminals(tables);
     lowest_missing(productive, n)
 }
 
-// Refusal 7; the left corners, by which it is found, stay in the tables.
-fn left_recursive(tables: &mut [u16]) -> Verdict
-    requires { ⌜ TablesFit (now tables) ⌝ }
+// Refusal 7. The rows come with what stands first in productions, and become the left corners, which stay in the tables. Most grammars need no closure of
+// them.
+fn left_recursive(tables: &mut [u16], nullable: u32, rows: &mut [u32]) -> Verdict
+    requires { ⌜ TablesFit (now tables) × DerivingIs false (grammarIn (now tables)) nullable × (length (now rows) ≡ maxNonterminals)
+        × MoveRows 0 (grammarIn (now tables)) (nonterminalsIn (now tables)) (now rows) ⌝ }
     ensures { λ r. ⌜ (r ≡ leftRecursiveOf (grammarIn (now (tables .entry))))
         × SameTables (now (tables .entry)) (now (tables .exit)) × Cornered (now (tables .exit)) ⌝ }
 {
     let n = grammar::nonterminals(tables);
-    let mut rows = [0u32; grammar::MAX_NONTERMINALS];
-    corners::corners(tables, &mut rows);
-    corners::store(tables, &rows);
-    corners::reach(&mut rows, n);
-    lowest_own(&rows, n)
+    corners::corners(tables, nullable, rows);
+    corners::store(tables, rows);
+    if corners::all_end(rows, n) {
+        return lowest_own(rows, n);
+    }
+    corners::reach(rows, n);
+    lowest_own(rows, n)
 }
 
 // 6, and then 7.
@@ -100,10 +106,12 @@ fn judge(tables: &mut [u16]) -> Verdict
     requires { ⌜ TablesFit (now tables) ⌝ }
     ensures { λ r. ⌜ Judgement r (judgeOf (grammarIn (now (tables .entry)))) (now (tables .entry)) (now (tables .exit)) ⌝ }
 {
-    let first = unproductive(tables);
+    let mut rows = [0u32; grammar::MAX_NONTERMINALS];
+    let nullable = corners::nullable(tables, &mut rows);
+    let first = unproductive(tables, nullable);
     match first {
         Verdict::Refused(r) => Verdict::Refused(r),
-        Verdict::Sound => left_recursive(tables),
+        Verdict::Sound => left_recursive(tables, nullable, &mut rows),
     }
 }
 

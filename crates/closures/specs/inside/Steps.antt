@@ -17,6 +17,15 @@ use Rattle.closures.specs.Closures.{passes, derivingRound, deriving?}
 unfoldable pub judgedStep : Bool → Grammar → ℕ → ℕ → ℕ
 judgedStep tokens g a x = cond (testBit x a) x (cond (derivingRound tokens g (testBit x) a) (setBit x a) x)
 
+-- no production of a nonterminal outside `can` passes, whatever set passes
+unfoldable pub Confined : Bool → Grammar → ℕ → ℕ → Type 0
+Confined tokens g n can = (a : ℕ) → a < n → testBit can a ≡ false → (X : ℕ → Bool) → derivingRound tokens g X a ≡ false
+
+-- x is the set of those below n that have an empty production: one that passes though nothing else does
+pub record Empties (g : Grammar) (n x : ℕ) : Type 0 where
+  pub has : (a : ℕ) → T (testBit x a) → T (derivingRound false g (testBit 0) a)
+  pub all : (a : ℕ) → a < n → T (derivingRound false g (testBit 0) a) → T (testBit x a)
+
 -- the nonterminals below a, the last first
 unfoldable pub passOf : Bool → Grammar → ℕ → ℕ → ℕ
 passOf tokens g zero x = x

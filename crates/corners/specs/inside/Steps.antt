@@ -1,6 +1,6 @@
 -- What the loops of the code do, turn by turn. Internal: proofs/ says that the ends are those of Corners.
 use mathlib.Core.Path.{_≡_}
-use mathlib.Core.Bool.{cond, _||_}
+use mathlib.Core.Bool.{Bool, false, cond, _||_}
 use mathlib.Core.List.{List}
 use Prim.Native.Nat.{ℕ, zero, suc, _≤_, _<_}
 use lib.ListN.{length, getD, set}
@@ -12,6 +12,8 @@ use Rattle.grammar.specs.declared.Symbol.{Symbol}
 use Rattle.grammar.specs.Grammar.{Grammar, alternatives, suffix}
 use Rattle.grammar.specs.Limits.{maxNonterminals}
 use Rattle.grammar.specs.inside.Tables.{TablesFit, SameTables, cornerRow}
+use Rattle.closures.specs.Closures.{derivingRound}
+use Rattle.closures.specs.inside.Steps.{Empties}
 use Rattle.corners.specs.Corners.{leads}
 
 -- r is x with what stands in the list behind only members of `nullable`
@@ -26,6 +28,18 @@ MovesFrom nullable g a r = (c : ℕ) → testBit r c ≡ anyOf (λ f. leads (tes
 unfoldable pub MoveRows : ℕ → Grammar → ℕ → List ℕ → Type 0
 unfolding MovesFrom
 MoveRows nullable g n rows = (a : ℕ) → a < n → MovesFrom nullable g a (getD rows a 0)
+
+-- `row` is the set of what stands first in the productions of a, and `empty` says whether one of them is empty
+abbrev pub FirstIs : Grammar → ℕ → ℕ → Bool → Type 0
+FirstIs g a row empty = MovesFrom 0 g a row × (empty ≡ derivingRound false g (testBit 0) a)
+
+-- the same of each nonterminal below n: a row for what stands first, and the set of those with an empty production
+abbrev pub FirstsAre : Grammar → ℕ → ℕ → List ℕ → Type 0
+FirstsAre g n empty rows = MoveRows 0 g n rows × Empties g n empty
+
+-- x holds every nonterminal below n whose row holds anything
+unfoldable pub LedIs : List ℕ → ℕ → ℕ → Type 0
+LedIs rows n x = (a : ℕ) → a < n → testBit x a ≡ false → getD rows a 0 ≡ 0
 
 -- what storing rows starts from: tables that fit, and a row for each nonterminal that there can be
 pub record Storing (t rows : List ℕ) : Type 0 where

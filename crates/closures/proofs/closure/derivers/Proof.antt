@@ -5,15 +5,15 @@ use mathlib.Core.Path.{sym, _∙_}
 use Rattle.grammar.specs.inside.Tables.{grammarIn}
 use Rattle.grammar.proofs.WordLaws.{length-starts-in}
 use Rattle.closures.specs.inside.Steps.{Derivers}
-use Rattle.closures.proofs.ClosureSteps.{derivers-none, pass-keeps, closure-exact, closure-full}
+use Rattle.closures.proofs.ClosureSteps.{pass-keeps, closure-exact, closure-full}
 use Rattle.closures.proofs.closure.derivers.Statement.{statement}
 use Rattle.closures.proofs.closure.derivers.Tie as tie
 
 abbrev Inv-loop : tie.InvT-loop
-Inv-loop tables tokens n all set₀ left₀ set left = Derivers tokens (grammarIn tables) set
+Inv-loop tables tokens can from n all set₀ left₀ set left = Derivers tokens (grammarIn tables) set
 
 abbrev μ-loop : tie.MeasureT-loop
-μ-loop tables tokens n all set₀ left₀ set left = left
+μ-loop tables tokens can from n all set₀ left₀ set left = left
 
 nonterminals-requires : tie.Need-nonterminals-requires Inv-loop μ-loop
 nonterminals-requires c κs = search needs
@@ -22,7 +22,7 @@ below-requires : tie.Need-below-requires Inv-loop μ-loop
 below-requires c κs = search needs
 
 loop-holds : tie.Need-loop-holds Inv-loop μ-loop
-loop-holds c = derivers-none _ _
+loop-holds c = let at-entry = c .before .before .before in at-entry .pre .2
 
 pass-requires : tie.Need-pass-requires Inv-loop μ-loop
 pass-requires c κs = search needs

@@ -9,14 +9,14 @@ use Rattle.closures.proofs.closure.pass.Statement.{statement}
 use Rattle.closures.proofs.closure.pass.Tie as tie
 
 abbrev Inv-loop : tie.InvT-loop
-Inv-loop tables tokens from set₀ a₀ set a =
+Inv-loop tables tokens can from set₀ a₀ set a =
     (a ≤ nonterminalsIn tables) × (passOf tokens (grammarIn tables) a set ≡ passOf tokens (grammarIn tables) (nonterminalsIn tables) from)
 
 abbrev μ-loop : tie.MeasureT-loop
-μ-loop tables tokens from set₀ a₀ set a = a
+μ-loop tables tokens can from set₀ a₀ set a = a
 
 nonterminals-requires : tie.Need-nonterminals-requires Inv-loop μ-loop
-nonterminals-requires c κs = c .before .pre .long
+nonterminals-requires c κs = c .before .pre .0 .long
 
 loop-holds : tie.Need-loop-holds Inv-loop μ-loop
 loop-holds c =
@@ -31,7 +31,7 @@ sub-a c = omega arith
 step-requires : tie.Need-step-requires Inv-loop μ-loop
 step-requires c κs =
     let at-entry = c .before .before .before .before in
-    (at-entry .pre, omega arith)
+    (at-entry .pre .0, omega arith, at-entry .pre .1)
 
 loop-less : tie.Need-loop-less Inv-loop μ-loop
 loop-less c = omega arith

@@ -1,8 +1,9 @@
--- `soundness::judgement::left_recursive` meets its contract: rows that say where one move leads, closed by Warshall, say where one or more do, so a row that
--- holds its own nonterminal is left recursion; and before they are closed they are stored, behind all that the tables say.
+-- `soundness::judgement::left_recursive` meets its contract: if moves end from every nonterminal, a nonterminal is left recursive if its row, which says where
+-- one move leads, holds it; rows closed by Warshall say where one or more moves lead, so of those it is always true. Before that the rows are stored, behind
+-- all that the tables say.
 use mathlib.Core.Path.{_∙_}
 use Rattle.corners.proofs.StoreLaws.{stored-corners}
-use Rattle.soundness.proofs.Judging.{recursive-is}
+use Rattle.soundness.proofs.Judging.{recursive-own, recursive-is}
 use borrow.Author.Needs.{needs}
 use Rattle.soundness.proofs.judgement.left_recursive.Statement.{statement}
 use Rattle.soundness.proofs.judgement.left_recursive.Tie as tie
@@ -10,26 +11,14 @@ use Rattle.soundness.proofs.judgement.left_recursive.Tie as tie
 nonterminals-requires : tie.Need-nonterminals-requires
 nonterminals-requires c κs = search needs
 
-slice-aggregate-corners : tie.Need-slice-aggregate-corners
-slice-aggregate-corners c = search needs
-
 corners-requires : tie.Need-corners-requires
 corners-requires c κs = search needs
-
-slice-aggregate-store : tie.Need-slice-aggregate-store
-slice-aggregate-store c = search needs
 
 store-requires : tie.Need-store-requires
 store-requires c κs = search needs
 
-slice-aggregate-reach : tie.Need-slice-aggregate-reach
-slice-aggregate-reach c = search needs
-
-reach-requires : tie.Need-reach-requires
-reach-requires c κs = search needs
-
-slice-aggregate-lowest-own : tie.Need-slice-aggregate-lowest-own
-slice-aggregate-lowest-own c = search needs
+all-end-requires : tie.Need-all-end-requires
+all-end-requires c κs = search needs
 
 lowest-own-requires : tie.Need-lowest-own-requires
 lowest-own-requires c κs = search needs
@@ -37,16 +26,48 @@ lowest-own-requires c κs = search needs
 same-length : tie.Need-same-length
 same-length c = search needs
 
+same-length-2 : tie.Need-same-length-2
+same-length-2 c = search needs
+
 returns : tie.Need-returns
 returns c =
-    let at-reach = c .before .before .before in
-    let at-store = at-reach .before .before .before .before in
-    let at-corners = at-store .before .before .before .before in
+    let at-if1 = c .before .before in
+    let at-all-end = at-if1 .before in
+    let at-store = at-all-end .before .before .before .before in
+    let at-corners = at-store .before .before .before .before .before in
     let at-nonterminals = at-corners .before .before .before in
-    let at-entry = at-nonterminals .before .before .before in
     let corners = at-corners .corners .ensures in
     let stored = at-store .store .ensures in (
-      c .lowest-own .ensures ∙ recursive-is _ (at-entry .pre) _ _ (at-nonterminals .nonterminals .ensures) (at-corners .corners .kept .1 .0) corners
+      c .lowest-own .ensures
+          ∙ recursive-own _ _ _ (at-nonterminals .nonterminals .ensures) corners (at-all-end .all-end .ensures (at-if1 .if1 .taken)),
+      stored .kept,
+      stored-corners _ _ _ corners stored,
+    )
+
+reach-requires : tie.Need-reach-requires
+reach-requires c κs = search needs
+
+lowest-own-requires-2 : tie.Need-lowest-own-requires-2
+lowest-own-requires-2 c κs = search needs
+
+same-length-3 : tie.Need-same-length-3
+same-length-3 c = search needs
+
+same-length-4 : tie.Need-same-length-4
+same-length-4 c = search needs
+
+returns-2 : tie.Need-returns-2
+returns-2 c =
+    let at-reach = c .before .before .before .before in
+    let at-all-end = at-reach .before .before .before in
+    let at-store = at-all-end .before .before .before .before in
+    let at-corners = at-store .before .before .before .before .before in
+    let at-nonterminals = at-corners .before .before .before in
+    let at-entry = at-nonterminals .before .before .before .before in
+    let corners = at-corners .corners .ensures in
+    let stored = at-store .store .ensures in (
+      c .lowest-own2 .ensures
+          ∙ recursive-is _ _ _ (at-nonterminals .nonterminals .ensures) corners (at-entry .pre .0) (at-corners .corners .kept .1 .1 .0 ∙ at-entry .pre .2)
           (at-reach .reach .ensures),
       stored .kept,
       stored-corners _ _ _ corners stored,
@@ -57,13 +78,15 @@ left-recursive-spec =
     tie.close
     (tie.spec
     nonterminals-requires
-    slice-aggregate-corners
     corners-requires
-    slice-aggregate-store
     store-requires
-    slice-aggregate-reach
-    reach-requires
-    slice-aggregate-lowest-own
+    all-end-requires
     lowest-own-requires
     same-length
-    returns)
+    same-length-2
+    returns
+    reach-requires
+    lowest-own-requires-2
+    same-length-3
+    same-length-4
+    returns-2)

@@ -6,8 +6,8 @@ use borrow.Author.Needs.{needs}
 use Rattle.soundness.proofs.judgement.unproductive.Statement.{statement}
 use Rattle.soundness.proofs.judgement.unproductive.Tie as tie
 
-derivers-requires : tie.Need-derivers-requires
-derivers-requires c κs = search needs
+productive-requires : tie.Need-productive-requires
+productive-requires c κs = search needs
 
 nonterminals-requires : tie.Need-nonterminals-requires
 nonterminals-requires c κs = search needs
@@ -17,9 +17,9 @@ lowest-missing-requires c κs = search needs
 
 returns : tie.Need-returns
 returns c =
-    let at-derivers = c .before .before in
-    c .lowest-missing .ensures ∙ unproductive-is _ _ _ (at-derivers .derivers .ensures) (c .before .nonterminals .ensures)
+    let at-productive = c .before .before in
+    c .lowest-missing .ensures ∙ unproductive-is _ _ _ (at-productive .productive .ensures) (c .before .nonterminals .ensures)
 
 pub unproductive-spec : {M : Type 1} → statement M
 unproductive-spec =
-    tie.close (tie.spec derivers-requires nonterminals-requires lowest-missing-requires returns)
+    tie.close (tie.spec productive-requires nonterminals-requires lowest-missing-requires returns)

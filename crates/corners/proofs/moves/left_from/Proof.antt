@@ -1,4 +1,4 @@
--- `corners::left_from` meets its contract: what the set and the rest of the production lead to together is what the whole leads to; a token, an end or a
+-- `corners::moves::left_from` meets its contract: what the set and the rest of the production lead to together is what the whole leads to; a token, an end or a
 -- nonterminal that is not nullable ends it.
 use borrow.Author.Needs.{needs}
 use Prim.Native.Nat.{_-_}
@@ -6,8 +6,8 @@ use native.Mathlib.Omega.{arith}
 use Rattle.grammar.specs.inside.Tables.{placeWords}
 use Rattle.grammar.proofs.WordLaws.{facing-of}
 use Rattle.corners.proofs.LeftSteps.{Onward, left-end, left-token, left-past, left-stops, left-goes}
-use Rattle.corners.proofs.left_from.Statement.{statement}
-use Rattle.corners.proofs.left_from.Tie as tie
+use Rattle.corners.proofs.moves.left_from.Statement.{statement}
+use Rattle.corners.proofs.moves.left_from.Tie as tie
 
 abbrev Inv-loop : tie.InvT-loop
 Inv-loop tables nullable first from set₀ p₀ set p = Onward tables nullable first from set p

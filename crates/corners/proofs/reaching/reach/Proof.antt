@@ -1,4 +1,4 @@
--- `corners::reach` meets its contract: the rows are closed through every nonterminal below b, as in `reachOf`; an empty row joins nothing.
+-- `corners::reaching::reach` meets its contract: the rows are closed through every nonterminal below b, as in `reachOf`; an empty row joins nothing.
 use borrow.Author.Needs.{needs}
 use mathlib.Core.Path.{_≡_, refl, ap, _∙_}
 use Prim.Native.Nat.{ℕ, _≤_, _-_}
@@ -6,8 +6,8 @@ use native.Mathlib.Omega.{arith}
 use lib.ListN.{length}
 use Rattle.corners.specs.inside.Steps.{reachOf}
 use Rattle.corners.proofs.LeftSteps.{reach-pivot, reach-empty}
-use Rattle.corners.proofs.reach.Statement.{statement}
-use Rattle.corners.proofs.reach.Tie as tie
+use Rattle.corners.proofs.reaching.reach.Statement.{statement}
+use Rattle.corners.proofs.reaching.reach.Tie as tie
 
 abbrev Inv-loop : tie.InvT-loop
 Inv-loop rows₀ n b₀ rows b = (b ≤ n) × (length rows ≡ length rows₀) × (rows ≡ reachOf n b rows₀)

@@ -1,8 +1,8 @@
--- `corners::joined` meets its contract: each of the two ways out is one case of `cond`.
+-- `corners::reaching::joined` meets its contract: each of the two ways out is one case of `cond`.
 use borrow.Author.Needs.{needs}
 use mathlib.Core.Path.{sym, _∙_}
-use Rattle.corners.proofs.joined.Statement.{statement}
-use Rattle.corners.proofs.joined.Tie as tie
+use Rattle.corners.proofs.reaching.joined.Statement.{statement}
+use Rattle.corners.proofs.reaching.joined.Tie as tie
 
 has-requires : tie.Need-has-requires
 has-requires c κs = search needs

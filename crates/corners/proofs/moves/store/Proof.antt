@@ -1,11 +1,11 @@
--- `corners::store` meets its contract: the rows below a are stored, and a turn stores that of a and touches neither another row nor what the tables say.
+-- `corners::moves::store` meets its contract: the rows below a are stored, and a turn stores that of a and touches neither another row nor what the tables say.
 use borrow.Author.Needs.{needs}
 use Prim.Native.Nat.{_≤_, _-_}
 use native.Mathlib.Omega.{arith}
 use Rattle.corners.specs.inside.Steps.{Stored}
 use Rattle.corners.proofs.StoreLaws.{stored-none, stored-more, stored-upto}
-use Rattle.corners.proofs.store.Statement.{statement}
-use Rattle.corners.proofs.store.Tie as tie
+use Rattle.corners.proofs.moves.store.Statement.{statement}
+use Rattle.corners.proofs.moves.store.Tie as tie
 
 abbrev Inv-loop : tie.InvT-loop
 Inv-loop tables₀ rows n a₀ tables a = (a ≤ n) × Stored tables₀ rows a tables

@@ -1,11 +1,11 @@
--- `corners::moves` meets its contract: what the set and the productions from k on lead to together is what all of them lead to.
+-- `corners::moves::moves` meets its contract: what the set and the productions from k on lead to together is what all of them lead to.
 use borrow.Author.Needs.{needs}
 use Prim.Native.Nat.{_-_}
 use native.Mathlib.Omega.{arith}
 use Rattle.closures.proofs.ClosureSteps.{rule-within}
 use Rattle.corners.proofs.LeftSteps.{Rest, moves-begin, moves-next, moves-done}
-use Rattle.corners.proofs.moves.Statement.{statement}
-use Rattle.corners.proofs.moves.Tie as tie
+use Rattle.corners.proofs.moves.moves.Statement.{statement}
+use Rattle.corners.proofs.moves.moves.Tie as tie
 
 abbrev Inv-loop : tie.InvT-loop
 Inv-loop tables nullable a start end set₀ k₀ set k = Rest tables nullable a end set k

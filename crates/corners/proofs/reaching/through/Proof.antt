@@ -1,4 +1,4 @@
--- `corners::through` meets its contract: the rows below a are joined, as in `pivotBelow`.
+-- `corners::reaching::through` meets its contract: the rows below a are joined, as in `pivotBelow`.
 use borrow.Author.Needs.{needs}
 use mathlib.Core.Path.{_≡_, refl, ap, _∙_}
 use Prim.Native.Nat.{ℕ, _≤_, _-_}
@@ -6,8 +6,8 @@ use native.Mathlib.Omega.{arith}
 use lib.ListN.{length, length-set}
 use Rattle.corners.specs.inside.Steps.{pivotBelow}
 use Rattle.corners.proofs.LeftSteps.{through-more}
-use Rattle.corners.proofs.through.Statement.{statement}
-use Rattle.corners.proofs.through.Tie as tie
+use Rattle.corners.proofs.reaching.through.Statement.{statement}
+use Rattle.corners.proofs.reaching.through.Tie as tie
 
 abbrev Inv-loop : tie.InvT-loop
 Inv-loop rows₀ n row b a₀ rows a = (a ≤ n) × (length rows ≡ length rows₀) × (rows ≡ pivotBelow row b a rows₀)
