@@ -68,21 +68,36 @@ fn cases() -> Vec<(&'static str, Vec<u8>)> {
         ("no bytes", Vec::new()),
         ("delivery, last byte missing", cut),
         ("delivery, a byte more", followed),
+        ("cycle to and fro", cycle(&to_and_fro).encode()),
+        ("ordinary, last one recursive", recursive().encode()),
+        (
+            "recursive chain to and fro",
+            recursive_chain(&to_and_fro).encode(),
+        ),
         ("ordinary, last one barren", barren().encode()),
         (
             "barren chain to and fro",
             barren_chain(&to_and_fro).encode(),
         ),
-        ("cycle to and fro", cycle(&to_and_fro).encode()),
     ]
 }
 
-/// The ordinary grammar with a last nonterminal that derives no row.
-fn barren() -> Grammar {
+/// The ordinary grammar with a last nonterminal that derives no row, since each of its productions begins with it.
+fn recursive() -> Grammar {
     let mut grammar = ordinary();
     for production in &mut grammar.rules[31] {
         production[0] = nonterminal(31);
     }
+    grammar
+}
+
+/// The same, but its only production ends with it, behind tokens.
+fn barren() -> Grammar {
+    let mut grammar = ordinary();
+    let places: usize = grammar.rules[31].iter().map(|production| production.len() + 1).sum();
+    let mut production = vec![token(1); places - 2];
+    production.push(nonterminal(31));
+    grammar.rules[31] = vec![production];
     grammar
 }
 
@@ -107,9 +122,14 @@ fn nullable_chain(order: &[usize]) -> Grammar {
     chain(order, vec![vec![]])
 }
 
-/// None derives a row, except the last by its tokens.
-fn barren_chain(order: &[usize]) -> Grammar {
+/// None derives a row, except the last by its tokens; the first is itself.
+fn recursive_chain(order: &[usize]) -> Grammar {
     chain(order, vec![vec![nonterminal(order[0])]])
+}
+
+/// The same, but the first is a token and itself.
+fn barren_chain(order: &[usize]) -> Grammar {
+    chain(order, vec![vec![token(1), nonterminal(order[0])]])
 }
 
 /// A way back from the first to the last: all are left recursive.

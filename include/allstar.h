@@ -25,7 +25,7 @@
 
 /* The version of this header; allstar_version() tells that of the library that is linked. */
 #define ALLSTAR_VERSION_MAJOR 1
-#define ALLSTAR_VERSION_MINOR 1
+#define ALLSTAR_VERSION_MINOR 2
 #define ALLSTAR_VERSION_PATCH 0
 #define ALLSTAR_VERSION (ALLSTAR_VERSION_MAJOR * 10000 + ALLSTAR_VERSION_MINOR * 100 + ALLSTAR_VERSION_PATCH)
 
@@ -98,8 +98,9 @@ extern "C" {
 /* The version of the library: major * 10000 + minor * 100 + patch. */
 uint32_t allstar_version(void);
 
-/* Checks a grammar. Answers 0 if it is sound, else the number of the refusal, 1 to 7, and stores the place: a
- * byte for 1 to 5, a nonterminal for 6 and 7, else 0. */
+/* Checks a grammar. Answers 0 if it is sound, else the number of the refusal, and stores the place: a byte for
+ * 1 to 5, a nonterminal for 7 and 6, else 0. 1 to 5 are given as the bytes come, then 7, then 6: a grammar that
+ * has a left recursive nonterminal and one that derives no row is refused with 7. */
 uint32_t allstar_check(const uint8_t *grammar, size_t length, uint64_t *place);
 
 /* Checks a grammar and measures it. Answers and stores the place as allstar_check does. If the grammar is
@@ -114,8 +115,8 @@ uint32_t allstar_measure(const uint8_t *grammar, size_t length, uint64_t *place,
  *                   part of (L - 2048) / 320, at most 1024: so many states can be learned, and longer caches
  *                   hold no more. The shortest has one slot, 2,368 words; 329,728 words have 1,024
  * Answers 0 if the cache has begun, else the number of the refusal, the first that applies in this order:
- *   1 to 7   the grammar, as in allstar_check
- *   12       the cache has fewer than 2,368 words
+ *   1 to 5, 7, 6   the grammar, as in allstar_check
+ *   12             the cache has fewer than 2,368 words
  * and stores the place: as in allstar_check for 1 to 7, else 0.
  *
  * The cache afterwards: begun, each of its words is settled, whatever it held: it holds the grammar bytes and
@@ -136,12 +137,12 @@ uint32_t allstar_begin(const uint8_t *grammar, size_t grammar_length, uint32_t *
  *                   grammar and note. It may hold anything before the call and holds anything after it
  * Answers 0 if the note is a sentence and its derivation fits the row, else the number of the refusal, the
  * first that applies in this order:
- *   1 to 7   the grammar, as in allstar_check
- *   8        the note has more than 128 tokens
- *   9        a token is 0 or above the grammar's highest kind
- *   11       the workspace is too short
- *   10       the note is no sentence
- *   14       the note is a sentence, and its derivation has more entries than the row
+ *   1 to 5, 7, 6   the grammar, as in allstar_check
+ *   8              the note has more than 128 tokens
+ *   9              a token is 0 or above the grammar's highest kind
+ *   11             the workspace is too short
+ *   10             the note is no sentence
+ *   14             the note is a sentence, and its derivation has more entries than the row
  * and stores the place: as in allstar_check for 1 to 7; for 9 the first such token, counted from 0; for 10
  * the first token that no sentence allows there, or note_length if the note breaks off; else 0. It stores the
  * count of entries too, 0 where refused.
@@ -166,14 +167,14 @@ uint32_t allstar_plain(const uint8_t *grammar, size_t grammar_length,
  *                   holds anything after it
  * Answers 0 if the note is a sentence and its derivation fits the row, else the number of the refusal, the
  * first that applies in this order:
- *   1 to 7   the grammar, as in allstar_check
- *   8        the note has more than 128 tokens
- *   9        a token is 0 or above the grammar's highest kind
- *   11       the workspace is too short
- *   12       the cache has fewer than 2,368 words
- *   13       the cache was not begun for these grammar bytes at this length
- *   10       the note is no sentence
- *   14       the note is a sentence, and its derivation has more entries than the row
+ *   1 to 5, 7, 6   the grammar, as in allstar_check
+ *   8              the note has more than 128 tokens
+ *   9              a token is 0 or above the grammar's highest kind
+ *   11             the workspace is too short
+ *   12             the cache has fewer than 2,368 words
+ *   13             the cache was not begun for these grammar bytes at this length
+ *   10             the note is no sentence
+ *   14             the note is a sentence, and its derivation has more entries than the row
  * and stores the place and the count of entries, as in allstar_plain; the place is 0 for 12 and 13. Where 12
  * and 13 do not apply and the cache is as told above, number, place, count and row are those of
  * allstar_plain, whatever was learned.

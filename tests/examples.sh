@@ -24,7 +24,7 @@ printf '\201\0' > "$work/2"
 printf '\145' > "$work/3"
 printf '\1\1\1\1\0' > "$work/4"
 printf '\1\1\1\0\0' > "$work/5"
-printf '\1\1\1\1\1' > "$work/6"
+printf '\1\1\1\2\2\1' > "$work/6"
 printf '\1\2\2\3\3\1\2\1\2\1\0' > "$work/7"
 {
     printf '\1\40'

@@ -200,12 +200,13 @@ fn grammars() {
         GrammarRefusal::UnknownSymbol { byte: 4 }
     );
     assert_eq!(refusal(&[1, 1, 1, 0, 0]), GrammarRefusal::Trailing { byte: 4 });
-    assert_eq!(
-        refusal(&[1, 1, 1, 1, 1]),
-        GrammarRefusal::Unproductive { nonterminal: 0 }
-    );
     let recursive = GrammarRefusal::LeftRecursive { nonterminal: 0 };
     assert_eq!(refusal(&[1, 2, 2, 3, 3, 1, 2, 1, 2, 1, 0]), recursive);
+    assert_eq!(refusal(&[1, 1, 1, 1, 1]), recursive);
+    assert_eq!(
+        refusal(&[1, 1, 1, 2, 2, 1]),
+        GrammarRefusal::Unproductive { nonterminal: 0 }
+    );
     let error: Box<dyn Error> = recursive.into();
     assert_eq!(error.to_string(), "a nonterminal is left recursive: 0");
 }

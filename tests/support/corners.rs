@@ -1,23 +1,29 @@
-//! Corners of refusals 6 and 7 where a checker easily goes wrong.  The test program counts how often
+//! Corners of refusals 7 and 6 where a checker easily goes wrong.  The test program counts how often
 //! the drawn grammars touch each.
 #![forbid(unsafe_code)]
 
-use crate::second_checker::{left_recursive, nullable, productive};
+use crate::second_checker::{left_moves, left_recursive, nullable, productive};
 use crate::tree::{Grammar, Symbol};
 
-pub const CORNERS: [&str; 8] = [
+pub const CORNERS: [&str; 14] = [
     "sound with 255 places",
     "sound with a nullable first symbol",
-    "unproductive and left recursive",
-    "lowest unproductive one uses only higher ones",
+    "sound without an empty production",
+    "sound, and all are nullable",
+    "sound, with eight moves in a row",
+    "left recursive by moves to itself alone",
     "left recursive behind nullable symbols only",
     "lower one leads into a cycle it is not on",
     "left recursive only where the start doesn't lead",
     "eight or more left recursive ones",
+    "left recursive, and a lower one unproductive",
+    "left recursive, and only higher ones unproductive",
+    "left recursive ones productive, another not",
+    "lowest unproductive one uses only higher ones",
 ];
 
 /// Which of the corners a grammar that was read touches.
-pub fn touched(grammar: &Grammar) -> [bool; 8] {
+pub fn touched(grammar: &Grammar) -> [bool; CORNERS.len()] {
     let count = grammar.rules.len();
     let productive = productive(grammar);
     let nullable = nullable(grammar);
@@ -33,18 +39,43 @@ pub fn touched(grammar: &Grammar) -> [bool; 8] {
             _ => false,
         })
     };
-    let refused_by_cycle = barren.is_none() && cycle.is_some();
+    let empty = grammar.rules.iter().flatten().any(|production| production.is_empty());
+    let longest = longest_way(&left_moves(grammar, &nullable));
+    let all_recursive_productive = (0..count).all(|number| !recursive[number] || productive[number]);
     let reached = reached(grammar, 0);
     [
         sound && grammar.places() == 255,
         sound && (0..count).any(first_nullable),
-        barren.is_some() && cycle.is_some(),
-        barren.is_some_and(|lowest| !reached_by(grammar, lowest)[..=lowest].contains(&true)),
-        refused_by_cycle && !obvious.contains(&true),
-        refused_by_cycle && cycle.is_some_and(|lowest| leads_below(grammar, lowest)),
-        refused_by_cycle && (0..count).all(|number| !recursive[number] || !reached[number]),
-        refused_by_cycle && recursive.iter().filter(|yes| **yes).count() >= 8,
+        sound && !empty && count > 4,
+        sound && count > 4 && !nullable.contains(&false),
+        sound && longest.is_some_and(|moves| moves >= 8),
+        cycle.is_some() && longest.is_some(),
+        cycle.is_some() && !obvious.contains(&true),
+        cycle.is_some_and(|lowest| leads_below(grammar, lowest)),
+        cycle.is_some() && (0..count).all(|number| !recursive[number] || !reached[number]),
+        recursive.iter().filter(|yes| **yes).count() >= 8,
+        cycle.is_some_and(|lowest| barren.is_some_and(|at| at < lowest)),
+        cycle.is_some_and(|lowest| barren.is_some_and(|at| at > lowest)),
+        cycle.is_some() && barren.is_some() && all_recursive_productive,
+        cycle.is_none() && barren.is_some_and(|lowest| only_higher(grammar, lowest)),
     ]
+}
+
+/// The most moves that can follow each other, moves of a nonterminal to itself left out; none if the others lead round.
+fn longest_way(moves: &[Vec<usize>]) -> Option<usize> {
+    let mut longest = vec![0; moves.len()];
+    for _ in 0..=moves.len() {
+        let behind = |&to: &usize| longest[to] + 1;
+        let from = |at: usize| moves[at].iter().filter(move |&&to| to != at);
+        let next: Vec<usize> = (0..moves.len())
+            .map(|at| from(at).map(behind).max().unwrap_or(0))
+            .collect();
+        if next == longest {
+            return longest.into_iter().max();
+        }
+        longest = next;
+    }
+    None
 }
 
 /// The nonterminals in the productions of one.
@@ -68,6 +99,11 @@ fn reached_by(grammar: &Grammar, nonterminal: usize) -> Vec<bool> {
         }
     }
     reached
+}
+
+/// Whether the steps into productions lead only to higher ones.
+fn only_higher(grammar: &Grammar, nonterminal: usize) -> bool {
+    !reached_by(grammar, nonterminal)[..=nonterminal].contains(&true)
 }
 
 fn reached(grammar: &Grammar, nonterminal: usize) -> Vec<bool> {

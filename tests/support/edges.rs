@@ -30,7 +30,7 @@ pub fn paper() -> Vec<Case> {
             14,
         ),
         ("derives no row", "01 01 01 02 02 01", 6, 0),
-        ("derives no row, left recursive too", "01 01 01 01 01", 6, 0),
+        ("left recursive, derives no row either", "01 01 01 01 01", 7, 0),
         (
             "recursion behind an empty symbol",
             "01 02 02 03 03 01 02 01 02 01 00",
@@ -47,8 +47,9 @@ pub fn edges() -> Vec<Case> {
     cases.extend(places());
     cases.extend(symbols());
     cases.extend(leftovers());
-    cases.extend(unproductive());
     cases.extend(left_recursion());
+    cases.extend(unproductive());
+    cases.extend(both_faults());
     cases.extend(chains());
     cases
 }
@@ -275,8 +276,9 @@ fn leftovers() -> Vec<Case> {
             4,
         ),
         ("what follows breaks a limit", "01 01 01 00 ff ff 03", 5, 4),
-        ("before 6", "01 01 01 01 01 00", 5, 5),
         ("before 7", "01 01 02 02 01 02 01 02 ff", 5, 8),
+        ("before 6", "01 01 01 02 02 01 00", 5, 6),
+        ("before both", "01 01 01 01 01 00", 5, 5),
         ("behind a symbol of two bytes", "64 01 01 01 c8 01 00", 5, 6),
     ])
 }
@@ -284,39 +286,48 @@ fn leftovers() -> Vec<Case> {
 /// Refusal 6.
 fn unproductive() -> Vec<Case> {
     from_table(&[
-        ("0: 1; 1: 1", "01 02 01 01 03 01 01 03", 6, 0),
         ("0: 1; 1: t 1", "01 02 01 01 03 01 02 02 03", 6, 0),
-        ("0: 1 | t; 1: 1", "01 02 02 01 03 01 02 01 01 03", 6, 1),
-        ("0: t; 1: 1, out of reach", "01 02 01 01 02 01 01 03", 6, 1),
         (
-            "0: t; 1: 2; 2: 1 t",
-            "01 03 01 01 02 01 01 05 01 02 03 02",
+            "0: 1 | t; 1: t 1",
+            "01 02 02 01 03 01 02 01 02 02 03",
             6,
             1,
         ),
         (
-            "0: t; 1: t 2; 2: 2",
-            "01 03 01 01 02 01 02 02 05 01 01 05",
+            "0: t; 1: t 1, out of reach",
+            "01 02 01 01 02 01 02 02 03",
             6,
             1,
         ),
         (
-            "0: t; 1: t 0; 2: 2",
-            "01 03 01 01 02 01 02 02 01 01 01 05",
+            "0: t; 1: 2; 2: t 1",
+            "01 03 01 01 02 01 01 05 01 02 02 03",
+            6,
+            1,
+        ),
+        (
+            "0: t; 1: t 2; 2: t 2",
+            "01 03 01 01 02 01 02 02 05 01 02 02 05",
+            6,
+            1,
+        ),
+        (
+            "0: t; 1: t 0; 2: t 2",
+            "01 03 01 01 02 01 02 02 01 01 02 02 05",
             6,
             2,
         ),
         (
-            "0: 1 2; 1: t; 2: 2",
-            "01 03 01 02 03 05 01 01 02 01 01 05",
+            "0: 1 2; 1: t; 2: t 2",
+            "01 03 01 02 03 05 01 01 02 01 02 02 05",
             6,
             0,
         ),
         (
-            "0: 0 t | t; 1: 1, though 7 is lower",
-            "01 02 02 02 01 02 01 02 01 01 03",
+            "0: 1 t 0; 1: empty",
+            "01 02 01 03 03 02 01 01 00",
             6,
-            1,
+            0,
         ),
         (
             "0: t; 1: t 1 | t t 1",
@@ -411,12 +422,6 @@ fn left_recursion() -> Vec<Case> {
             1,
         ),
         (
-            "0: 1 0; 1: empty: 6 though left recursive behind an empty symbol",
-            "01 02 01 02 03 01 01 00",
-            6,
-            0,
-        ),
-        (
             "0: 1 1; 1: empty | t 0",
             "01 02 01 02 03 03 02 00 02 02 01",
             0,
@@ -445,6 +450,69 @@ fn left_recursion() -> Vec<Case> {
             "01 03 01 01 02 01 01 02 02 01 05 01 02",
             7,
             2,
+        ),
+    ])
+}
+
+/// Refusals 7 and 6: 7 is given, wherever the nonterminals stand that derive no row.
+fn both_faults() -> Vec<Case> {
+    from_table(&[
+        ("0: 1; 1: 1", "01 02 01 01 03 01 01 03", 7, 1),
+        ("0: 1 | t; 1: 1", "01 02 02 01 03 01 02 01 01 03", 7, 1),
+        ("0: t; 1: 1, out of reach", "01 02 01 01 02 01 01 03", 7, 1),
+        (
+            "0: t; 1: 2; 2: 1 t",
+            "01 03 01 01 02 01 01 05 01 02 03 02",
+            7,
+            1,
+        ),
+        (
+            "0: t; 1: t 2; 2: 2: 6 is lower",
+            "01 03 01 01 02 01 02 02 05 01 01 05",
+            7,
+            2,
+        ),
+        (
+            "0: t; 1: t 0; 2: 2",
+            "01 03 01 01 02 01 02 02 01 01 01 05",
+            7,
+            2,
+        ),
+        (
+            "0: 1 2; 1: t; 2: 2: 6 is lower",
+            "01 03 01 02 03 05 01 01 02 01 01 05",
+            7,
+            2,
+        ),
+        (
+            "0: 0 t | t; 1: 1: 7 is lower",
+            "01 02 02 02 01 02 01 02 01 01 03",
+            7,
+            0,
+        ),
+        (
+            "0: 0 t | t; 1: t 1: 7 is lower, at another",
+            "01 02 02 02 01 02 01 02 01 02 02 03",
+            7,
+            0,
+        ),
+        (
+            "0: t 0; 1: 1 t | t: 6 is lower, at another",
+            "01 02 01 02 02 01 02 02 03 02 01 02",
+            7,
+            1,
+        ),
+        (
+            "0: 1 0; 1: empty: behind an empty symbol",
+            "01 02 01 02 03 01 01 00",
+            7,
+            0,
+        ),
+        (
+            "0: 1 0; 1: t 1: 1 is never empty, so 6",
+            "01 02 01 02 03 01 01 02 02 03",
+            6,
+            0,
         ),
     ])
 }
@@ -510,7 +578,8 @@ fn chains() -> Vec<Case> {
         case("cycle of 25 at the end", linked(into_seven, &token), 7, 7),
         case("cycles of 1 from 16 on", linked(into_any, &token), 7, 16),
         case("all empty by the last", doubled(&[1, 0]), 0, 0),
-        case("none derives a row", doubled(&[1, 1, 63]), 6, 0),
+        case("none derives a row", doubled(&[1, 2, 2, 63]), 6, 0),
+        case("31: 31: none derives a row", doubled(&[1, 1, 63]), 7, 31),
         case("31: empty | 30 31", doubled(&[2, 0, 2, 61, 63]), 7, 30),
         case("31: empty | t 0", doubled(&[2, 0, 2, 2, 1]), 0, 0),
         case("31: empty | 0 t", doubled(&[2, 0, 2, 1, 2]), 7, 0),

@@ -13,7 +13,7 @@ const MOST_PLACES: usize = 255;
 /// A name for reports, and what draws one case.
 pub type Family = (&'static str, fn(&mut Random) -> Vec<u8>);
 
-pub const FAMILIES: [Family; 22] = [
+pub const FAMILIES: [Family; 23] = [
     ("small, anything", |r| small(r).encode()),
     ("large, anything", |r| large(r).encode()),
     ("small, sound", |r| small_sound(r).encode()),
@@ -36,6 +36,7 @@ pub const FAMILIES: [Family; 22] = [
     ("random bytes", random_bytes),
     ("random small bytes", random_small_bytes),
     ("random numbers", random_numbers),
+    ("barren behind tokens", |r| barren(r).encode()),
 ];
 
 // Trees.
@@ -378,6 +379,24 @@ fn unproductive(random: &mut Random) -> Grammar {
                 production.truncate(MOST_SYMBOLS - 1);
                 production.push(hindrance);
             }
+        }
+    }
+    draft.grammar
+}
+
+/// The same behind a token, where nothing leads back.
+fn barren(random: &mut Random) -> Grammar {
+    let size = Size::any(random);
+    let mut draft = sound(random, &size);
+    let mut barren = draft.some_of(random, 1);
+    barren.truncate(random.between(1, 5));
+    for (at, &nonterminal) in barren.iter().enumerate() {
+        for production in &mut draft.grammar.rules[nonterminal] {
+            let hindrance = Symbol::Nonterminal(barren[random.below(at + 1)]);
+            let length = production.len().max(2);
+            production.resize(length, Symbol::Token(1));
+            production[0] = Symbol::Token(1);
+            production[random.between(1, length - 1)] = hindrance;
         }
     }
     draft.grammar

@@ -144,17 +144,15 @@ pub fn read(bytes: &[u8]) -> Result<Grammar, Verdict> {
     }
 }
 
-// Refusals 6 and 7: the tree.
+// Refusals 7 and 6: the tree.
 
 fn judge(grammar: &Grammar) -> Verdict {
-    if let Some(lowest) = productive(grammar).iter().position(|yes| !yes) {
-        return refused(6, lowest);
+    let recursive = left_recursive(grammar, &nullable(grammar));
+    if let Some(lowest) = recursive.iter().position(|yes| *yes) {
+        return refused(7, lowest);
     }
-    match left_recursive(grammar, &nullable(grammar))
-        .iter()
-        .position(|yes| *yes)
-    {
-        Some(lowest) => refused(7, lowest),
+    match productive(grammar).iter().position(|yes| !yes) {
+        Some(lowest) => refused(6, lowest),
         None => refused(0, 0),
     }
 }
@@ -220,7 +218,7 @@ pub fn left_recursive(grammar: &Grammar, nullable: &[bool]) -> Vec<bool> {
 }
 
 /// From each nonterminal to those that stand behind only nullable symbols in its productions.
-fn left_moves(grammar: &Grammar, nullable: &[bool]) -> Vec<Vec<usize>> {
+pub fn left_moves(grammar: &Grammar, nullable: &[bool]) -> Vec<Vec<usize>> {
     let targets = |production: &Production| {
         let mut targets = Vec::new();
         for symbol in production {

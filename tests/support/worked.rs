@@ -91,11 +91,11 @@ pub fn paper() -> Vec<Reading> {
             Err((6, 0)),
         ),
         (
-            "* the same, left recursive too",
+            "* left recursive, derives no row either",
             "01 01 01 01 01",
             &[1],
             16,
-            Err((6, 0)),
+            Err((7, 0)),
         ),
         (
             "* recursion behind an empty symbol",
@@ -282,7 +282,8 @@ fn wrong_places() -> Vec<Reading> {
 /// One refusal before another.
 fn orders() -> Vec<Reading> {
     let g1 = from_hex(G1);
-    let unsound = from_hex("01 01 01 01 01");
+    let recursive = from_hex("01 01 01 01 01");
+    let barren = from_hex("01 01 01 02 02 01");
     let hundred = from_hex("64 01 01 01 c8 01");
     let enough = space(10, 2);
     let one_too_little = |note: &[u16], outcome| Reading {
@@ -311,8 +312,10 @@ fn orders() -> Vec<Reading> {
         no_words(&g1, &[], Err((11, 0))),
         no_words(&g1, &[0, 1], Err((9, 0))),
         no_words(&g1, &too_long, Err((8, 0))),
-        no_words(&unsound, &too_long, Err((6, 0))),
-        no_words(&unsound, &[0], Err((6, 0))),
+        no_words(&recursive, &too_long, Err((7, 0))),
+        no_words(&recursive, &[0], Err((7, 0))),
+        no_words(&barren, &too_long, Err((6, 0))),
+        no_words(&barren, &[0], Err((6, 0))),
         no_words(&[], &too_long, Err((1, 0))),
         Reading {
             workspace: Some(enough - 1),

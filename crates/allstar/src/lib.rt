@@ -25,6 +25,8 @@
 //                                                             17   a list that is anything but words with single blanks between, or has more than 66, or
 //                                                                  one of them twice
 //
+// Grammars and notes are refused with the first that applies of 1 to 5, 7, 6, 8, 9, 11, 12, 13, 10, 14, lines with that of 15, 17, 16, 8, 14.
+//
 // After 10 and 14 the row is all zeros and the cache keeps what it learned; every other refusal leaves row and cache as they were. A line that makes more
 // tokens than a note may have is refused with 8, one that makes more than the row has entries with 14.
 //

@@ -12,7 +12,7 @@ ghost use Rattle.allstar_c.specs.Version.{version};
 // The library's version. specs/Version has the same.
 const MAJOR: u32 = 1;
 
-const MINOR: u32 = 1;
+const MINOR: u32 = 2;
 
 const PATCH: u32 = 0;
 

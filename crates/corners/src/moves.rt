@@ -53,7 +53,7 @@ fn moves(tables: &[u16], nullable: u32, a: usize) -> u32
     set
 }
 
-// The row of nonterminal a: what stands first in its productions, or where one move leads. They differ only if something that stands first vanishes.
+// Where one move leads from nonterminal a, by the row of what stands first in its productions: it leads to more only if something of that vanishes.
 fn widened(tables: &[u16], nullable: u32, a: usize, row: u32) -> u32
     requires { ⌜ TablesFit (now tables) × (a < nonterminalsIn (now tables)) × MovesFrom 0 (grammarIn (now tables)) a row ⌝ }
     ensures { λ r. ⌜ MovesFrom nullable (grammarIn (now (tables .entry))) a r ⌝ }

@@ -5,7 +5,7 @@
 --
 -- What the bytes say is `decode`; everything else is said of the rules in the textbook's words.
 use mathlib.Core.Path.{_≡_}
-use mathlib.Core.Logic.{_↔_, _⊎_}
+use mathlib.Core.Logic.{_↔_}
 use mathlib.Core.List.{List}
 use Prim.Native.Nat.{ℕ, _≤_}
 use lib.ListN.{length}
@@ -14,37 +14,27 @@ use Rattle.number.specs.Refusals.{refusalNumber, refusalPlace}
 use Rattle.grammar.specs.Decode.{Rules, Mark, got, refused, decode}
 use Rattle.grammar.specs.Grammar.{sizeAll}
 use Rattle.grammar.specs.Derivation.{ofRules}
-use Rattle.closures.specs.Textbook.{LeftRecursive}
-use Rattle.soundness.specs.Check.{CheckDid}
-use Rattle.soundness.specs.Verdicts.{IsSound, Barren, Lowest}
+use Rattle.soundness.specs.declared.judgement.Verdict.{Verdict}
+use Rattle.soundness.specs.Check.{verdictNumber, verdictPlace, CheckDid}
+use Rattle.soundness.specs.Verdicts.{IsSound, Means}
 use Rattle.derivation.specs.Space.{maxTokens, spaceWords}
 use Rattle.derivation.specs.Plain.{answer}
 use Rattle.derivation.specs.Demand2.{Known, RightAnswer}
 use Rattle.plain.specs.Contract.{PlainDid}
 
 -- ---- which grammars are sound
--- the number and the place that a check answers, of rules that the bytes say
-pub record CheckSays (r : Rules) (number place : ℕ) : Type 0 where
-  -- 0 exactly if every nonterminal derives some row of tokens and none is left recursive
-  pub zero : (number ≡ 0) ↔ IsSound r
-  -- 6 exactly if one derives none, and the place names the lowest
-  pub six : (number ≡ 6) ↔ ((a : ℕ) × Barren r a)
-  -- 7 exactly if all derive some and one is left recursive, and the place names the lowest
-  pub seven : (number ≡ 7) ↔ (((a : ℕ) → ¬ Barren r a) × ((a : ℕ) × LeftRecursive (ofRules r) a))
-  -- there is no other
-  pub one-of : (number ≡ 0) ⊎ (number ≡ 6) ⊎ (number ≡ 7)
-  pub place-0 : number ≡ 0 → place ≡ 0
-  pub place-6 : number ≡ 6 → Lowest (Barren r) place
-  pub place-7 : number ≡ 7 → Lowest (LeftRecursive (ofRules r)) place
+-- the number and the place that rules deserve: those of the verdict that they mean
+pub data CheckSays (r : Rules) : ℕ → ℕ → Type 0 where
+  says : (v : Verdict) → Means r v → CheckSays r (verdictNumber v) (verdictPlace v)
 
 -- ---- DEMAND 2
 pub record Demand2 : Type 0 where
   -- bytes that say no rules are refused where they come to their first fault: 1 to 5
   pub unsaid : (bytes : List ℕ) (f : Refusal) → decode bytes ≡ refused f → (number place : ℕ) → CheckDid bytes number place
       → (number ≡ refusalNumber f) × (place ≡ refusalPlace f)
-  -- bytes that say rules are judged by what the rules are
-  pub check : (bytes : List ℕ) (r : Rules) (m : Mark) → decode bytes ≡ got r m → (number place : ℕ) → CheckDid bytes number place
-      → CheckSays r number place
+  -- of bytes that say rules a check answers just what the rules deserve
+  pub check : (bytes : List ℕ) (r : Rules) (m : Mark) → decode bytes ≡ got r m
+      → (number place : ℕ) → CheckDid bytes number place ↔ CheckSays r number place
   -- a sound grammar, a note of at most 128 known tokens and enough working space: the plain reading's number, place, count and row are right
   pub plain : (bytes : List ℕ) (r : Rules) (m : Mark) → decode bytes ≡ got r m → IsSound r → (note row : List ℕ) (space : ℕ)
       → length note ≤ maxTokens → Known (r .kinds) note → spaceWords (sizeAll (r .productions)) (length note) ≤ space

@@ -29,12 +29,12 @@ abbrev pub shutBy : Refusal → Gate
 shutBy r = shut (refusalNumber r) (refusalPlace r)
 
 -- ---- 1 to 7
--- 6 and 7
+-- 7 and 6
 abbrev pub onVerdict : Grammar → Verdict → Gate
 onVerdict g Sound = passed g
 onVerdict g (Refused r) = shutBy r
 
--- 1 to 5, and then 6 and 7
+-- 1 to 5, and then 7 and 6
 abbrev pub onRules : Parsed Rules → Gate
 onRules (refused r) = shutBy r
 onRules (got r m) = onVerdict (compile r) (judgeOf (compile r))

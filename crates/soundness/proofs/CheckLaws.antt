@@ -40,10 +40,10 @@ module _ (r : Rules) (limits : Limited r) where
   unfolding compile
   carried P x = subst₂ P (length-startsAll 0 (r .productions)) (same-syntax r limits) x
 
-  barren-lowest : LowestIs (Barren r) (lowestUnproductive (compile r))
+  pub barren-lowest : LowestIs (Barren r) (lowestUnproductive (compile r))
   barren-lowest = carried (λ n g. LowestIs (λ a. (a < n) × ¬ Productive g a) (lowestUnproductive (compile r))) (lowest-unproductive (compile r))
 
-  recursive-lowest : LowestIs (LeftRecursive (ofRules r)) (lowestLeftRecursive (compile r))
+  pub recursive-lowest : LowestIs (LeftRecursive (ofRules r)) (lowestLeftRecursive (compile r))
   recursive-lowest = carried (λ n g. LowestIs (LeftRecursive g) (lowestLeftRecursive (compile r))) (lowest-left-recursive (compile r))
 
   all-productive : ((a : ℕ) → ¬ Barren r a) → (a : ℕ) → a < length (r .productions) → Productive (ofRules r) a
@@ -52,13 +52,13 @@ module _ (r : Rules) (limits : Limited r) where
 
   judge-means : Means r (judgeOf (compile r))
   unfolding judgeOf unproductiveOf leftRecursiveOf
-  judge-means = go (lowestUnproductive (compile r)) (lowestLeftRecursive (compile r)) barren-lowest recursive-lowest
+  judge-means = go (lowestLeftRecursive (compile r)) (lowestUnproductive (compile r)) recursive-lowest barren-lowest
     where
-      go : (o p : Option ℕ) → LowestIs (Barren r) o → LowestIs (LeftRecursive (ofRules r)) p
-          → Means r (orElse (refuseAt Unproductive o) (refuseAt Recursive p))
-      go o p (this a x h) q = barren a (x, h)
-      go o p (nothing h) (this a x k) = recursive a h (x, k)
-      go o p (nothing h) (nothing k) = sound (record { productive = all-productive h; straight = k })
+      go : (o p : Option ℕ) → LowestIs (LeftRecursive (ofRules r)) o → LowestIs (Barren r) p
+          → Means r (orElse (refuseAt Recursive o) (refuseAt Unproductive p))
+      go o p (this a x h) q = recursive a (x, h)
+      go o p (nothing h) (this a x k) = barren a h (x, k)
+      go o p (nothing h) (nothing k) = sound (record { productive = all-productive k; straight = h })
 
 -- bytes that say rules are judged by what those rules mean
 pub check-means : (s : List ℕ) (r : Rules) (m : Mark) → decode s ≡ got r m → Means r (checkOf s)
@@ -79,14 +79,14 @@ none-barren h a (l, n) = n (h .productive a l)
 
 pub means-one : {r : Rules} {v w : Verdict} → Means r v → Means r w → v ≡ w
 means-one (sound h) (sound k) = refl
-means-one (sound h) (barren a (x, l)) = absurd (none-barren h a x)
-means-one (sound h) (recursive a n (x, l)) = absurd (h .straight a x)
-means-one (barren a (x, l)) (sound h) = absurd (none-barren h a x)
-means-one (barren a x) (barren c y) = ap (λ (z : ℕ). Refused (Unproductive z)) (lowest-one x y)
-means-one (barren a (x, l)) (recursive c n y) = absurd (n a x)
-means-one (recursive a n (x, l)) (sound h) = absurd (h .straight a x)
-means-one (recursive a n x) (barren c (y, l)) = absurd (n c y)
-means-one (recursive a n x) (recursive c k y) = ap (λ (z : ℕ). Refused (Recursive z)) (lowest-one x y)
+means-one (sound h) (recursive a (x, l)) = absurd (h .straight a x)
+means-one (sound h) (barren a n (x, l)) = absurd (none-barren h a x)
+means-one (recursive a (x, l)) (sound h) = absurd (h .straight a x)
+means-one (recursive a x) (recursive c y) = ap (λ (z : ℕ). Refused (Recursive z)) (lowest-one x y)
+means-one (recursive a (x, l)) (barren c n y) = absurd (n a x)
+means-one (barren a n (x, l)) (sound h) = absurd (none-barren h a x)
+means-one (barren a n x) (recursive c (y, l)) = absurd (n c y)
+means-one (barren a n x) (barren c k y) = ap (λ (z : ℕ). Refused (Unproductive z)) (lowest-one x y)
 
 -- so the check answers a verdict exactly if the rules mean it
 pub check-iff : (s : List ℕ) (r : Rules) (m : Mark) → decode s ≡ got r m → (v : Verdict) → (checkOf s ≡ v) ↔ Means r v

@@ -1,6 +1,6 @@
 -- From sets and rows to verdicts, and from tables to bytes: the check by cases, as the code meets them.
 use mathlib.Core.Path.{_≡_, sym, ap, _∙_}
-use mathlib.Core.Bool.{true, not}
+use mathlib.Core.Bool.{true, false, not}
 use mathlib.Core.List.{List}
 use Prim.Native.Nat.{ℕ, _<_}
 use native.Mathlib.Omega.{arith}
@@ -20,12 +20,11 @@ use Rattle.grammar.specs.inside.Tables.{tableWords, grammarIn, nonterminalsIn, 
 use Rattle.reader.specs.inside.Pass.{out, wholePass}
 use Rattle.reader.proofs.ReadLaws.{PassGives, none, whole, outcome}
 use Rattle.grammar.proofs.WordLaws.{length-starts-in}
-use Rattle.grammar.proofs.CornerLaws.{kept-none}
 use Rattle.soundness.specs.declared.judgement.Verdict.{Verdict}
 use Rattle.soundness.specs.declared.judgement.Verdict.the-variants.{Sound, Refused}
 use Rattle.closures.specs.Textbook.{Move}
 use Rattle.closures.specs.Closures.{deriving?}
-use Rattle.corners.specs.Corners.{Corners, Cornered, leftRecursive?}
+use Rattle.corners.specs.Corners.{Corners, leftRecursive?}
 use Rattle.soundness.specs.Check.{lowestUnproductive, lowestLeftRecursive, refuseAt, unproductiveOf, leftRecursiveOf, judgeOf, onDecoded, checkOf}
 use Rattle.closures.specs.inside.Steps.{DerivingIs}
 use Rattle.corners.specs.inside.Steps.{reachOf}
@@ -75,16 +74,21 @@ module _ (t : List ℕ) (n : ℕ) (rows : List ℕ) (e : n ≡ nonterminalsIn t)
       recursive-by t n after starts-n
       (λ a k. ap (λ (r : List ℕ). testBit (getD r a 0) a) q ∙ reached g n rows starts-n named (omega (arith, l, e, f .few)) rows-n a k)
 
--- ---- 6 before 7
-module _ (t₀ : List ℕ) (f : TablesFit t₀) {v : Verdict} (e : v ≡ unproductiveOf (grammarIn t₀)) where
-  pub judge-first : {r : Refusal} → v ≡ Refused r → Judgement (Refused r) (judgeOf (grammarIn t₀)) t₀ t₀
-  unfolding judgeOf
-  judge-first h = record { verdict = rw (← e, h); kept = kept-none f; cornered = λ q. clash (cc) }
+-- ---- 7 before 6: the tables stay as the search for 7 leaves them, and say the same
+pub still-nullable : {t₀ t : List ℕ} → SameTables t₀ t → (x : ℕ) → DerivingIs false (grammarIn t₀) x → DerivingIs false (grammarIn t) x
+still-nullable k x d = let same = k .says in rw same d
 
-  pub judge-second : v ≡ Sound → {w : Verdict} → w ≡ leftRecursiveOf (grammarIn t₀) → {t : List ℕ} → SameTables t₀ t → Cornered t
-      → Judgement w (judgeOf (grammarIn t₀)) t₀ t
+module _ {t₀ t : List ℕ} {v : Verdict} (seven : Judgement v (leftRecursiveOf (grammarIn t₀)) t₀ t) where
+  pub judge-first : {r : Refusal} → v ≡ Refused r → Judgement (Refused r) (judgeOf (grammarIn t₀)) t₀ t
   unfolding judgeOf
-  judge-second h d k c = record { verdict = rw (← e, h, d); kept = k; cornered = λ _. c }
+  judge-first h = let e = seven .verdict in record { verdict = rw (← e, h); kept = seven .kept; cornered = seven .cornered }
+
+  pub judge-second : v ≡ Sound → {w : Verdict} → w ≡ unproductiveOf (grammarIn t) → Judgement w (judgeOf (grammarIn t₀)) t₀ t
+  unfolding judgeOf
+  judge-second h d =
+      let e = seven .verdict in
+      let same = seven .kept .says in
+      record { verdict = rw (← e, h, d, same); kept = seven .kept; cornered = seven .cornered }
 
 -- ---- the bytes
 module _ (s t₀ : List ℕ) {x : Read} {t : List ℕ} (z : t₀ ≡ replicate tableWords 0) (e : out x t ≡ wholePass s t₀) where
@@ -116,5 +120,5 @@ module _ (s t₀ : List ℕ) {x : Read} {t : List ℕ} (z : t₀ ≡ replicate t
               verdict = j .verdict ∙ ap judgeOf u ∙ ap onDecoded (sym q);
               says = λ g′ m′ q′. let y : g ≡ g′ = cc in rw (← y) (j .kept .says ∙ u);
               fits = λ g′ m′ q′. j .kept .fits;
-              cornered = j .cornered;
+              cornered = λ _. j .cornered;
             }

@@ -2,6 +2,7 @@
 pub mod LowestLaws
 pub mod Judging
 pub mod CheckLaws
+pub mod OrderLaws
 pub mod VerdictLaws
 pub mod TableLaws
 pub mod FirstBytes

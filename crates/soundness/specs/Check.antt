@@ -1,4 +1,4 @@
--- The check: refusals 1 to 5 as the bytes come, then 6, then 7; and the scope's number and place of a verdict.
+-- The check: refusals 1 to 5 as the bytes come, then 7, then 6; and the scope's number and place of a verdict.
 use mathlib.Core.Path.{_≡_}
 use mathlib.Core.Bool.{not}
 use mathlib.Core.Option.{Option, none, some}
@@ -45,10 +45,10 @@ abbrev pub orElse : Verdict → Verdict → Verdict
 orElse Sound v = v
 orElse (Refused r) v = Refused r
 
--- 6 before 7
+-- 7 before 6
 unfoldable pub judgeOf : Grammar → Verdict
 unfolding unproductiveOf leftRecursiveOf
-judgeOf g = let second = leftRecursiveOf g in orElse (unproductiveOf g) second
+judgeOf g = let second = unproductiveOf g in orElse (leftRecursiveOf g) second
 
 abbrev pub onDecoded : Parsed Rules → Verdict
 onDecoded (got r m) = judgeOf (compile r)

@@ -1,5 +1,5 @@
--- What the check says of rules, in the textbook's words: 6 names the lowest nonterminal that derives no row of tokens, 7 the lowest left recursive one,
--- and sound rules have neither.
+-- What the check says of rules, in the textbook's words: 7 names the lowest left recursive nonterminal; if there is none, 6 names the lowest that derives no
+-- row of tokens; and sound rules have neither.
 use Prim.Native.Nat.{ℕ, _≤_, _<_}
 use lib.ListN.{length}
 use Rattle.number.specs.declared.Refusal.the-variants.{Unproductive, LeftRecursive as Recursive}
@@ -22,8 +22,8 @@ Barren r a = (a < length (r .productions)) × ¬ Productive (ofRules r) a
 abbrev pub Lowest : (ℕ → Type 0) → ℕ → Type 0
 Lowest P a = P a × ((c : ℕ) → P c → a ≤ c)
 
--- what a verdict on rules means: 7 is asked only where no nonterminal is barren
+-- what a verdict on rules means: 6 is asked only where no nonterminal is left recursive
 pub data Means (r : Rules) : Verdict → Type 0 where
   sound : IsSound r → Means r Sound
-  barren : (a : ℕ) → Lowest (Barren r) a → Means r (Refused (Unproductive a))
-  recursive : (a : ℕ) → ((c : ℕ) → ¬ Barren r c) → Lowest (LeftRecursive (ofRules r)) a → Means r (Refused (Recursive a))
+  recursive : (a : ℕ) → Lowest (LeftRecursive (ofRules r)) a → Means r (Refused (Recursive a))
+  barren : (a : ℕ) → ((c : ℕ) → ¬ LeftRecursive (ofRules r) c) → Lowest (Barren r) a → Means r (Refused (Unproductive a))

@@ -8,9 +8,8 @@ ghost use lib.ListN.{length, getD, replicate};
 ghost use Rattle.base.specs.Bits.{testBit};
 ghost use Rattle.base.specs.Search.{lowestFrom};
 ghost use Rattle.grammar.specs.Limits.{maxNonterminals};
-ghost use Rattle.grammar.specs.inside.Tables.{grammarIn, nonterminalsIn, TablesFit, SameTables, tableWords};
+ghost use Rattle.grammar.specs.inside.Tables.{grammarIn, nonterminalsIn, TablesFit, tableWords};
 ghost use Rattle.closures.specs.inside.Steps.{DerivingIs};
-ghost use Rattle.corners.specs.Corners.{Cornered};
 ghost use Rattle.corners.specs.inside.Steps.{MoveRows};
 ghost use Rattle.soundness.specs.Check.{refuseAt, unproductiveOf, leftRecursiveOf, judgeOf, verdictNumber, verdictPlace, CheckDid};
 ghost use Rattle.soundness.specs.inside.Compiled.{Judgement, Compiled};
@@ -88,8 +87,7 @@ fn unproductive(tables: &[u16], nullable: u32) -> Verdict
 fn left_recursive(tables: &mut [u16], nullable: u32, rows: &mut [u32]) -> Verdict
     requires { ⌜ TablesFit (now tables) × DerivingIs false (grammarIn (now tables)) nullable × (length (now rows) ≡ maxNonterminals)
         × MoveRows 0 (grammarIn (now tables)) (nonterminalsIn (now tables)) (now rows) ⌝ }
-    ensures { λ r. ⌜ (r ≡ leftRecursiveOf (grammarIn (now (tables .entry))))
-        × SameTables (now (tables .entry)) (now (tables .exit)) × Cornered (now (tables .exit)) ⌝ }
+    ensures { λ r. ⌜ Judgement r (leftRecursiveOf (grammarIn (now (tables .entry)))) (now (tables .entry)) (now (tables .exit)) ⌝ }
 {
     let n = grammar::nonterminals(tables);
     corners::corners(tables, nullable, rows);
@@ -101,17 +99,17 @@ fn left_recursive(tables: &mut [u16], nullable: u32, rows: &mut [u32]) -> Verdic
     lowest_own(rows, n)
 }
 
-// 6, and then 7.
+// 7, and then 6.
 fn judge(tables: &mut [u16]) -> Verdict
     requires { ⌜ TablesFit (now tables) ⌝ }
     ensures { λ r. ⌜ Judgement r (judgeOf (grammarIn (now (tables .entry)))) (now (tables .entry)) (now (tables .exit)) ⌝ }
 {
     let mut rows = [0u32; grammar::MAX_NONTERMINALS];
     let nullable = corners::nullable(tables, &mut rows);
-    let first = unproductive(tables, nullable);
+    let first = left_recursive(tables, nullable, &mut rows);
     match first {
         Verdict::Refused(r) => Verdict::Refused(r),
-        Verdict::Sound => left_recursive(tables, nullable, &mut rows),
+        Verdict::Sound => unproductive(tables, nullable),
     }
 }
 

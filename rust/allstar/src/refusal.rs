@@ -3,7 +3,7 @@
 use std::error::Error;
 use std::fmt;
 
-/// Why a grammar is refused. Bytes and nonterminals count from 0.
+/// Why a grammar is refused: 1 to 5 as the bytes come, then 7, then 6. Bytes and nonterminals count from 0.
 #[derive(Clone, Copy, Debug, PartialEq, Eq, Hash)]
 pub enum GrammarRefusal {
     /// 1: the bytes end before the grammar does.
@@ -31,12 +31,12 @@ pub enum GrammarRefusal {
         /// The first of them.
         byte: usize,
     },
-    /// 6: a nonterminal derives no row of tokens.
+    /// 6: a nonterminal derives no row of tokens, and none is left recursive.
     Unproductive {
         /// The lowest such.
         nonterminal: usize,
     },
-    /// 7: a nonterminal is left recursive.
+    /// 7: a nonterminal is left recursive, whether or not each derives some row.
     LeftRecursive {
         /// The lowest such.
         nonterminal: usize,

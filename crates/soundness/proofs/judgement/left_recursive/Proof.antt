@@ -37,12 +37,13 @@ returns c =
     let at-corners = at-store .before .before .before .before .before in
     let at-nonterminals = at-corners .before .before .before in
     let corners = at-corners .corners .ensures in
-    let stored = at-store .store .ensures in (
-      c .lowest-own .ensures
-          ∙ recursive-own _ _ _ (at-nonterminals .nonterminals .ensures) corners (at-all-end .all-end .ensures (at-if1 .if1 .taken)),
-      stored .kept,
-      stored-corners _ _ _ corners stored,
-    )
+    let stored = at-store .store .ensures in
+    record {
+      verdict = c .lowest-own .ensures
+          ∙ recursive-own _ _ _ (at-nonterminals .nonterminals .ensures) corners (at-all-end .all-end .ensures (at-if1 .if1 .taken));
+      kept = stored .kept;
+      cornered = stored-corners _ _ _ corners stored;
+    }
 
 reach-requires : tie.Need-reach-requires
 reach-requires c κs = search needs
@@ -65,13 +66,14 @@ returns-2 c =
     let at-nonterminals = at-corners .before .before .before in
     let at-entry = at-nonterminals .before .before .before .before in
     let corners = at-corners .corners .ensures in
-    let stored = at-store .store .ensures in (
-      c .lowest-own2 .ensures
+    let stored = at-store .store .ensures in
+    record {
+      verdict = c .lowest-own2 .ensures
           ∙ recursive-is _ _ _ (at-nonterminals .nonterminals .ensures) corners (at-entry .pre .0) (at-corners .corners .kept .1 .1 .0 ∙ at-entry .pre .2)
-          (at-reach .reach .ensures),
-      stored .kept,
-      stored-corners _ _ _ corners stored,
-    )
+          (at-reach .reach .ensures);
+      kept = stored .kept;
+      cornered = stored-corners _ _ _ corners stored;
+    }
 
 pub left-recursive-spec : {M : Type 1} → statement M
 left-recursive-spec =
