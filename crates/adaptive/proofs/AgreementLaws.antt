@@ -25,10 +25,12 @@ use Rattle.words.specs.Layout.{minWords}
 use Rattle.words.specs.Begin.{begun?}
 use Rattle.cache.specs.Coherent.{Coherent, Extends}
 use Rattle.cache.proofs.SuitLaws.{Suits, decode-suits}
-use Rattle.cache.proofs.ExtendLaws.{extends-refl, extends-trans}
+use Rattle.words.specs.inside.Standings.{standingOf}
+use Rattle.cache.proofs.ExtendLaws.{standing-extends, extends-refl, extends-trans}
 use Rattle.adaptive.specs.Quick.{Reply, reply, quickNote, overCache, quickReading}
-use Rattle.adaptive.specs.Teaching.{Call, Teaches, TeachesAll, next}
-use Rattle.adaptive.specs.inside.Agreement.{taught, quick, plain, Agrees, AllAgree, wordsAfter, Agreement}
+use Rattle.adaptive.specs.Calls.{Call, quick, plain, inTurn, lastWords}
+use Rattle.adaptive.specs.Teaching.{Teaches, TeachesAll, next}
+use Rattle.adaptive.specs.inside.Agreement.{taught, Agrees, AllAgree, Agreement}
 use Rattle.adaptive.proofs.QuickLaws.{over-12, over-13, over-begun, quick-answer, quick-grows, quick-again}
 use Rattle.adaptive.proofs.TeachLaws.{teaches-iff, note-extends}
 
@@ -153,6 +155,10 @@ module _ (s : List ℕ) (r : Rules) (m : Mark) (e : decode s ≡ got r m) (v : c
       go (eleven l t w) = extends-refl g c
       go (admitted l t w) = over (k .note) t (ltb (length c) minWords) (begun? s c) refl refl
 
+  -- and the cache stands to the grammar as it did
+  pub quick-stands : (c : List ℕ) (k : Call) → standingOf s ((quick s c k) .words) ≡ standingOf s c
+  quick-stands c k = standing-extends g s (suits .packed) (quick-extends c k)
+
   -- A QUICK READING KEEPS coherent words coherent, and only adds to them
   pub quick-keeps : (c : List ℕ) (k : Call) → Coherent (compile r) s c → After c k ((quick s c k) .words)
   unfolding taught
@@ -181,8 +187,8 @@ module _ (s : List ℕ) (r : Rules) (m : Mark) (e : decode s ≡ got r m) (v : c
       held j (inl q) t = rw q (now .remembers (rw q at t))
       held j (inr i) t = let x = z j i t in record { words = x .words; coherent = x .coherent; extends = extends-trans g _ _ _ (x .extends) (now .extends) }
 
-  all-taught : (ks : List Call) (c : List ℕ) → Coherent g s c → TeachesAll g c ks (wordsAfter s c ks)
-  unfolding wordsAfter
+  all-taught : (ks : List Call) (c : List ℕ) → Coherent g s c → TeachesAll g c ks (lastWords c (inTurn (quick s) c ks))
+  unfolding inTurn lastWords
   all-taught [] c h = TeachesAll.none
   all-taught (k ∷ ks) c h =
       next (quick-teaches c k (h .long) (h .begun-for)) (all-taught ks ((quick s c k) .words) (quick-keeps c k h .coherent))

@@ -25,7 +25,8 @@ use Rattle.cache.proofs.PredictorLaws.{in-drop}
 use Rattle.adaptive.specs.Quick.{quickNote}
 use Rattle.adaptive.specs.Proceeding.{Takes, only, foretold, lowest-serving, none-serving, Stand, Proceeds, done, pops, matches, differs, lacks, calls}
 use Rattle.adaptive.specs.Proceeding.{crammed, enters, stops, ReadsNote}
-use Rattle.adaptive.specs.Teaching.{Call, Teaches, refused, read, TeachesAll, none, next}
+use Rattle.adaptive.specs.Calls.{Call}
+use Rattle.adaptive.specs.Teaching.{Teaches, refused, read, TeachesAll, none, next}
 use Rattle.adaptive.specs.inside.Agreement.{taught, taughtAll}
 use Rattle.adaptive.proofs.ProceedLaws.{reading-left}
 use Rattle.adaptive.proofs.ProceedOne.{proceeds-one}

@@ -2,6 +2,7 @@
 -- answer and leave.
 pub mod Chooser
 pub mod Quick
+pub mod Calls
 pub mod Proceeding
 pub mod Teaching
 pub mod inside

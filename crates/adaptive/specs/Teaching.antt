@@ -5,13 +5,8 @@ use lib.ListN.{length}
 use Rattle.grammar.specs.Grammar.{Grammar}
 use Rattle.derivation.specs.Space.{maxTokens, spaceWords}
 use Rattle.derivation.specs.Demand2.{Known}
+use Rattle.adaptive.specs.Calls.{Call}
 use Rattle.adaptive.specs.Proceeding.{ReadsNote}
-
--- what a reading is lent besides the grammar's bytes and the cache: a note, a row, and a working space of so many words
-pub record Call : Type 0 where
-  pub note : List ℕ
-  pub row : List ℕ
-  pub space : ℕ
 
 -- a call that is not refused with 8, 9 or 11
 pub record Admits (g : Grammar) (k : Call) : Type 0 where

@@ -16,8 +16,9 @@ use Rattle.cache.specs.Coherent.{Coherent}
 use Rattle.cache.proofs.SuitLaws.{decode-suits}
 use Rattle.cache.proofs.BeginLaws.{begun-coherent}
 use Rattle.adaptive.specs.Quick.{Reply}
-use Rattle.adaptive.specs.Teaching.{Call, Teaches, TeachesAll}
-use Rattle.adaptive.specs.inside.Agreement.{quick, AllAgree, wordsAfter}
+use Rattle.adaptive.specs.Calls.{Call, quick, inTurn, lastWords}
+use Rattle.adaptive.specs.Teaching.{Teaches, TeachesAll}
+use Rattle.adaptive.specs.inside.Agreement.{AllAgree}
 use Rattle.adaptive.proofs.TeachLaws.{teaches-one}
 use Rattle.adaptive.proofs.AgreementLaws.{agreement}
 use Rattle.demands.specs.Demand3.{Both, BothDid, Session, lastCache, calls, ReadBefore, AllSame, Throughout, Demand3}
@@ -54,10 +55,11 @@ module _ (s : List ℕ) (g : Grammar) (alone : (c d e : List ℕ) (k : Call) →
       one : told (x .quickly) ≡ told (x .plainly)
       one = ap (λ (r : Reply). r .answer) (d .quick) ∙ (h .answer ∙ sym (d .plain))
 
-  last-cache : (xs : List Both) (c : List ℕ) → Session s c xs → lastCache c xs ≡ wordsAfter s c (calls xs)
-  unfolding wordsAfter
+  last-cache : (xs : List Both) (c : List ℕ) → Session s c xs → lastCache c xs ≡ lastWords c (inTurn (quick s) c (calls xs))
+  unfolding inTurn lastWords
   last-cache [] c d = refl
-  last-cache (x ∷ xs) c (d, ds) = last-cache xs (x .cache) ds ∙ ap (λ (e : List ℕ). wordsAfter s e (calls xs)) (sym (same-words d))
+  last-cache (x ∷ xs) c (d, ds) =
+      last-cache xs (x .cache) ds ∙ ap (λ (e : List ℕ). lastWords e (inTurn (quick s) e (calls xs))) (sym (same-words d))
 
 -- ---- from coherent words
 throughout : (s : List ℕ) (r : Rules) (m : Mark) → decode s ≡ got r m → checkOf s ≡ Sound → (c : List ℕ) → Coherent (compile r) s c

@@ -27,8 +27,7 @@ use Rattle.cache.proofs.BeginLaws.{begun-coherent}
 use Rattle.cache.specs.Predict.{predict}
 use Rattle.adaptive.specs.Chooser.{guided, adaptively}
 use Rattle.adaptive.specs.Quick.{Reply, quickNote, quickReading}
-use Rattle.adaptive.specs.Teaching.{Call}
-use Rattle.adaptive.specs.inside.Agreement.{quick}
+use Rattle.adaptive.specs.Calls.{Call, quick}
 use Rattle.demands.specs.SixStates.{sixLong, note12, note122, SixStates}
 use Rattle.adaptive.proofs.QuickLaws.{over-begun}
 use Rattle.adaptive.proofs.AgreementLaws.{quick-keeps}

@@ -15,7 +15,8 @@ use Rattle.derivation.specs.Plain.{Answer}
 use Rattle.lookahead.specs.Configs.{In}
 use Rattle.words.specs.Begin.{BeginDid}
 use Rattle.cache.specs.Coherent.{Coherent}
-use Rattle.adaptive.specs.Teaching.{Call, Teaches, TeachesAll}
+use Rattle.adaptive.specs.Calls.{Call}
+use Rattle.adaptive.specs.Teaching.{Teaches, TeachesAll}
 use Rattle.plain.specs.Contract.{PlainDid}
 use Rattle.quick.specs.Contract.{QuickDid}
 

@@ -7,8 +7,7 @@ use Rattle.derivation.specs.Cases.{g1}
 use Rattle.words.specs.Layout.{slots}
 use Rattle.words.specs.Words.{held}
 use Rattle.words.specs.Begin.{beginWords}
-use Rattle.adaptive.specs.Teaching.{Call}
-use Rattle.adaptive.specs.inside.Agreement.{quick}
+use Rattle.adaptive.specs.Calls.{Call, quick}
 
 -- the length of a cache with six slots
 abbrev pub sixLong : ℕ

@@ -10,6 +10,7 @@ use lib.ListN.{length}
 use Rattle.base.proofs.Booleans.{clash}
 use Rattle.number.specs.declared.Refusal.{Refusal}
 use Rattle.grammar.specs.Limits.{maxPlaces}
+use Rattle.grammar.specs.Grammar as grammar
 use Rattle.grammar.specs.inside.Tables.{grammarIn}
 use Rattle.soundness.specs.declared.judgement.Verdict.{Verdict}
 use Rattle.soundness.specs.declared.judgement.Verdict.the-variants.{Sound, Refused}
@@ -28,6 +29,15 @@ use Rattle.gate.specs.declared.passing.Gate.{Gate}
 use Rattle.gate.specs.declared.passing.Gate.the-variants.{Passed, Shut}
 use Rattle.gate.specs.declared.tokens.Tokens.{Tokens}
 use Rattle.gate.specs.declared.tokens.Tokens.the-variants.{Known, Unknown}
+
+-- ---- what comes of a gate, by what the code answered
+module _ {A : Type 0} {says : definition.Gate} {t w : List ℕ} {space : ℕ} {x : Gate} (h : Answers says t w space x) (refused : ℕ → ℕ → A)
+    (on : grammar.Grammar → A) where
+  pub at-shut : {r : Reading} → x ≡ Shut r → refused (readingNumber r) (readingPlace r) ≡ definition.atGate refused on says
+  at-shut {r} e = ap (definition.atGate refused on) (rw e at (h .is))
+
+  pub at-passed : x ≡ Passed → on (grammarIn t) ≡ definition.atGate refused on says
+  at-passed e = ap (definition.atGate refused on) (rw e at (h .is))
 
 -- ---- the words of working space, as the code works them out
 pub space-is : {P Q : ℕ} (n : ℕ) → P ≡ Q → spaceFixed + spaceEach * (P * (n + 1)) ≡ spaceWords Q n

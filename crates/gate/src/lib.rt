@@ -7,5 +7,6 @@ pub use passing::Gate;
 pub use passing::MAX_TOKENS;
 pub use passing::SPACE_WORDS;
 pub use passing::SPACE_WORDS_EACH;
+pub use passing::note_gate;
 pub use passing::pass;
 pub use reading::Reading;

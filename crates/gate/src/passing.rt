@@ -23,7 +23,7 @@ pub enum Gate {
 }
 
 // 8, 9 and 11, for the tables of a sound grammar.
-fn note_gate(tables: &[u16], note: &[u16], space: usize) -> Gate
+pub fn note_gate(tables: &[u16], note: &[u16], space: usize) -> Gate
     requires { ⌜ Ready (now tables) ⌝ }
     ensures { λ r. ⌜ NoteGated (now (tables .entry)) (now (note .entry)) space r ⌝ }
 {

@@ -1,31 +1,32 @@
 -- The quick reading as a whole: the gate refuses as the definition does, then the cache is refused or read over, and the machine's outcome is the answer.
-use mathlib.Core.Path.{_≡_, sym, ap, _∙_}
-use mathlib.Core.Bool.{Bool, true, false, not}
+use mathlib.Core.Path.{_≡_, sym, subst, ap, _∙_}
 use mathlib.Core.List.{List}
-use Prim.Native.Nat.{ℕ, _≤_, _<_}
+use Prim.Native.Nat.{ℕ}
 use lib.ListN.{length}
-use Rattle.base.proofs.Booleans.{clash, true→T}
+use Rattle.base.proofs.Booleans.{clash}
 use Rattle.grammar.specs.Grammar.{Grammar}
 use Rattle.grammar.specs.inside.Tables.{grammarIn}
 use Rattle.derivation.specs.Plain.{Answer, answer, refuse, onConclusion}
-use Rattle.derivation.specs.Gate as definition
-use Rattle.words.specs.Layout.{minWords}
-use Rattle.words.specs.Begin.{begun?}
+use Rattle.words.specs.inside.Standings.{standingOf}
+use Rattle.words.specs.declared.standing.Standing.{Standing}
+use Rattle.words.specs.declared.standing.Standing.the-variants.{Begun, Short, Foreign}
+use Rattle.words.proofs.StandingLaws.{Stands, short, foreign, begun, stands}
 use Rattle.adaptive.specs.Quick.{Reply, reply, quickNote, replyOf, overCache, quickReading}
 use Rattle.adaptive.proofs.QuickLaws.{over-12, over-13, over-begun}
 use Rattle.gate.specs.Reading.{readingNumber, readingPlace}
-use Rattle.gate.specs.inside.Passing.{gateIn, Admitted, Gated}
+use Rattle.gate.specs.inside.Passing.{Admitted, Gated}
 use Rattle.gate.specs.declared.reading.Reading.{Reading}
 use Rattle.gate.specs.declared.reading.Reading.the-variants.{ShortCache, ForeignCache}
 use Rattle.gate.specs.declared.passing.Gate.{Gate}
 use Rattle.gate.specs.declared.passing.Gate.the-variants.{Passed, Shut}
+use Rattle.gate.proofs.PassingLaws.{at-shut, at-passed}
 use Rattle.cells.proofs.Spots.{lent-kept}
 use Rattle.reach.specs.inside.Passes.{Given}
 use Rattle.machine.specs.inside.Ending.{outcomeIn}
 use Rattle.machine.proofs.EndingLaws.{outcome-length}
 use Rattle.quick.specs.declared.running.Stop.{Stop}
 use Rattle.quick.specs.inside.Run.{QuickRan, Stopped, CellsRight}
-use Rattle.quick.specs.inside.Replied.{replied, noteReply}
+use Rattle.quick.specs.inside.Replied.{replied, noteReply, LongEnough, overStanding}
 
 -- ---- the machine, and what follows from it
 pub stopped : (t w row ws c : List ℕ) {r : Stop} {row′ ws′ c′ : List ℕ} → Admitted t w (length ws) → QuickRan t w row ws c r row′ ws′ c′
@@ -48,39 +49,44 @@ read-is t w row ws c {r} {row′} {c′ = c′} y e =
     ap (λ (y : Answer). reply y c′) (e ∙ outcome-length (grammarIn t) w row row′ (outcomeIn (r .outcome) row′) (y .ran .row-kept))
     ∙ ap (replyOf (grammarIn t) w row) (y .ran .stops)
 
--- ---- 12 and 13
+-- ---- 12 and 13, by how the cache stands to the grammar
+module _ (g : Grammar) (w row c : List ℕ) {x : Standing} where
+  pub twelve : x ≡ Short → replied ShortCache row c ≡ overStanding x g w row c
+  twelve e = rw e
+
+  pub thirteen : x ≡ Foreign → replied ForeignCache row c ≡ overStanding x g w row c
+  thirteen e = rw e
+
+  pub over-note : x ≡ Begun → {y : Reply} → y ≡ noteReply g w row c → y ≡ overStanding x g w row c
+  over-note e q = rw e q
+
 module _ (s : List ℕ) (g : Grammar) (w row c : List ℕ) where
-  pub twelve : length c < minWords → replied ShortCache row c ≡ overCache s g w row c
-  twelve l = sym (over-12 s g w row c l)
+  over-way : {x : Standing} → Stands s c x → overStanding x g w row c ≡ overCache s g w row c
+  over-way (short l) = sym (over-12 s g w row c l)
+  over-way (foreign l e) = sym (over-13 s g w row c l e)
+  over-way (begun l t) = sym (over-begun s g w row c l t)
 
-  module _ (l : minWords ≤ length c) {b : Bool} (e : b ≡ begun? s c) where
-    pub thirteen : not b ≡ true → replied ForeignCache row c ≡ overCache s g w row c
-    thirteen n = go b e n
-      where
-        go : (b : Bool) → b ≡ begun? s c → not b ≡ true → replied ForeignCache row c ≡ overCache s g w row c
-        go true e n = clash (cc)
-        go false e n = sym (over-13 s g w row c l (sym e))
+  pub standing-over : {x : Standing} → x ≡ standingOf s c → overStanding x g w row c ≡ overCache s g w row c
+  standing-over e = over-way (subst (Stands s c) (sym e) (stands s c))
 
-    pub begun-is : {x : Reply} → not b ≡ false → x ≡ noteReply g w row c → x ≡ overCache s g w row c
-    begun-is {x} n q = go b e n
-      where
-        go : (b : Bool) → b ≡ begun? s c → not b ≡ false → x ≡ overCache s g w row c
-        go true e n = q ∙ sym (over-begun s g w row c l (true→T (begun? s c) (sym e)))
-        go false e n = clash (cc)
+pub standing-long : (s c : List ℕ) {x : Standing} → x ≡ standingOf s c → LongEnough x c
+standing-long s c e f = go (subst (Stands s c) (sym e) (stands s c)) f
+  where
+    go : {x : Standing} → Stands s c x → LongEnough x c
+    go (short l) f = clash (cc)
+    go (foreign l e) f = l
+    go (begun l t) f = l
 
 -- ---- the gate
 module _ (s w row : List ℕ) (space : ℕ) (c : List ℕ) {t : List ℕ} {g : Gate} (h : Gated s w space t g) where
-  abbrev told : definition.Gate → Reply
-  told x = definition.atGate (λ n p. reply (refuse n p row) c) (λ g. overCache s g w row c) x
-
   pub shut-is : {r : Reading} → g ≡ Shut r → replied r row c ≡ quickReading s w row space c
   unfolding quickReading
   shut-is {r} e =
-      let z : told (gateIn (Shut r) (grammarIn t)) ≡ told (definition.gate s w space) = ap told (rw e at (h .is)) in
-      ap (λ (n : ℕ). reply (answer (readingNumber r) (readingPlace r) n row) c) (h .counts r e) ∙ z
+      ap (λ (n : ℕ). reply (answer (readingNumber r) (readingPlace r) n row) c) (h .counts r e)
+      ∙ at-shut h (λ n p. reply (refuse n p row) c) (λ g. overCache s g w row c) e
 
-  pub passed-is : g ≡ Passed → {x : Reply} → x ≡ overCache s (grammarIn t) w row c → x ≡ quickReading s w row space c
+  pub passed-is : g ≡ Passed → {st : Standing} → st ≡ standingOf s c → {x : Reply} → x ≡ overStanding st (grammarIn t) w row c
+      → x ≡ quickReading s w row space c
   unfolding quickReading
-  passed-is e q =
-      let z : told (gateIn Passed (grammarIn t)) ≡ told (definition.gate s w space) = ap told (rw e at (h .is)) in
-      q ∙ z
+  passed-is e f q =
+      q ∙ standing-over s (grammarIn t) w row c f ∙ at-passed h (λ n p. reply (refuse n p row) c) (λ g. overCache s g w row c) e

@@ -2,4 +2,5 @@
 mod reading;
 mod running;
 
+pub use reading::over;
 pub use reading::quick;

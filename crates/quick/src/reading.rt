@@ -3,18 +3,18 @@ use crate::running::Stop;
 use gate::Gate;
 use gate::Reading;
 use machine::Conclusion;
+use words::Standing;
 ghost use mathlib.Core.Path.{_≡_};
 ghost use Prim.Native.Nat.{_≤_, _<_};
 ghost use lib.ListN.{length};
 ghost use Rattle.grammar.specs.inside.Tables.{grammarIn};
 ghost use Rattle.derivation.specs.Plain.{onConclusion};
 ghost use Rattle.words.specs.Layout.{minWords};
-ghost use Rattle.adaptive.specs.Quick.{overCache};
 ghost use Rattle.gate.specs.Reading.{readingNumber, readingPlace, readingCount, answered};
 ghost use Rattle.gate.specs.inside.Passing.{Admitted};
 ghost use Rattle.machine.specs.inside.Ending.{outcomeIn};
 ghost use Rattle.quick.specs.inside.Run.{Stopped, CellsWanted, CellsRight};
-ghost use Rattle.quick.specs.inside.Replied.{replied, noteReply};
+ghost use Rattle.quick.specs.inside.Replied.{replied, noteReply, LongEnough, overStanding};
 ghost use Rattle.quick.specs.Contract.{QuickDid};
 
 // The cells, if there are none yet.
@@ -60,26 +60,24 @@ fn read(tables: &[u16], note: &[u16], row: &mut [u16], cache: &mut [u32], ws: &m
     finish(tables, note, row, ws, stop)
 }
 
-// 12, 13, and then the reading.
-fn over_cache(
-    grammar: &[u8],
+// A note that passed the gate, over a cache that stands so to the grammar: 12, 13, or the reading.
+pub fn over(
     tables: &[u16],
     note: &[u16],
     row: &mut [u16],
     cache: &mut [u32],
     ws: &mut [u32],
+    standing: Standing,
 ) -> Reading
-    requires { ⌜ Admitted (now tables) (now note) (length (now ws)) ⌝ }
+    requires { ⌜ Admitted (now tables) (now note) (length (now ws)) × LongEnough standing (now cache) ⌝ }
     ensures { λ r. ⌜ replied r (now (row .exit)) (now (cache .exit))
-        ≡ overCache (now (grammar .entry)) (grammarIn (now (tables .entry))) (now (note .entry)) (now (row .entry)) (now (cache .entry)) ⌝ }
+        ≡ overStanding standing (grammarIn (now (tables .entry))) (now (note .entry)) (now (row .entry)) (now (cache .entry)) ⌝ }
 {
-    if cache.len() < words::MIN_WORDS {
-        return Reading::ShortCache;
+    match standing {
+        Standing::Short => Reading::ShortCache,
+        Standing::Foreign => Reading::ForeignCache,
+        Standing::Begun => read(tables, note, row, cache, ws),
     }
-    if !words::is_begun(grammar, cache) {
-        return Reading::ForeignCache;
-    }
-    read(tables, note, row, cache, ws)
 }
 
 // Reads a note over a cache that was begun for the grammar: number, place, count and row are those of the plain reading, and the cache learns. The row then
@@ -99,6 +97,9 @@ pub fn quick(
     let gate = gate::pass(grammar, note, workspace.len(), &mut tables);
     match gate {
         Gate::Shut(r) => r,
-        Gate::Passed => over_cache(grammar, &tables, note, row, cache, workspace),
+        Gate::Passed => {
+            let standing = words::stands(grammar, cache);
+            over(&tables, note, row, cache, workspace, standing)
+        }
     }
 }

@@ -4,4 +4,5 @@ pub mod PackSteps
 pub mod SizeLaws
 pub mod BeginSteps
 pub mod BeginMeans
+pub mod StandingLaws
 pub mod SlotLaws

@@ -3,8 +3,11 @@ mod beginning;
 mod bytes;
 pub mod layout;
 pub mod slots;
+mod standing;
 
 pub use beginning::Beginning;
 pub use beginning::begin;
 pub use beginning::is_begun;
 pub use layout::MIN_WORDS;
+pub use standing::Standing;
+pub use standing::stands;

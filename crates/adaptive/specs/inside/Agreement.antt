@@ -6,10 +6,10 @@ use lib.ListN.{length}
 use Rattle.grammar.specs.Grammar.{Grammar}
 use Rattle.derivation.specs.Space.{spaceWords}
 use Rattle.derivation.specs.Gate.{atGate, noteGate}
-use Rattle.derivation.specs.Plain.{Answer, plainReading}
 use Rattle.lookahead.specs.Configs.{In}
-use Rattle.adaptive.specs.Quick.{Reply, quickNote, quickReading}
-use Rattle.adaptive.specs.Teaching.{Call, Teaches, TeachesAll}
+use Rattle.adaptive.specs.Quick.{quickNote}
+use Rattle.adaptive.specs.Calls.{Call, quick, plain, inTurn, lastWords}
+use Rattle.adaptive.specs.Teaching.{Teaches, TeachesAll}
 
 -- the same words, worked out: a step in proofs
 unfoldable pub taught : Grammar → List ℕ → Call → List ℕ
@@ -20,13 +20,6 @@ unfoldable pub taughtAll : Grammar → List ℕ → List Call → List ℕ
 unfolding taught
 taughtAll g c [] = c
 taughtAll g c (k ∷ ks) = taughtAll g (taught g c k) ks
-
--- the quick reading of a call over words c, and the plain reading beside it
-abbrev pub quick : List ℕ → List ℕ → Call → Reply
-quick s c k = quickReading s (k .note) (k .row) (k .space) c
-
-abbrev pub plain : List ℕ → Call → Answer
-plain s k = plainReading s (k .note) (k .row) (k .space)
 
 -- one reading of the list: c are the words that the one before it left, `earlier` the calls before it
 pub record Agrees (s : List ℕ) (g : Grammar) (c : List ℕ) (earlier : List Call) (k : Call) : Type 0 where
@@ -44,15 +37,9 @@ abbrev pub AllAgree : List ℕ → Grammar → List ℕ → List Call → List C
 AllAgree s g c earlier [] = Unit {0}
 AllAgree s g c earlier (k ∷ ks) = Agrees s g c earlier k × AllAgree s g ((quick s c k) .words) (k ∷ earlier) ks
 
--- the words after a whole list, as the readings leave them
-unfoldable pub wordsAfter : List ℕ → List ℕ → List Call → List ℕ
-unfolding quickReading
-wordsAfter s c [] = c
-wordsAfter s c (k ∷ ks) = wordsAfter s ((quick s c k) .words) ks
-
 -- a list of readings over words c
 pub record Agreement (s : List ℕ) (g : Grammar) (c : List ℕ) (ks : List Call) : Type 0 where
   -- each reading agrees
   pub each : AllAgree s g c [] ks
   -- and at the end the cache holds what the learning rules give from c by the notes and the rows' lengths
-  pub words : TeachesAll g c ks (wordsAfter s c ks)
+  pub words : TeachesAll g c ks (lastWords c (inTurn (quick s) c ks))

@@ -1,5 +1,6 @@
--- `quick::reading::quick` meets its contract: the gate is the definition's, and where it is passed the tables hold the grammar by which the note is read.
-use Rattle.quick.proofs.ReadingLaws.{shut-is, passed-is}
+-- `quick::reading::quick` meets its contract: the gate is the definition's, and where it is passed the tables hold the grammar by which the note is read
+-- over the cache as it stands.
+use Rattle.quick.proofs.ReadingLaws.{shut-is, passed-is, standing-long}
 use borrow.Author.Needs.{needs}
 use Rattle.quick.proofs.reading.quick.Statement.{statement}
 use Rattle.quick.proofs.reading.quick.Tie as tie
@@ -16,14 +17,18 @@ enum-known-gate c = search needs
 enum-told : tie.Need-enum-told
 enum-told c = search needs
 
-slice-aggregate-over-cache : tie.Need-slice-aggregate-over-cache
-slice-aggregate-over-cache c = search needs
+stands-requires : tie.Need-stands-requires
+stands-requires c κs = search needs
 
-over-cache-requires : tie.Need-over-cache-requires
-over-cache-requires c κs =
-    let at-enum-told = c .before .before .before .before in
+slice-aggregate-over : tie.Need-slice-aggregate-over
+slice-aggregate-over c = search needs
+
+over-requires : tie.Need-over-requires
+over-requires c κs =
+    let at-stands = c .before .before .before .before in
+    let at-enum-told = at-stands .before .before in
     let at-pass = at-enum-told .before .before .before in
-    (at-pass .pass .ensures .admits) (at-enum-told .enum-told .given .1)
+    ((at-pass .pass .ensures .admits) (at-enum-told .enum-told .given .1), standing-long _ _ (at-stands .stands .ensures))
 
 returns : tie.Need-returns
 returns c =
@@ -41,11 +46,12 @@ same-length-3 c = search needs
 
 returns-2 : tie.Need-returns-2
 returns-2 c =
-    let at-over-cache = c .before .before .before .before .before .before in
-    let at-enum-told = at-over-cache .before .before .before .before .before in
+    let at-over = c .before .before .before .before .before .before in
+    let at-stands = at-over .before .before .before .before .before in
+    let at-enum-told = at-stands .before .before in
     let at-pass = at-enum-told .before .before .before in
-    passed-is _ _ _ _ _ (at-pass .pass .ensures) (at-enum-told .enum-told .given .1) (at-over-cache .over-cache .ensures)
+    passed-is _ _ _ _ _ (at-pass .pass .ensures) (at-enum-told .enum-told .given .1) (at-stands .stands .ensures) (at-over .over .ensures)
 
 pub quick-spec : {M : Type 1} → statement M
-quick-spec = tie.close (tie.spec slice-aggregate-pass pass-requires enum-known-gate enum-told slice-aggregate-over-cache over-cache-requires returns
+quick-spec = tie.close (tie.spec slice-aggregate-pass pass-requires enum-known-gate enum-told stands-requires slice-aggregate-over over-requires returns
     same-length same-length-2 same-length-3 returns-2)
