@@ -9,6 +9,7 @@
  *   allstar_plain     reads a note
  *   allstar_begin     makes a cache for a grammar
  *   allstar_quick     reads a note over a cache: the same answer, and faster the more the cache has learned
+ *   allstar_batch     reads up to 64 notes over a cache in one call: the same answers
  *   allstar_split     makes a note of a typed line: its words, numbers and marks become tokens
  *
  * Every call is safe for any bytes, tokens and words of any number. Memory stays the caller's: a call reads
@@ -25,7 +26,7 @@
 
 /* The version of this header; allstar_version() tells that of the library that is linked. */
 #define ALLSTAR_VERSION_MAJOR 1
-#define ALLSTAR_VERSION_MINOR 2
+#define ALLSTAR_VERSION_MINOR 3
 #define ALLSTAR_VERSION_PATCH 0
 #define ALLSTAR_VERSION (ALLSTAR_VERSION_MAJOR * 10000 + ALLSTAR_VERSION_MINOR * 100 + ALLSTAR_VERSION_PATCH)
 
@@ -53,14 +54,17 @@ enum allstar_number {
     /* A typed line, or the list lent with it, is refused. The place is a byte of the line, counted from 0. */
     ALLSTAR_LONG_LINE = 15,       /* it has more than ALLSTAR_LINE_MAX bytes */
     ALLSTAR_FOREIGN_BYTE = 16,    /* a byte is below 32 or above 126; the first such */
-    ALLSTAR_BAD_LIST = 17         /* not words with single blanks between, more than 66, or one of them twice */
+    ALLSTAR_BAD_LIST = 17,        /* not words with single blanks between, more than 66, or one of them twice */
+    /* What is lent for a batch does not fit together. */
+    ALLSTAR_BAD_BATCH = 18        /* notes, lengths, answers and row are not as allstar_batch wants them */
 };
 
-/* The limits of grammars and notes. */
+/* The limits of grammars and notes, and the most notes of a batch. */
 #define ALLSTAR_KINDS_MAX 100
 #define ALLSTAR_NONTERMINALS_MAX 32
 #define ALLSTAR_PLACES_MAX 255
 #define ALLSTAR_TOKENS_MAX 128
+#define ALLSTAR_NOTES_MAX 64
 
 /* The limits of typed lines: their bytes, and the words of a list. */
 #define ALLSTAR_LINE_MAX 512
@@ -193,6 +197,46 @@ uint32_t allstar_quick(const uint8_t *grammar, size_t grammar_length,
                        uint32_t *workspace, size_t workspace_length,
                        uint64_t *place, uint64_t *count);
 
+/* Reads a batch of notes by a grammar over a begun cache: up to 64 quick readings, one after the other, in one
+ * call that checks the grammar once. Lent are
+ *   the grammar     bytes of any length; they are checked
+ *   the tokens      those of all notes in a row, each note's behind those of the one before it
+ *   the lengths     how many tokens each note has, note by note: as many lengths as notes, 1 to 64, and their
+ *                   sum is tokens_length
+ *   the answers     three for each note, note by note: answers[3 * k], [3 * k + 1] and [3 * k + 2] take number,
+ *                   place and count of note k, counted from 0
+ *   the row         any length that is a multiple of lengths_length, 0 too; it is cut into equal parts, one for
+ *                   each note. With m notes, part k is the row_length / m entries from k * (row_length / m) on
+ *   the cache       as in allstar_quick
+ *   the workspace   as in allstar_quick; each note has all of it, so what the longest one asks for is enough
+ * Answers 0 if every note was read, or refused by itself: see the answers. Else no note is read, and it answers
+ * the number of the refusal, the first that applies in this order:
+ *   1 to 5, 7, 6   the grammar, as in allstar_check
+ *   18             there are no notes, or more than 64; or the lengths do not add up to tokens_length; or
+ *                  answers_length is not 3 * lengths_length; or row_length is no multiple of lengths_length
+ * and stores the place: as in allstar_check for 1 to 7, else 0.
+ *
+ * If it answers 0, then number, place and count of each note, its part of the row, and the cache are those of
+ * calls of allstar_quick, one for each note in their order, each lent the same grammar, the note, its part of
+ * the row, the cache as the one before left it, and the workspace. So a note is refused with 8, 9, 11, 12, 13,
+ * 10 or 14, the first that applies in this order; its place counts the note's own tokens; and the next note is
+ * read whatever became of it. 12 and 13 are answers of notes as well, never of the call.
+ *
+ * The answers afterwards: all are stored; after 1 to 7 and 18 they are untouched.
+ * The row afterwards: the part of an accepted note holds its entries, and zeros behind them; after 10 and 14 of
+ * a note its part holds zeros alone; after any other refusal of a note its part is untouched. After 1 to 7 and
+ * 18 the whole row is untouched.
+ * The cache afterwards: it holds what it held and what the readings learned; after 1 to 7 and 18 it is
+ * untouched, and so is the workspace. */
+uint32_t allstar_batch(const uint8_t *grammar, size_t grammar_length,
+                       const uint16_t *tokens, size_t tokens_length,
+                       const uint16_t *lengths, size_t lengths_length,
+                       uint64_t *answers, size_t answers_length,
+                       uint16_t *row, size_t row_length,
+                       uint32_t *cache, size_t cache_length,
+                       uint32_t *workspace, size_t workspace_length,
+                       uint64_t *place);
+
 /* Makes a note of a typed line. Lent are
  *   the line        its bytes, at most 512, without a line end
  *   the words       the list: up to 66 words with single blanks between and nothing before or behind them, none
@@ -263,6 +307,8 @@ static inline const char *allstar_text(uint32_t number)
         return "the line has a foreign byte";
     case ALLSTAR_BAD_LIST:
         return "the list of words is no list";
+    case ALLSTAR_BAD_BATCH:
+        return "the parts of the batch do not fit together";
     default:
         return "no number of this library";
     }

@@ -13,7 +13,7 @@ expect() {
     diff "examples/output/$1" - || { echo "examples: not what examples/output/$1 has"; exit 1; }
 }
 
-for program in read_notes keep_cache; do
+for program in read_notes keep_cache truck; do
     gcc -std=c99 -O2 -Wall -Wextra -Wpedantic -Wshadow -Wconversion -Werror "examples/$program.c" "$@" -o "target/examples/$program"
 done
 rustc --edition 2021 -D warnings --extern allstar=target/rust/liballstar.rlib examples/read_notes.rs -o target/examples/read_notes_rust
@@ -62,4 +62,15 @@ keep() {
     printf x | dd of="$work/cache" bs=1 seek=9000 conv=notrunc status=none
     keep g1 bench/cases/g1.notes
 } | expect keep_cache
+
+# One batch, and more notes than one batch takes, lines among them that are no notes; grammars that are refused.
+for _ in {1..9}; do cat examples/delivery.notes; echo; done > "$work/many"
+{
+    target/examples/truck examples/g1.grammar bench/cases/g1.notes
+    target/examples/truck examples/delivery.grammar "$work/many"
+    target/examples/truck "$work/long" "$work/empty_note"
+    for number in 1 7; do
+        if target/examples/truck "$work/$number" bench/cases/g1.notes; then echo "accepted"; fi
+    done
+} | expect truck
 echo "examples: built, and print what they must"

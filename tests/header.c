@@ -11,7 +11,8 @@ SAME(cache_of_six_slots, ALLSTAR_CACHE_WORDS(6), 3968);
 SAME(workspace_max, ALLSTAR_WORKSPACE_MAX, 271352);
 SAME(workspace_of_g1, ALLSTAR_WORKSPACE_WORDS(10, 16), 9552);
 SAME(listed_last, ALLSTAR_KIND_LISTED + ALLSTAR_LISTED_MAX - 1, ALLSTAR_KINDS_MAX);
-SAME(version, ALLSTAR_VERSION, 10200);
+SAME(notes_max, ALLSTAR_NOTES_MAX, 64);
+SAME(version, ALLSTAR_VERSION, 10300);
 
 static const uint8_t too_long[ALLSTAR_LINE_MAX + 1] = {0};
 static uint32_t cache[ALLSTAR_CACHE_MIN], space[ALLSTAR_WORKSPACE_WORDS(10, 2)];
@@ -21,9 +22,9 @@ int main(void)
     const uint8_t g1[] = {2, 2, 2, 1, 3, 2, 3, 4, 2, 1, 2, 2, 2, 4};
     const uint8_t line[] = {'k', 'g', '1', ' ', '2', '.', '5', 'a'};
     const uint8_t list[] = {'k', 'g', '1'};
-    const uint16_t note[] = {1, 2};
-    uint16_t row[2], again[2], tokens[4];
-    uint64_t place, count, kinds, nonterminals, places;
+    const uint16_t note[] = {1, 2}, notes[] = {1, 2, 1, 1, 1}, lengths[] = {2, 2, 1};
+    uint16_t row[2], again[2], tokens[4], parts[6];
+    uint64_t place, count, kinds, nonterminals, places, answers[9];
     uint32_t number, other;
     if (allstar_version() != ALLSTAR_VERSION)
         return 1;
@@ -56,10 +57,23 @@ int main(void)
         allstar_split(too_long, ALLSTAR_LINE_MAX, list, sizeof list, tokens, 4, &place, &count) !=
             ALLSTAR_FOREIGN_BYTE || place != 0)
         return 10;
+    if (allstar_batch(g1, sizeof g1, notes, 5, lengths, 3, answers, 9, parts, 6, cache, ALLSTAR_CACHE_MIN, space,
+                      ALLSTAR_WORKSPACE_WORDS(places, 2), &place) != ALLSTAR_OK || place != 0)
+        return 11;
+    if (answers[0] != ALLSTAR_OK || answers[2] != 2 || memcmp(row, parts, sizeof row) != 0 ||
+        answers[3] != ALLSTAR_NOT_A_SENTENCE || answers[4] != 1 || answers[5] != 0 ||
+        parts[2] != 0 || parts[3] != 0 ||
+        answers[6] != ALLSTAR_OK || answers[8] != 2 || parts[4] != 1 || parts[5] != 1)
+        return 12;
+    if (allstar_batch(g1, sizeof g1, notes, 5, lengths, 3, answers, 8, parts, 6, cache, ALLSTAR_CACHE_MIN, space,
+                      ALLSTAR_WORKSPACE_WORDS(places, 2), &place) != ALLSTAR_BAD_BATCH || place != 0 ||
+        allstar_batch(g1, sizeof g1 - 1, notes, 5, lengths, 3, answers, 8, parts, 6, cache, ALLSTAR_CACHE_MIN, space,
+                      ALLSTAR_WORKSPACE_WORDS(places, 2), &place) != ALLSTAR_UNFINISHED || place != 13)
+        return 13;
     /* Each number has a text of its own. */
-    for (number = 0; number <= ALLSTAR_BAD_LIST + 1; number++)
+    for (number = 0; number <= ALLSTAR_BAD_BATCH + 1; number++)
         for (other = 0; other < number; other++)
             if (strcmp(allstar_text(number), allstar_text(other)) == 0)
-                return 11;
-    return strcmp(allstar_text(99), allstar_text(ALLSTAR_BAD_LIST + 1)) == 0 ? 0 : 12;
+                return 14;
+    return strcmp(allstar_text(99), allstar_text(ALLSTAR_BAD_BATCH + 1)) == 0 ? 0 : 15;
 }

@@ -24,6 +24,8 @@ mod list_corners;
 mod near_limits;
 #[path = "support/notes.rs"]
 mod notes;
+#[path = "support/other_caches.rs"]
+mod other_caches;
 #[path = "support/random.rs"]
 mod random;
 #[path = "support/second_checker.rs"]
@@ -115,7 +117,7 @@ fn test() {
     tiny_grammars(&mut run);
     drawn_lists(&mut run);
     damaged_grammars(&mut run);
-    other_caches(&mut run);
+    caches_of_others(&mut run);
     foreign_caches(&mut run);
     run.finish();
 }
@@ -347,7 +349,7 @@ impl Run {
         let foreign = [0, 10, 14].map(|number| self.foreign.times(number));
         let other = self.other.values().copied();
         let mut all = drawn.chain(self.corners).chain(foreign).chain(other);
-        if all.any(|n| n < LEAST_OFTEN) || self.other.len() < OTHER_KINDS {
+        if all.any(|n| n < LEAST_OFTEN) || self.other.len() < other_caches::KINDS {
             fail("some answer or corner came up too rarely in the drawn readings");
         }
         println!(
@@ -718,14 +720,11 @@ impl Run {
     }
 }
 
-/// What makes a begun cache another one.
-const OTHER_KINDS: usize = 8;
-
 /// Caches that are too short, and caches begun for another grammar or length.
-fn other_caches(run: &mut Run) {
+fn caches_of_others(run: &mut Run) {
     for style in &STYLES {
         let mut random = Random::new(5);
-        let mut other = style.grammar(&mut random);
+        let mut other = style.grammar(&mut random).encode();
         for nth in 0..MOST_LISTS {
             let grammar = style.grammar(&mut random);
             let bytes = grammar.encode();
@@ -734,46 +733,9 @@ fn other_caches(run: &mut Run) {
             let judgement = Judgement::of(&bytes, &note, 40);
             let enough = space(grammar.places(), note.len().min(LONGEST_NOTE));
             let length = cache_words::length(random.between(1, 6)) + random.pick(&[0, 1, 319]);
-            let mut words = cache_words::begun(&bytes, length);
-            let name = match nth % OTHER_KINDS {
-                0 => {
-                    words.truncate(random.pick(&[0, 1, 64, 2_048, 2_366, 2_367]));
-                    "too short"
-                }
-                1 if other != grammar => {
-                    words = cache_words::begun(&other.encode(), length);
-                    "begun for another grammar"
-                }
-                2 => {
-                    words.push(0);
-                    "begun for one word less"
-                }
-                3 => {
-                    words = cache_words::begun(&bytes, length + 1);
-                    words.pop();
-                    "begun for one word more"
-                }
-                4 => {
-                    let at = random.between(1, 3);
-                    words[at] ^= 1 << random.below(32);
-                    "another number of words or bytes"
-                }
-                5 => {
-                    let nth = random.below(bytes.len());
-                    let bit = random.below(8);
-                    words[64 + nth / 4] ^= 1 << (8 * (nth % 4) + bit);
-                    "another byte"
-                }
-                6 if bytes.len() % 4 != 0 => {
-                    let bit = random.between(8 * (bytes.len() % 4), 31);
-                    words[64 + bytes.len() / 4] ^= 1 << bit;
-                    "something behind the last byte in its word"
-                }
-                7 => {
-                    words = run.words[..length].to_vec();
-                    "any words"
-                }
-                _ => continue,
+            let drawn = other_caches::draw(&mut random, nth, &bytes, &other, length, &run.words);
+            let Some((name, words)) = drawn else {
+                continue;
             };
             let mut case = Case::new(&format!("{}, {name}", style.name), &bytes, &words);
             case.calls.push(Call {
@@ -785,7 +747,7 @@ fn other_caches(run: &mut Run) {
             if matches!(answer.number, 12 | 13) {
                 run.note_other(name);
             }
-            other = grammar;
+            other = bytes;
         }
     }
 }
@@ -818,10 +780,7 @@ fn foreign_caches(run: &mut Run) {
             for (name, change) in foreign::KINDS {
                 let mut words = recorded.clone();
                 change(&mut random, &grammar, &mut words);
-                let begun = cache_words::begun(&known.bytes, length);
-                let bytes_end = 64 + known.bytes.len().div_ceil(4);
-                words[1..4].copy_from_slice(&begun[1..4]);
-                words[64..bytes_end].copy_from_slice(&begun[64..bytes_end]);
+                other_caches::begin_again(&known.bytes, &mut words);
                 let origin = format!("{}, {name}", style.name);
                 let mut case = Case::new(&origin, &known.bytes, &words);
                 for _ in 0..2 {

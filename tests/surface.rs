@@ -31,6 +31,7 @@ fn main() {
     readings();
     caches();
     long_rows();
+    many_notes();
     typed_lines();
     println!("surface: header, package and library say the same");
 }
@@ -78,7 +79,7 @@ fn declarations() {
             (name.to_string(), parameters.collect::<Vec<_>>().join(", "))
         })
         .collect();
-    assert_eq!(of_header.len(), 7);
+    assert_eq!(of_header.len(), 8);
     assert_eq!(of_header, of_package);
     assert_eq!(of_header, of_library);
 }
@@ -156,8 +157,8 @@ fn numbers() {
         }
         count += 1;
     }
-    assert_eq!(count, 18);
-    assert_eq!(Refusal::new(18, 0), None);
+    assert_eq!(count, 19);
+    assert_eq!(Refusal::new(19, 0), None);
 }
 
 /// What tests/header.c says of the header's macros.
@@ -165,6 +166,7 @@ fn sizes() {
     assert_eq!(allstar::cache_words(1), 2_368);
     assert_eq!(allstar::cache_words(6), 3_968);
     assert_eq!(allstar::workspace_words(255, allstar::MAX_TOKENS), 271_352);
+    assert!(HEADER.contains(&format!("#define ALLSTAR_NOTES_MAX {}\n", allstar::MAX_NOTES)));
 }
 
 fn version() {
@@ -299,6 +301,77 @@ fn long_rows() {
             Ok(reading) => assert!(fits && reading.entries() == [1; 2_047]),
             Err(refusal) => assert!(!fits && refusal == NoteRefusal::ShortRow),
         };
+    }
+}
+
+/// Many notes at once: the answers of [`Cache::read`] in the same order, and what it learns, however many there are.
+fn many_notes() {
+    let grammar = Grammar::new(from_hex(DELIVERY)).unwrap();
+    let number = |word: &str| word.parse::<u16>().unwrap();
+    let lines = include_str!("../bench/cases/delivery.notes").lines();
+    let mut notes: Vec<Vec<u16>> = lines
+        .map(|line| line.split_whitespace().map(number).collect())
+        .collect();
+    // Too long by one token, and too long for 16 bits; unknown tokens; none.
+    notes.extend([vec![1; 129], vec![1; 70_000], vec![1, 18], vec![]]);
+    let notes: Vec<Vec<u16>> = (0..200).map(|nth| notes[7 * nth % notes.len()].clone()).collect();
+    for count in [0, 1, 2, 63, 64, 65, 128, 129, 200] {
+        let mut one = Cache::new(&grammar, 40).unwrap();
+        let mut other = one.clone();
+        let (mut together, mut singly) = (Workspace::new(), Workspace::new());
+        // The second time over what the first one left.
+        for _ in 0..2 {
+            let readings = one.read_all(&notes[..count], &mut together);
+            assert_eq!(readings.len(), count);
+            for (note, reading) in notes.iter().zip(readings) {
+                match (other.read(note, &mut singly), reading) {
+                    (Ok(single), Ok(reading)) => {
+                        assert_eq!(single.entries(), reading.entries());
+                        assert_eq!((reading.note(), reading.grammar()), (&note[..], &grammar));
+                    }
+                    (single, reading) => assert_eq!(single.unwrap_err(), reading.unwrap_err()),
+                }
+            }
+            assert_eq!(one.words(), other.words());
+        }
+    }
+    // Slices and arrays are notes too.
+    let mut cache = Cache::new(&Grammar::new(G1).unwrap(), 6).unwrap();
+    let mut workspace = Workspace::new();
+    let slices: [&[u16]; 2] = [&[1, 2], &[1]];
+    let entries = |reading: &Result<allstar::Reading, NoteRefusal>| reading.unwrap().entries().to_vec();
+    let found: Vec<_> = cache
+        .read_all(&slices, &mut workspace)
+        .iter()
+        .map(entries)
+        .collect();
+    assert_eq!(found, [[1, 2], [1, 1]]);
+    assert!(cache
+        .read_all(&[[0; 2]; 3], &mut workspace)
+        .iter()
+        .all(Result::is_err));
+    assert_eq!(allstar::MAX_NOTES, 64);
+    // A derivation as long as the longest row among short ones, and one that is longer: token 2 stands for 2,047
+    // entries, any other token for one.
+    let mut bytes = vec![2, 12, 2, 1, 2, 2, 4, 3];
+    (1..11).for_each(|a| bytes.extend([1, 2, 2 * a + 3, 2 * a + 3]));
+    bytes.extend([1, 0]);
+    let grammar = Grammar::new(bytes).unwrap();
+    let notes = [[1], [2], [1], [2], [1]];
+    for longest in [0, 1, 2, 255, 256, 257, 2_047, 2_048, 65_536] {
+        let mut cache = Cache::new(&grammar, 6).unwrap();
+        let mut workspace = Workspace::with_longest_row(longest);
+        for (note, reading) in notes.iter().zip(cache.read_all(&notes, &mut workspace)) {
+            let mut entries = vec![1];
+            if *note == [2] {
+                entries = vec![1; 2_048];
+                entries[0] = 2;
+            }
+            match reading {
+                Ok(reading) => assert!(entries.len() <= longest && reading.entries() == entries),
+                Err(refusal) => assert!(entries.len() > longest && refusal == NoteRefusal::ShortRow),
+            }
+        }
     }
 }
 

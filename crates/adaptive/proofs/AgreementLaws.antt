@@ -1,13 +1,11 @@
 -- Every list of quick readings by one sound grammar over coherent words agrees with the plain readings beside it.
 use mathlib.Core.Path.{_≡_, refl, sym, subst, ap, _∙_}
 use mathlib.Core.Logic.{_⊎_, inl, inr}
-use mathlib.Core.Bool.{Bool, true, false}
 use mathlib.Core.List.{List, [], _∷_, List·Memᴰ·cases-cons, List·Memᴰ·not-nil}
 use Prim.Native.Nat.{ℕ, _≤_}
-use lib.Dec.{T, ltb}
+use lib.Dec.{T}
 use lib.ListN.{length}
-use borrow.Author.Tests.{ltb-true, ltb-false}
-use Rattle.base.proofs.Booleans.{clash, true→T}
+use Rattle.base.proofs.Booleans.{clash}
 use Rattle.grammar.specs.Decode.{Rules, Mark, got, decode}
 use Rattle.grammar.specs.Grammar.{Grammar, compile, Limited}
 use Rattle.grammar.specs.inside.Ordered.{Ordered}
@@ -26,6 +24,8 @@ use Rattle.words.specs.Begin.{begun?}
 use Rattle.cache.specs.Coherent.{Coherent, Extends}
 use Rattle.cache.proofs.SuitLaws.{Suits, decode-suits}
 use Rattle.words.specs.inside.Standings.{standingOf}
+use Rattle.words.specs.declared.standing.Standing.{Standing}
+use Rattle.words.proofs.StandingLaws.{Stands, short, foreign, begun, stands}
 use Rattle.cache.proofs.ExtendLaws.{standing-extends, extends-refl, extends-trans}
 use Rattle.adaptive.specs.Quick.{Reply, reply, quickNote, overCache, quickReading}
 use Rattle.adaptive.specs.Calls.{Call, quick, plain, inTurn, lastWords}
@@ -142,18 +142,16 @@ module _ (s : List ℕ) (r : Rules) (m : Mark) (e : decode s ≡ got r m) (v : c
   pub quick-extends : (c : List ℕ) (k : Call) → Extends (compile r) c ((quick s c k) .words)
   quick-extends c k = rw (quick-sound c k) (go (note-gate g (k .note) (k .space)))
     where
-      over : (w : List ℕ) → Known (g .kinds) w → (x y : Bool) → ltb (length c) minWords ≡ x → begun? s c ≡ y
-          → Extends g c ((overCache s g w (k .row) c) .words)
-      over w t true y p q = rw (over-12 s g w (k .row) c (ltb-true (length c) minWords p)) (extends-refl g c)
-      over w t false false p q = rw (over-13 s g w (k .row) c (ltb-false (length c) minWords p) q) (extends-refl g c)
-      over w t false true p q =
-          rw (over-begun s g w (k .row) c (ltb-false (length c) minWords p) (true→T (begun? s c) q)) (note-extends r limits w (length (k .row)) c t)
+      over : (w : List ℕ) → Known (g .kinds) w → {x : Standing} → Stands s c x → Extends g c ((overCache s g w (k .row) c) .words)
+      over w t (short l) = rw (over-12 s g w (k .row) c l) (extends-refl g c)
+      over w t (foreign l e) = rw (over-13 s g w (k .row) c l e) (extends-refl g c)
+      over w t (begun l b) = rw (over-begun s g w (k .row) c l b) (note-extends r limits w (length (k .row)) c t)
 
       go : {x : Gate} → Noted g (k .note) (k .space) x → Extends g c ((quickAt c k x) .words)
       go (eight l) = extends-refl g c
       go (nine i l u) = extends-refl g c
       go (eleven l t w) = extends-refl g c
-      go (admitted l t w) = over (k .note) t (ltb (length c) minWords) (begun? s c) refl refl
+      go (admitted l t w) = over (k .note) t (stands s c)
 
   -- and the cache stands to the grammar as it did
   pub quick-stands : (c : List ℕ) (k : Call) → standingOf s ((quick s c k) .words) ≡ standingOf s c

@@ -10,6 +10,7 @@ pub record Call : Type 0 where
   pub row : List ℕ
   pub space : ℕ
 
+-- the same from its parts
 abbrev pub call : List ℕ → List ℕ → ℕ → Call
 call w row space = record { note = w; row = row; space = space }
 

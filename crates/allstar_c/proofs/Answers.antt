@@ -1,4 +1,4 @@
--- Measures, beginnings, readings and splittings told in numbers are the answers of the definitions.
+-- Measures, beginnings, readings, batches and splittings told in numbers are the answers of the definitions.
 use mathlib.Core.Path.{_≡_}
 use mathlib.Core.List.{List}
 use Prim.Native.Nat.{ℕ}
@@ -12,6 +12,9 @@ use Rattle.gate.specs.declared.reading.Reading.{Reading}
 use Rattle.gate.specs.Reading.{readingNumber, readingPlace, readingCount, answered}
 use Rattle.adaptive.specs.Quick.{Reply, reply}
 use Rattle.quick.specs.inside.Replied.{replied}
+use Rattle.batch.specs.declared.answer.Batch.{Batch}
+use Rattle.batch.specs.Batches.{Batched, batched}
+use Rattle.batch.specs.Contract.{batchNumber, batchPlace, SpaceKept}
 use Rattle.splitter.specs.declared.splitting.Splitting.{Splitting}
 use Rattle.splitter.specs.Splitting.{SplitAnswer, splitAnswer}
 use Rattle.splitter.specs.Contract.{splittingNumber, splittingPlace, splittingCount}
@@ -24,6 +27,11 @@ told r row e f g h = rw (e, f, g) h
 pub told-reply : (r : Reading) (row words : List ℕ) {n p c : ℕ} {x : Reply} → n ≡ readingNumber r → p ≡ readingPlace r → c ≡ readingCount r
     → replied r row words ≡ x → reply (answer n p c row) words ≡ x
 told-reply r row words e f g h = rw (e, f, g) h
+
+pub told-batch : (b : Batch) (answers row words space space′ : List ℕ) {n p : ℕ} {x : Batched} → n ≡ batchNumber b → p ≡ batchPlace b
+    → (batched (batchNumber b) (batchPlace b) answers row words ≡ x) × SpaceKept (batchNumber b) space space′
+    → (batched n p answers row words ≡ x) × SpaceKept n space space′
+told-batch b answers row words space space′ e f h = rw (e, f) h
 
 pub told-begun : (b : Beginning) (c : List ℕ) {n p : ℕ} {x : Begun} → n ≡ beginningNumber b → p ≡ beginningPlace b → begunBy b c ≡ x
     → begun n p c ≡ x

@@ -5,7 +5,7 @@ abbrev major : ℕ
 major = 1
 
 abbrev minor : ℕ
-minor = 2
+minor = 3
 
 abbrev patch : ℕ
 patch = 0

@@ -5,6 +5,7 @@ ghost use Rattle.soundness.specs.Check.{CheckDid};
 ghost use Rattle.words.specs.Begin.{BeginDid};
 ghost use Rattle.plain.specs.Contract.{PlainDid};
 ghost use Rattle.quick.specs.Contract.{QuickDid};
+ghost use Rattle.batch.specs.Contract.{BatchDid, SpaceKept};
 ghost use Rattle.splitter.specs.Contract.{SplitDid};
 ghost use Rattle.measuring.specs.Measuring.{figures, figuresOf, measureOf};
 ghost use Rattle.allstar_c.specs.Version.{version};
@@ -12,7 +13,7 @@ ghost use Rattle.allstar_c.specs.Version.{version};
 // The library's version. specs/Version has the same.
 const MAJOR: u32 = 1;
 
-const MINOR: u32 = 2;
+const MINOR: u32 = 3;
 
 const PATCH: u32 = 0;
 
@@ -75,6 +76,28 @@ pub extern "C" fn allstar_quick(
     *place = reply.place() as u64;
     *count = reply.count() as u64;
     reply.number()
+}
+
+// Reads the notes of a truck over a cache that was begun for the grammar. Answers the scope's number, 0 if every note has its answers, stores the place, and
+// leaves the answers, the row and the cache as quick readings made singly in that order do.
+#[no_mangle]
+pub extern "C" fn allstar_batch(
+    grammar: &[u8],
+    tokens: &[u16],
+    lengths: &[u16],
+    answers: &mut [u64],
+    row: &mut [u16],
+    cache: &mut [u32],
+    workspace: &mut [u32],
+    place: &mut u64,
+) -> u32
+    ensures { λ r. ⌜ BatchDid (now (grammar .entry)) (now (tokens .entry)) (now (lengths .entry)) (now (answers .entry)) (now (row .entry))
+        (length (now (workspace .entry))) (now (cache .entry)) r (now (place .exit)) (now (answers .exit)) (now (row .exit)) (now (cache .exit))
+        × SpaceKept r (now (workspace .entry)) (now (workspace .exit)) ⌝ }
+{
+    let outcome = batch::batch(grammar, tokens, lengths, answers, row, cache, workspace);
+    *place = outcome.place() as u64;
+    outcome.number()
 }
 
 // Makes tokens of a typed line. Answers the scope's number, 0 if the line was split, stores the place and the count of tokens, and leaves the row as

@@ -7,8 +7,6 @@ use Prim.Native.Nat.{ℕ}
 use native.Mathlib.Omega.{arith}
 use lib.Dec.{ltb}
 use lib.ListN.{length}
-use borrow.Author.Tests.{ltb-true, ltb-false}
-use Rattle.base.proofs.Booleans.{true→T}
 use Rattle.grammar.specs.Decode.{Rules, Mark, got, decode}
 use Rattle.grammar.specs.Grammar.{Grammar, compile}
 use Rattle.reader.proofs.ReadLaws.{decode-limited}
@@ -20,10 +18,13 @@ use Rattle.derivation.specs.Plain.{Answer, answer, accept, refuse, clear, sente
 use Rattle.derivation.specs.Demand2.{Known}
 use Rattle.derivation.proofs.GateLaws.{Early, gate-early, passed-means}
 use Rattle.words.specs.Layout.{minWords}
-use Rattle.words.specs.Begin.{Begun, begun, beginWords, begin12, beginning, begun?}
+use Rattle.words.specs.Begin.{Begun, begun, beginWords, begin12, beginning}
+use Rattle.words.specs.declared.standing.Standing.{Standing}
+use Rattle.words.proofs.StandingLaws.{Stands, short, foreign, stands}
 use Rattle.adaptive.specs.Quick.{Reply, reply, quickNote, overCache, quickReading}
 use Rattle.adaptive.proofs.QuickLaws.{over-12, over-13, over-begun}
 use Rattle.adaptive.proofs.TeachLaws.{note-reads, note-one, note-extends}
+use Rattle.batch.specs.Batches.{Batched, batched, readAll, fits?, from18, batchReading}
 use Rattle.demands.specs.Demand1.{Clears, Came, RowAfter, CacheAfter, Demand1}
 
 -- ---- the row
@@ -117,25 +118,22 @@ module _ (s w row c : List ℕ) (r : Rules) (m : Mark) (e : decode s ≡ got r m
 
   -- 12 and 13
   over-left : Left s w row c (overCache s (compile r) w row c)
-  over-left = short (ltb (length c) minWords) refl
+  over-left = go (stands s c)
     where
-      begun-left : ltb (length c) minWords ≡ false → (b : Bool) → begun? s c ≡ b → Left s w row c (overCache s (compile r) w row c)
-      begun-left l true q = rw (over-begun s (compile r) w row c (ltb-false (length c) minWords l) (true→T (begun? s c) q)) read-left
-      begun-left l false q = rw (over-13 s (compile r) w row c (ltb-false (length c) minWords l) q) (refused-left s w row c 13 0 not-13)
-        where
-          not-13 : ¬ Came 13
-          not-13 (inl q) = omega arith
-          not-13 (inr (inl q)) = omega arith
-          not-13 (inr (inr q)) = omega arith
+      not-12 : ¬ Came 12
+      not-12 (inl q) = omega arith
+      not-12 (inr (inl q)) = omega arith
+      not-12 (inr (inr q)) = omega arith
 
-      short : (b : Bool) → ltb (length c) minWords ≡ b → Left s w row c (overCache s (compile r) w row c)
-      short true q = rw (over-12 s (compile r) w row c (ltb-true (length c) minWords q)) (refused-left s w row c 12 0 not-12)
-        where
-          not-12 : ¬ Came 12
-          not-12 (inl q) = omega arith
-          not-12 (inr (inl q)) = omega arith
-          not-12 (inr (inr q)) = omega arith
-      short false q = begun-left q (begun? s c) refl
+      not-13 : ¬ Came 13
+      not-13 (inl q) = omega arith
+      not-13 (inr (inl q)) = omega arith
+      not-13 (inr (inr q)) = omega arith
+
+      go : {x : Standing} → Stands s c x → Left s w row c (overCache s (compile r) w row c)
+      go (short l) = rw (over-12 s (compile r) w row c l) (refused-left s w row c 12 0 not-12)
+      go (foreign l q) = rw (over-13 s (compile r) w row c l q) (refused-left s w row c 13 0 not-13)
+      go (Stands.begun l t) = rw (over-begun s (compile r) w row c l t) read-left
 
 quick-left : (s w row : List ℕ) (space : ℕ) (c : List ℕ) → Left s w row c (quickReading s w row space c)
 unfolding quickReading
@@ -148,9 +146,29 @@ quick-left s w row space c = go (gate s w space) refl
         let known : Known (compile (h .rules) .kinds) w = rw (h .same) (h .tokens) in
         subst (λ (g : Grammar). Left s w row c (overCache s g w row c)) (h .same) (over-left s w row c (h .rules) (h .mark) (h .says) known)
 
+-- ---- batch
+abbrev Unbatched : List ℕ → List ℕ → List ℕ → Batched → Type 0
+Unbatched answers row c x = ¬ (x .number ≡ 0) → (x .answers ≡ answers) × (x .row ≡ row) × (x .words ≡ c)
+
+batch-memory : (s tokens lengths answers row : List ℕ) (space : ℕ) (c : List ℕ)
+    → Unbatched answers row c (batchReading s tokens lengths answers row space c)
+unfolding batchReading from18 readAll
+batch-memory s tokens lengths answers row space c = go (soundGate s)
+  where
+    fitting : (b : Bool) → Unbatched answers row c (cond b (readAll s tokens lengths row space c) (batched 18 0 answers row c))
+    fitting true n = absurd (n refl)
+    fitting false n = (refl, refl, refl)
+
+    go : (x : Gate)
+        → Unbatched answers row c (atGate (λ n p. batched n p answers row c) (λ g. from18 s tokens lengths answers row space c) x)
+    go (shut n p) h = (refl, refl, refl)
+    go (passed g) h = fitting (fits? tokens lengths answers row) h
+
 pub demand1 : Demand1
 demand1 = record {
   plain = λ s w row space n p k row′ d. subst (RowOf row) (sym d) (plain-row s w row space);
   begin = λ s c n p c′ d. subst (Unbegun c) (sym d) (begin-cache s c);
   quick = λ s w row space c n p k row′ c′ d. subst (Left s w row c) (sym d) (quick-left s w row space c);
+  batch = λ s tokens lengths answers row space c n p answers′ row′ c′ d.
+      subst (Unbatched answers row c) (sym d) (batch-memory s tokens lengths answers row space c);
 }

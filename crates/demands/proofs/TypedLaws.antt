@@ -6,11 +6,11 @@ use mathlib.Core.Logic.{inl, inr}
 use mathlib.Core.Option.{Option, some}
 use Prim.Native.Nat.{ℕ, zero, suc, _-_, _≤_, _<_}
 use native.Mathlib.Omega.{arith}
-use lib.Dec.{T, leb, ltb}
+use lib.Dec.{T, leb}
 use lib.ListN.{length, getD, take, replicate}
 use lib.Seq.{take-append-seam}
-use borrow.Author.Tests.{le-leb, leb-false, ltb-true, ltb-false}
-use Rattle.base.proofs.Booleans.{clash, true→T}
+use borrow.Author.Tests.{le-leb, leb-false}
+use Rattle.base.proofs.Booleans.{clash}
 use Rattle.base.specs.Lists.{AllOf}
 use Rattle.base.specs.Search.{LowestIs, this, nothing}
 use Rattle.grammar.specs.Decode.{Rules, Mark, got, decode}
@@ -20,8 +20,8 @@ use Rattle.derivation.specs.Machine.{plainly, reading}
 use Rattle.derivation.specs.Gate.{Gate, shut, passed, atGate, gate, known?, firstUnknown}
 use Rattle.derivation.specs.Plain.{Answer, refuse, readNote, plainReading}
 use Rattle.derivation.proofs.GateLaws.{Noted, eight, nine, eleven, admitted, Gated, refuses, sound, gated, Unknown, first-unknown, refusal-early}
-use Rattle.words.specs.Layout.{minWords}
-use Rattle.words.specs.Begin.{begun?}
+use Rattle.words.specs.declared.standing.Standing.{Standing}
+use Rattle.words.proofs.StandingLaws.{Stands, short, foreign, begun, stands}
 use Rattle.adaptive.specs.Quick.{Reply, reply, quickNote, overCache, quickReading}
 use Rattle.adaptive.proofs.QuickLaws.{over-12, over-13, over-begun}
 use Rattle.splitter.specs.Splitting.{SplitAnswer, splitAnswer}
@@ -123,18 +123,13 @@ module _ (w : List ℕ) (few : length w ≤ maxSplit) (known : AllOf KnownKind w
       go (passed g) e = came-late bytes w _ _ (came g w row ((reading g (marked w) (plainly g (marked w)) (length row) tt) .outcome) .0)
 
   over-pass : (bytes : List ℕ) (g : Grammar) (row c : List ℕ) → Passes bytes (overCache bytes g w row c .answer)
-  over-pass bytes g row c = short (ltb (length c) minWords) refl
+  over-pass bytes g row c = go (stands bytes c)
     where
-      long : ltb (length c) minWords ≡ false → (b : Bool) → begun? bytes c ≡ b → Passes bytes (overCache bytes g w row c .answer)
-      long l true q =
-          rw (over-begun bytes g w row c (ltb-false (length c) minWords l) (true→T (begun? bytes c) q))
-          (came-late bytes w _ _ (came g w row ((quickNote g w (length row) c) .outcome) .0))
-      long l false q =
-          rw (over-13 bytes g w row c (ltb-false (length c) minWords l) q) (late bytes w 13 0 (λ e. (omega arith)) (λ e. (omega arith)))
-
-      short : (b : Bool) → ltb (length c) minWords ≡ b → Passes bytes (overCache bytes g w row c .answer)
-      short true q = rw (over-12 bytes g w row c (ltb-true (length c) minWords q)) (late bytes w 12 0 (λ e. (omega arith)) (λ e. (omega arith)))
-      short false q = long q (begun? bytes c) refl
+      go : {x : Standing} → Stands bytes c x → Passes bytes (overCache bytes g w row c .answer)
+      go (short l) = rw (over-12 bytes g w row c l) (late bytes w 12 0 (λ e. (omega arith)) (λ e. (omega arith)))
+      go (foreign l q) = rw (over-13 bytes g w row c l q) (late bytes w 13 0 (λ e. (omega arith)) (λ e. (omega arith)))
+      go (begun l t) =
+          rw (over-begun bytes g w row c l t) (came-late bytes w _ _ (came g w row ((quickNote g w (length row) c) .outcome) .0))
 
   quick-pass : (bytes row : List ℕ) (space : ℕ) (c : List ℕ) → Passes bytes (quickReading bytes w row space c .answer)
   unfolding quickReading

@@ -15,6 +15,7 @@ use Rattle.cache.specs.Coherent.{Extends}
 use Rattle.adaptive.specs.Proceeding.{ReadsNote}
 use Rattle.plain.specs.Contract.{PlainDid}
 use Rattle.quick.specs.Contract.{QuickDid}
+use Rattle.batch.specs.Contract.{BatchDid}
 
 -- 10 and 14
 abbrev pub Clears : ℕ → Type 0
@@ -59,3 +60,7 @@ pub record Demand1 : Type 0 where
   pub quick : (bytes note row : List ℕ) (space : ℕ) (cache : List ℕ) (number place count : ℕ) (row′ cache′ : List ℕ)
       → QuickDid bytes note row space cache number place count row′ cache′
       → RowAfter row number count row′ × CacheAfter bytes note row cache number cache′
+  -- 1 to 7 and 18 alter no memory; what becomes of the notes otherwise is what single quick calls do (`Trucks`)
+  pub batch : (bytes tokens lengths answers row : List ℕ) (space : ℕ) (cache : List ℕ) (number place : ℕ) (answers′ row′ cache′ : List ℕ)
+      → BatchDid bytes tokens lengths answers row space cache number place answers′ row′ cache′ → ¬ (number ≡ 0)
+      → (answers′ ≡ answers) × (row′ ≡ row) × (cache′ ≡ cache)

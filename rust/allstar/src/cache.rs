@@ -73,4 +73,29 @@ impl Cache {
             calls::quick(grammar.bytes(), note, row, words, space)
         })
     }
+    /// Reads notes in their order, and learns: up to 64 of them in each call of the library, which checks the
+    /// grammar once for all. The answers are those of [`read`](Cache::read), one for each note; a note that is
+    /// refused does not stop the next.
+    ///
+    /// ```
+    /// use allstar::{Cache, Grammar, NoteRefusal, Refusal, Workspace};
+    ///
+    /// let grammar = Grammar::new([2, 2, 2, 1, 3, 2, 3, 4, 2, 1, 2, 2, 2, 4])?;
+    /// let mut cache = Cache::new(&grammar, 6)?;
+    /// let mut workspace = Workspace::new();
+    /// let notes = [vec![1, 2], vec![1, 2, 2, 2], vec![1]];
+    /// let readings = cache.read_all(&notes, &mut workspace);
+    /// assert_eq!(readings[0]?.entries(), [1, 2]);
+    /// assert_eq!(readings[1].unwrap_err(), NoteRefusal::NotASentence { token: 3 });
+    /// assert_eq!(readings[2]?.entries(), [1, 1]);
+    /// # Ok::<(), Refusal>(())
+    /// ```
+    pub fn read_all<'a, N: AsRef<[u16]>>(
+        &'a mut self,
+        notes: &'a [N],
+        workspace: &'a mut Workspace,
+    ) -> Vec<Result<Reading<'a>, NoteRefusal>> {
+        let Cache { grammar, words } = self;
+        workspace.read_all(grammar, notes, words)
+    }
 }

@@ -7,7 +7,7 @@
 use crate::ffi;
 use std::fmt;
 
-/// What [`check`] and [`begin`] answer.
+/// What [`check`], [`begin`] and [`batch`] answer.
 #[derive(Clone, Copy, Debug, PartialEq, Eq)]
 pub struct Verdict {
     /// 0, or the number of the refusal.
@@ -185,6 +185,63 @@ pub fn quick(
         )
     };
     Answer { number, place, count }
+}
+
+/// Reads a batch of up to 64 notes over a begun cache, which learns: as many [`quick`] readings, one after the
+/// other. The notes' tokens stand in a row and their lengths beside; `answers` takes number, place and count of
+/// each note, and the row is cut into equal parts, one for each.
+#[inline]
+pub fn batch(
+    grammar: &[u8],
+    tokens: &[u16],
+    lengths: &[u16],
+    answers: &mut [u64],
+    row: &mut [u16],
+    cache: &mut [u32],
+    workspace: &mut [u32],
+) -> Verdict {
+    let mut place = NONE;
+    let number = batch_at(
+        grammar, tokens, lengths, answers, row, cache, workspace, &mut place,
+    );
+    Verdict { number, place }
+}
+
+/// [`batch`], the place being stored where the caller says; answers the number.
+#[inline]
+#[allow(clippy::too_many_arguments)]
+pub fn batch_at(
+    grammar: &[u8],
+    tokens: &[u16],
+    lengths: &[u16],
+    answers: &mut [u64],
+    row: &mut [u16],
+    cache: &mut [u32],
+    workspace: &mut [u32],
+    place: &mut u64,
+) -> u32 {
+    // SAFETY: grammar, tokens and lengths are valid for reads and answers, row, cache and working space for
+    // reads and writes of that many elements (an empty slice has a non-null, dangling pointer), `place` is
+    // valid for a write, no two of them overlap, and the library keeps none.
+    unsafe {
+        ffi::allstar_batch(
+            grammar.as_ptr(),
+            grammar.len(),
+            tokens.as_ptr(),
+            tokens.len(),
+            lengths.as_ptr(),
+            lengths.len(),
+            answers.as_mut_ptr(),
+            answers.len(),
+            row.as_mut_ptr(),
+            row.len(),
+            cache.as_mut_ptr(),
+            cache.len(),
+            workspace.as_mut_ptr(),
+            workspace.len(),
+            place,
+        )
+    }
 }
 
 /// Makes a note of a typed line: writes the kinds of its words, numbers and marks to `tokens`. The words of the

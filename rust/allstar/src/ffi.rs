@@ -51,6 +51,24 @@ extern "C" {
         count: *mut u64,
     ) -> u32;
 
+    pub fn allstar_batch(
+        grammar: *const u8,
+        grammar_length: usize,
+        tokens: *const u16,
+        tokens_length: usize,
+        lengths: *const u16,
+        lengths_length: usize,
+        answers: *mut u64,
+        answers_length: usize,
+        row: *mut u16,
+        row_length: usize,
+        cache: *mut u32,
+        cache_length: usize,
+        workspace: *mut u32,
+        workspace_length: usize,
+        place: *mut u64,
+    ) -> u32;
+
     pub fn allstar_split(
         line: *const u8,
         line_length: usize,

@@ -16,11 +16,11 @@
 //! # Ok::<(), allstar::Refusal>(())
 //! ```
 //!
-//! A [`Grammar`] is checked bytes. A [`Cache`] belongs to a grammar and learns; [`Grammar::read`] does
-//! without one. A [`Workspace`] is what readings work in; it sizes itself. A [`Reading`] has the derivation,
-//! as a row of alternatives and as a tree. A [`WordList`] makes notes of typed lines. Refusals are enums with a
-//! case for each, and errors. [`calls`] has the calls of the library as they are, for whoever wants to lend his
-//! own memory.
+//! A [`Grammar`] is checked bytes. A [`Cache`] belongs to a grammar and learns, and reads one note or many;
+//! [`Grammar::read`] does without one. A [`Workspace`] is what readings work in; it sizes itself. A [`Reading`]
+//! has the derivation, as a row of alternatives and as a tree. A [`WordList`] makes notes of typed lines.
+//! Refusals are enums with a case for each, and errors. [`calls`] has the calls of the library as they are, for
+//! whoever wants to lend his own memory.
 //!
 //! The package links `liballstar_c.a`: with cargo, its build script finds it; with `rustc` alone, the command
 //! says where it is.
@@ -46,6 +46,9 @@ pub use workspace::{workspace_words, Workspace};
 
 /// The most tokens that a note may have.
 pub const MAX_TOKENS: usize = 128;
+
+/// The most notes that a batch may have.
+pub const MAX_NOTES: usize = 64;
 
 /// The most bytes that a typed line may have.
 pub const MAX_LINE: usize = 512;

@@ -1,4 +1,4 @@
-//! Why something is refused: the numbers 1 to 17 of the library, with their places.
+//! Why something is refused: the numbers 1 to 18 of the library, with their places.
 
 use std::error::Error;
 use std::fmt;
@@ -99,6 +99,9 @@ pub enum Refusal {
     Cache(CacheRefusal),
     /// 15 to 17: of a typed line.
     Line(LineRefusal),
+    /// 18: what is lent for a batch does not fit together. [`Cache::read_all`](crate::Cache::read_all) never
+    /// lends that.
+    BadBatch,
 }
 
 impl Refusal {
@@ -124,11 +127,12 @@ impl Refusal {
             15 => LineRefusal::LongLine.into(),
             16 => LineRefusal::ForeignByte { byte: at }.into(),
             17 => LineRefusal::BadList.into(),
+            18 => Refusal::BadBatch,
             _ => return None,
         })
     }
 
-    /// The library's number, 1 to 17.
+    /// The library's number, 1 to 18.
     pub fn number(self) -> u32 {
         self.parts().0
     }
@@ -171,6 +175,7 @@ impl Refusal {
                 ForeignByte { byte } => (16, byte, "the line has a foreign byte"),
                 BadList => (17, 0, "the list of words is no list"),
             },
+            Refusal::BadBatch => (18, 0, "the parts of the batch do not fit together"),
         }
     }
 }

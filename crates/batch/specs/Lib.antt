@@ -1,0 +1,4 @@
+-- A truck's notes in one call.
+pub mod Batches
+pub mod Contract
+pub mod inside
