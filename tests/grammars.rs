@@ -12,6 +12,8 @@ mod generate;
 mod lent;
 #[path = "support/random.rs"]
 mod random;
+#[path = "support/report.rs"]
+mod report;
 #[path = "support/second_checker.rs"]
 mod second_checker;
 #[path = "support/tally.rs"]
@@ -27,7 +29,7 @@ use lent::Lent;
 use random::Random;
 use std::process::exit;
 use tally::Tally;
-use tree::{from_hex, to_hex};
+use tree::from_hex;
 
 /// Sound, and refusals 1 to 7.
 const NUMBERS: usize = 8;
@@ -74,7 +76,7 @@ impl Run {
         // Whatever stood where the place goes; and an empty slice points nowhere here.
         let again = [0, 1, 0xffff_ffff_0000_0000].map(|it| calls::check_over(&case.bytes, it));
         if answer != case.answer || again.iter().any(|other| *other != answer) {
-            report(case.why, &case.bytes);
+            report::case(case.why, &case.bytes);
             let all = again.map(|other| other.to_string()).join(", ");
             fail(&format!(
                 "expected {}, answered {answer}, {all}",
@@ -99,17 +101,17 @@ impl Run {
         let library = calls::check(self.input.part());
         let measured = calls::measure(self.input.part());
         if !self.input.is_unchanged() {
-            report(origin, input);
+            report::case(origin, input);
             fail("a call changed the lent bytes or those around them");
         }
         let second = second_checker::check(input);
         if library != second {
-            report(origin, input);
+            report::case(origin, input);
             fail(&format!("library: {library}\nsecond checker: {second}"));
         }
         let measure = measure(input, second);
         if measured != measure {
-            report(origin, input);
+            report::case(origin, input);
             fail(&format!("library: {measured:?}\nsecond checker: {measure:?}"));
         }
         self.all.count(library.number);
@@ -142,14 +144,6 @@ fn measure(input: &[u8], verdict: Verdict) -> Measure {
         nonterminals,
         places,
     }
-}
-
-/// Prints a case that went wrong.
-fn report(origin: &str, input: &[u8]) {
-    const SHOWN: usize = 2_000;
-    println!("{origin}, {} bytes:", input.len());
-    let dots = if input.len() > SHOWN { " ..." } else { "" };
-    println!("{}{dots}", to_hex(&input[..input.len().min(SHOWN)]));
 }
 
 fn fail(message: &str) -> ! {
@@ -235,7 +229,7 @@ fn drawn_grammars(run: &mut Run) {
             run.drawn.count(answer.number);
             if let Ok(grammar) = second_checker::read(&input) {
                 if grammar.encode() != input {
-                    report(name, &input);
+                    report::case(name, &input);
                     fail("the tree is not that of the bytes");
                 }
                 for (times, touched) in run.corners.iter_mut().zip(corners::touched(&grammar)) {

@@ -106,6 +106,20 @@ unfolding upFrom
 length-upFrom i zero = refl
 length-upFrom i (suc k) = ap suc (length-upFrom (suc i) k)
 
+pub getD-upFrom : (k i n : ℕ) → n < k → getD (upFrom i k) n 0 ≡ i + n
+unfolding upFrom
+getD-upFrom zero i n h = absurd (omega arith)
+getD-upFrom (suc k) i zero h = omega arith
+getD-upFrom (suc k) i (suc n) h = let e = getD-upFrom k (suc i) n (omega arith) in omega (arith, e)
+
+pub upFrom-last : (i k : ℕ) → upFrom i (k + 1) ≡ upFrom i k ++ ((i + k) ∷ [])
+unfolding upFrom
+upFrom-last i zero = let e : i + 0 ≡ i = omega arith in rw e
+upFrom-last i (suc k) =
+    let e : suc k + 1 ≡ suc (k + 1) = omega arith in
+    let f : i + suc k ≡ suc i + k = omega arith in
+    rw (e, f) (ap (λ (l : List ℕ). i ∷ l) (upFrom-last (suc i) k))
+
 pub upFrom-in : (k i m : ℕ) → i ≤ m → m < i + k → List·Memᴰ m (upFrom i k)
 unfolding upFrom
 upFrom-in zero i m h l = absurd (omega arith)

@@ -40,26 +40,26 @@ off? i vs j = go (decLt j i) (decLt j (i + length vs))
 module _ (bytes : List ℕ) (packed : bytesAt + length (packBytes bytes) ≤ fixedWords) (l : ℕ) (long : minWords ≤ l) where
   -- the size, then the bytes
   abbrev sized : List ℕ
-  sized = sets (replicate l 0) lengthAt (sizeWords bytes l)
+  sized = sets (replicate l 0) lengthAt (sizeWords (length bytes) l)
 
   abbrev fresh : List ℕ
   fresh = sets sized bytesAt (packBytes bytes)
 
   long-sized : length sized ≡ l
-  long-sized = length-sets (replicate l 0) lengthAt (sizeWords bytes l) ∙ length-replicate l 0
+  long-sized = length-sets (replicate l 0) lengthAt (sizeWords (length bytes) l) ∙ length-replicate l 0
 
   long-fresh : length fresh ≡ l
   long-fresh = length-sets sized bytesAt (packBytes bytes) ∙ long-sized
 
   -- every other word is 0
-  rest : (i : ℕ) → Off lengthAt (sizeWords bytes l) i → Off bytesAt (packBytes bytes) i → word fresh i ≡ 0
-  rest i h k = word-sets sized bytesAt i (packBytes bytes) k ∙ word-sets (replicate l 0) lengthAt i (sizeWords bytes l) h ∙ word-zero l i
+  rest : (i : ℕ) → Off lengthAt (sizeWords (length bytes) l) i → Off bytesAt (packBytes bytes) i → word fresh i ≡ 0
+  rest i h k = word-sets sized bytesAt i (packBytes bytes) k ∙ word-sets (replicate l 0) lengthAt i (sizeWords (length bytes) l) h ∙ word-zero l i
 
-  size-words : take 3 (drop lengthAt fresh) ≡ sizeWords bytes l
+  size-words : take 3 (drop lengthAt fresh) ≡ sizeWords (length bytes) l
   size-words =
       region-same sized fresh lengthAt 3 (length-sets sized bytesAt (packBytes bytes))
       (λ i h k. word-sets sized bytesAt i (packBytes bytes) (inl (omega arith)))
-      ∙ region-sets (replicate l 0) lengthAt (sizeWords bytes l) (omega (arith, length-replicate {A = ℕ} l 0))
+      ∙ region-sets (replicate l 0) lengthAt (sizeWords (length bytes) l) (omega (arith, length-replicate {A = ℕ} l 0))
 
   byte-words : take (length (packBytes bytes)) (drop bytesAt fresh) ≡ packBytes bytes
   byte-words = region-sets sized bytesAt (packBytes bytes) (omega (arith, long-sized))
@@ -72,8 +72,8 @@ module _ (bytes : List ℕ) (packed : bytesAt + length (packBytes bytes) ≤ fix
   unfolding beginWords begun?
   begun-begun =
       rw (size-words, byte-words, long-fresh)
-      (T-and (sameList (sizeWords bytes l) (sizeWords bytes l)) (sameList (packBytes bytes) (packBytes bytes)) (list-same (sizeWords bytes l))
-      (list-same (packBytes bytes)))
+      (T-and (sameList (sizeWords (length bytes) l) (sizeWords (length bytes) l)) (sameList (packBytes bytes) (packBytes bytes))
+      (list-same (sizeWords (length bytes) l)) (list-same (packBytes bytes)))
 
   none-held : held (beginWords bytes l) ≡ 0
   unfolding held beginWords
@@ -81,9 +81,9 @@ module _ (bytes : List ℕ) (packed : bytesAt + length (packBytes bytes) ≤ fix
 
   begun-unused : (g : Grammar) (i : ℕ) → ¬ Used g bytes (beginWords bytes l) i → word (beginWords bytes l) i ≡ 0
   unfolding beginWords
-  begun-unused g i n = go (off? lengthAt (sizeWords bytes l) i) (off? bytesAt (packBytes bytes) i)
+  begun-unused g i n = go (off? lengthAt (sizeWords (length bytes) l) i) (off? bytesAt (packBytes bytes) i)
     where
-      go : Off lengthAt (sizeWords bytes l) i ⊎ ((lengthAt ≤ i) × (i < lengthAt + length (sizeWords bytes l)))
+      go : Off lengthAt (sizeWords (length bytes) l) i ⊎ ((lengthAt ≤ i) × (i < lengthAt + length (sizeWords (length bytes) l)))
           → Off bytesAt (packBytes bytes) i ⊎ ((bytesAt ≤ i) × (i < bytesAt + length (packBytes bytes))) → word fresh i ≡ 0
       go (inl h) (inl k) = rest i h k
       go (inr (h, k)) o = absurd (n (size h (omega arith)))

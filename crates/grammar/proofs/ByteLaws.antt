@@ -10,7 +10,8 @@ use lib.ListN.{length, getD, take, length-take}
 use lib.Seq.{take-all}
 use borrow.Author.Tests.{ltb-false, lt-leb, lt-ltb}
 use Rattle.base.proofs.Booleans.{clash}
-use Rattle.number.specs.Number.{cursor, thirdByte, secondByte, numberAt, tested, limitedAt, symbolAt}
+use Rattle.number.specs.Fetching.{cursor}
+use Rattle.number.specs.Number.{thirdByte, secondByte, numberAt, tested, limitedAt, symbolAt}
 use Rattle.number.proofs.NumberLaws.{limited-is}
 use Rattle.grammar.specs.Types.{Read, Value, Refused, Refusal, Unfinished, Malformed, OverLimit, Trailing}
 use Rattle.grammar.specs.Limits.{maxKinds, maxNonterminals, maxProductions, maxLength, maxPlaces}
@@ -29,7 +30,7 @@ maxBytes = 867
 -- a number that was read ends at n at the latest
 abbrev Upto : ℕ → Read → Type 0
 Upto n (Value v c) = c .at ≤ n
-Upto n (Refused r) = Unit {0}
+Upto n (Refused r c) = Unit {0}
 
 module _ (s : List ℕ) (at n : ℕ) where
   third-upto : (low middle here : ℕ) → here + 1 ≤ n → Upto n (thirdByte s at low middle here)
@@ -38,7 +39,8 @@ module _ (s : List ℕ) (at n : ℕ) where
       (ltb 3 (getD s here 0))
     where
       go : (v : ℕ) (a b c : Bool) → Upto n
-          (cond a (Refused (Unfinished at)) (cond b (Refused (Malformed at)) (cond c (Refused (Malformed at)) (Value v (cursor (here + 1))))))
+          (cond a (Refused (Unfinished at) (cursor here)) (cond b (Refused (Malformed at) (cursor (here + 1)))
+          (cond c (Refused (Malformed at) (cursor (here + 1))) (Value v (cursor (here + 1))))))
       go v true b c = tt
       go v false true c = tt
       go v false false true = tt
@@ -52,7 +54,8 @@ module _ (s : List ℕ) (at n : ℕ) where
       (third-upto low (getD s here 0) (here + 1) (omega arith))
     where
       go : (v : ℕ) (a b c : Bool) (x : Read) → Upto n x
-          → Upto n (cond a (Refused (Unfinished at)) (cond b (Refused (Malformed at)) (cond c (Value v (cursor (here + 1))) x)))
+          → Upto n
+          (cond a (Refused (Unfinished at) (cursor here)) (cond b (Refused (Malformed at) (cursor (here + 1))) (cond c (Value v (cursor (here + 1))) x)))
       go v true b c x y = tt
       go v false true c x y = tt
       go v false false true x y = omega arith
@@ -63,7 +66,7 @@ module _ (s : List ℕ) (at n : ℕ) where
   number-upto h =
       go (getD s at 0) (leb (length s) at) (ltb (getD s at 0) 128) (secondByte s at (getD s at 0) (at + 1)) (second-upto (getD s at 0) (at + 1) (omega arith))
     where
-      go : (v : ℕ) (a b : Bool) (x : Read) → Upto n x → Upto n (cond a (Refused (Unfinished at)) (cond b (Value v (cursor (at + 1))) x))
+      go : (v : ℕ) (a b : Bool) (x : Read) → Upto n x → Upto n (cond a (Refused (Unfinished at) (cursor at)) (cond b (Value v (cursor (at + 1))) x))
       go v true b x y = tt
       go v false true x y = omega arith
       go v false false x y = y
@@ -72,10 +75,10 @@ tested-upto : (n : ℕ) (ok : ℕ → Bool) (r : Refusal) (x : Read) → Upto n 
 unfolding tested
 tested-upto n ok r (Value v c) h = go (ok v)
   where
-    go : (b : Bool) → Upto n (cond b (Value v c) (Refused r))
+    go : (b : Bool) → Upto n (cond b (Value v c) (Refused r c))
     go true = h
     go false = tt
-tested-upto n ok r (Refused q) h = tt
+tested-upto n ok r (Refused q c) h = tt
 
 limited-upto : (s : List ℕ) (lo hi at : ℕ) → Upto (at + 3) (limitedAt s lo hi at)
 unfolding limitedAt
@@ -122,7 +125,7 @@ module _ (s : List ℕ) where
       go : (x : Read) → limitedAt s lo hi (m .byte) ≡ x → Upto (m .byte + 3) x
           → Ends (λ v m′. (v ≤ hi) × (m′ .byte ≤ m .byte + 3) × (m′ .places ≡ m .places)) (fromRead (m .places) x)
       go (Value v c) e u = well (limited-is s lo hi (m .byte) refl e .1, u, refl)
-      go (Refused r) e u = none
+      go (Refused r c) e u = none
 
   module _ (t n : ℕ) where
     symbol-ends : (m : Mark) → Ends (λ _ m′. m′ .byte ≤ m .byte + 3) (symbol s t n m)
@@ -134,7 +137,7 @@ module _ (s : List ℕ) where
       where
         go : (x : Read) → Upto (m .byte + 3) x → Ends (λ _ m′. m′ .byte ≤ m .byte + 3) (fromRead (m .places) x)
         go (Value v c) u = well u
-        go (Refused r) u = none
+        go (Refused r c) u = none
 
     -- with d bytes still to come, no more than three for each place and for each of the other numbers
     abbrev Track : ℕ → Mark → Type 0

@@ -39,7 +39,7 @@ module _ (s : List ℕ) (bytes : Bytes s) (t n : ℕ) where
       go (Value v c) ih =
           swap (written v) (times k (symbol s t n) (mark (c .at) p))
           ∙ ap (λ (r : Parsed (List Symbol)). andThen r (λ l m. got (written v ∷ l) m)) (ih (c .at) p q)
-      go (Refused f) ih = refl
+      go (Refused f c) ih = refl
 
   production-takes : (m : Mark) → readProduction s t n m ≡ andThen (lengthAt s bytes t n m) (λ k m′. times k (symbol s t n) m′)
   unfolding readProduction lengthAt andThen

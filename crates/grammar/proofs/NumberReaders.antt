@@ -10,9 +10,11 @@ use lib.ListN.{length, drop}
 use lib.Dec.{ltb, leb, eqb, leb→le}
 use borrow.Author.Tests.{ltb-true, lt-ltb, le-ltb, le-leb, eq-eqb, ne-eqb, eqb-true, eqb-false}
 use Rattle.base.proofs.Booleans.{clash, and-T, true→T}
-use Rattle.number.specs.Number.{numberAt, legal, cursor, shortest, maxNumber}
+use Rattle.number.specs.Fetching.{cursor}
+use Rattle.number.specs.Number.{numberAt, Refuses, legal, shortest, maxNumber}
 use Rattle.number.specs.Forms.{Bytes}
 use Rattle.number.proofs.NumberLaws.{limited-refused, limited-below, limited-above, limited-in, symbol-refused, symbol-illegal, symbol-in}
+use Rattle.number.proofs.NumberLaws.{refuses, refused-at}
 use Rattle.number.proofs.FormLaws.{value-at, value-iff, unfinished-iff, malformed-iff, number-refusals}
 use Rattle.grammar.specs.Types.{Refusal, Unfinished, Malformed, OverLimit, UnknownSymbol, Read, Cursor, Value, Refused, Symbol, Token, Nonterminal, End}
 use Rattle.grammar.specs.Limits.{maxKinds, maxNonterminals, maxLength, maxPlaces}
@@ -108,7 +110,7 @@ module _ (s : List ℕ) (t n : ℕ) (m : Mark) (x : Part) (r : Refusal) where
 module _ (s : List ℕ) (bytes : Bytes s) (t n : ℕ) where
   -- ---- any reading of one number: it passes the number reader's refusals on, takes a number that keeps the limits, and refuses any other
   module _ {A : Type 0} (f : Mark → Parsed A) (w : A → Part) (name : ℕ → A) (named : (v : ℕ) → numberOf (w (name v)) ≡ v)
-      (refuses : (m : Mark) (r : Refusal) → numberAt s (m .byte) ≡ Refused r → f m ≡ refused r)
+      (passes : (m : Mark) (r : Refusal) → Refuses (numberAt s (m .byte)) r → f m ≡ refused r)
       (takes : (m : Mark) (v : ℕ) (c : Cursor) → numberAt s (m .byte) ≡ Value v c → InLimits t n (m .places) (w (name v) ∷ [])
       → f m ≡ got (name v) (mark (c .at) (m .places + placesBy (w (name v)))))
       (bars : (m : Mark) (v : ℕ) (c : Cursor) → numberAt s (m .byte) ≡ Value v c → ¬ InLimits t n (m .places) (w (name v) ∷ []) → m .places ≤ maxPlaces
@@ -121,7 +123,7 @@ module _ (s : List ℕ) (bytes : Bytes s) (t n : ℕ) where
     one-came : (m : Mark) → m .places ≤ maxPlaces → Came s t n m (λ x. Unit {0}) (λ x. w x ∷ []) (f m)
     one-came m h = go (numberAt s (m .byte)) refl
       where
-        here : (r : Refusal) → numberAt s (m .byte) ≡ Refused r → (r ≡ Unfinished (m .byte)) ⊎ (r ≡ Malformed (m .byte))
+        here : (r : Refusal) → Refuses (numberAt s (m .byte)) r → (r ≡ Unfinished (m .byte)) ⊎ (r ≡ Malformed (m .byte))
             → Fault t n (m .places) (m .byte) (w (name 0)) (drop (m .byte) s) r
         here r e (inl q) = rw q (ends (unfinished-iff s bytes (m .byte) .0 (rw q at e)))
         here r e (inr q) = rw q (misspells (malformed-iff s bytes (m .byte) .0 (rw q at e)))
@@ -151,8 +153,9 @@ module _ (s : List ℕ) (bytes : Bytes s) (t n : ℕ) where
 
         go : (x : Read) → numberAt s (m .byte) ≡ x → Came s t n m (λ x. Unit {0}) (λ x. w x ∷ []) (f m)
         go (Value v c) e = by v c e (keeps? (m .places) v)
-        go (Refused r) e =
-            rw (refuses m r e) (name 0, tt, stop-here s t n m (w (name 0)) r h (here r e (number-refusals s bytes (m .byte) r e)))
+        go (Refused r c) e =
+            let q = refuses (sym e) in
+            rw (passes m r q) (name 0, tt, stop-here s t n m (w (name 0)) r h (here r q (number-refusals s bytes (m .byte) r q)))
 
     one-gets : (m : Mark) (x : A) → Unit {0} → InLimits t n (m .places) (w x ∷ []) → (rest : List ℕ) → drop (m .byte) s ≡ bytesOf (w x ∷ []) ++ rest
         → f m ≡ got x (afterParts m (w x ∷ []))
@@ -172,8 +175,8 @@ module _ (s : List ℕ) (bytes : Bytes s) (t n : ℕ) where
         room = let k = z .keeps .1 in omega (arith, k)
 
         go : (r : Refusal) → Fault t n (m .places) (m .byte) (w x) (drop (m .byte) s) r → f m ≡ refused r
-        go r (ends h) = refuses m (Unfinished (m .byte)) (unfinished-iff s bytes (m .byte) .1 h)
-        go r (misspells h) = refuses m (Malformed (m .byte)) (malformed-iff s bytes (m .byte) .1 h)
+        go r (ends h) = passes m (Unfinished (m .byte)) (unfinished-iff s bytes (m .byte) .1 h)
+        go r (misspells h) = passes m (Malformed (m .byte)) (malformed-iff s bytes (m .byte) .1 h)
         go r (breaks rest l d k) =
             let v : ℕ = numberOf (w x) in
             let e = value-at s (m .byte) v rest l d in
@@ -184,9 +187,9 @@ module _ (s : List ℕ) (bytes : Bytes s) (t n : ℕ) where
 
   -- ---- a number within limits
   module _ (lo hi : ℕ) (m : Mark) where
-    limited-passes : (r : Refusal) → numberAt s (m .byte) ≡ Refused r → limited s lo hi m ≡ refused r
+    limited-passes : (r : Refusal) → Refuses (numberAt s (m .byte)) r → limited s lo hi m ≡ refused r
     unfolding limited
-    limited-passes r e = rw (sym (limited-refused s lo hi (m .byte) refl e) ∙ e)
+    limited-passes r h = let q = refused-at (numberAt s (m .byte)) r h in rw (sym (limited-refused s lo hi (m .byte) refl (q .1)) ∙ q .1)
 
     module _ (v : ℕ) (c : Cursor) (e : numberAt s (m .byte) ≡ Value v c) where
       limited-takes : lo ≤ v → v ≤ hi → limited s lo hi m ≡ got v (mark (c .at) (m .places))
@@ -297,7 +300,8 @@ module _ (s : List ℕ) (bytes : Bytes s) (t n : ℕ) where
     pub symbol-reader : Reader s t n (symbol s t n) (λ x. Unit {0}) (λ x. oneSymbol x ∷ [])
     unfolding symbol andThen placesOf
     symbol-reader =
-        one-reader (symbol s t n) oneSymbol written number-written (λ m r e. rw (sym (symbol-refused s t n (m .byte) refl e) ∙ e))
+        one-reader (symbol s t n) oneSymbol written number-written
+        (λ m r h. let q = refused-at (numberAt s (m .byte)) r h in rw (sym (symbol-refused s t n (m .byte) refl (q .1)) ∙ q .1))
         (λ m v c e k.
         let q : m .places + 0 ≡ m .places = omega arith in
         let l : not (legal t n v) ≡ false = rw (written-legal t n v (k .0 .0)) in

@@ -54,7 +54,7 @@ times (suc n) f m = andThen (f m) (λ x m′. andThen (times n f m′) (λ l m�
 -- a number that was read, with so many places before it
 abbrev pub fromRead : ℕ → Read → Parsed ℕ
 fromRead p (Value v c) = got v (mark (c .at) p)
-fromRead p (Refused r) = refused r
+fromRead p (Refused r c) = refused r
 
 -- a number from lo to hi
 unfoldable pub limited : List ℕ → ℕ → ℕ → Mark → Parsed ℕ

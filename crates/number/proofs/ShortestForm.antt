@@ -10,7 +10,8 @@ use lib.Seq.{getD-append-seam, getD-append-add, drop-cons}
 use borrow.Author.Tests.{lt-ltb, le-ltb}
 use Rattle.base.proofs.Booleans.{clash}
 use Rattle.number.specs.Types.{Cursor, Value}
-use Rattle.number.specs.Number.{numberAt, cursor, shortest, maxNumber}
+use Rattle.number.specs.Fetching.{cursor}
+use Rattle.number.specs.Number.{numberAt, shortest, maxNumber}
 use Rattle.number.specs.Forms.{Bytes}
 use Rattle.number.proofs.NumberLaws.{none, one, cut, long, two, cut2, long2, high, three}
 
@@ -45,7 +46,7 @@ module _ (pre : List ℕ) where
       short : v < 128 → numberAt (pre ++ (shortest v ++ rest)) (length pre) ≡ Value v (cursor (length pre + length (shortest v)))
       short l =
           rw (shortest-one v l)
-          (sym (one (pre ++ (v ∷ rest)) (length pre) (omega (arith, length-append pre (v ∷ rest))) (sym (at-0 v rest)) l))
+          (sym (one (pre ++ (v ∷ rest)) (length pre) (omega (arith, length-append pre (v ∷ rest))) (sym (at-0 v rest)) l refl))
 
       middle : 128 ≤ v → v < 16384 → numberAt (pre ++ (shortest v ++ rest)) (length pre) ≡ Value v (cursor (length pre + length (shortest v)))
       middle m l =
@@ -56,7 +57,7 @@ module _ (pre : List ℕ) where
           let e : length pre + 2 ≡ length pre + 1 + 1 = omega arith in
           rw (shortest-two v m l, e)
           (sym (two (pre ++ (x ∷ y ∷ rest)) (length pre) (omega (arith, length-append pre (x ∷ y ∷ rest))) (omega (arith, a))
-          (omega (arith, length-append pre (x ∷ y ∷ rest))) (omega (arith, b)) (omega (arith, b)) (omega (arith, a, b))))
+          (omega (arith, length-append pre (x ∷ y ∷ rest))) (omega (arith, b)) (omega (arith, b)) (omega (arith, a, b)) refl))
 
       large : 16384 ≤ v → numberAt (pre ++ (shortest v ++ rest)) (length pre) ≡ Value v (cursor (length pre + length (shortest v)))
       large m =
@@ -70,7 +71,7 @@ module _ (pre : List ℕ) where
           rw (shortest-three v m, e)
           (sym (three (pre ++ (x ∷ y ∷ z ∷ rest)) (length pre) (omega (arith, length-append pre (x ∷ y ∷ z ∷ rest))) (omega (arith, a))
           (omega (arith, length-append pre (x ∷ y ∷ z ∷ rest))) (omega (arith, b)) (omega (arith, length-append pre (x ∷ y ∷ z ∷ rest)))
-          (omega (arith, c)) (omega (arith, c)) (omega (arith, a, b, c))))
+          (omega (arith, c)) (omega (arith, c)) (omega (arith, a, b, c)) refl))
 
       go : Dec (v < 128) → Dec (v < 16384) → numberAt (pre ++ (shortest v ++ rest)) (length pre) ≡ Value v (cursor (length pre + length (shortest v)))
       go (yes l) k = short l
@@ -99,7 +100,7 @@ module _ (s : List ℕ) (bytes : Bytes s) (at : ℕ) {v : ℕ} {c : Cursor} (e :
 
   only-three : at < length s → 128 ≤ low → at + 1 < length s → 128 ≤ middle → at + 1 + 1 < length s → 0 < last → last ≤ 3 → Spelled
   only-three h b d f g z k =
-      let q = spelled (three s at h b d f g z k refl) in
+      let q = spelled (three s at h b d f g z k refl refl) in
       let u : v ≡ low % 128 + (middle % 128 + last * 128) * 128 = q .0 in
       let x : v % 128 + 128 ≡ low = omega (arith, u, bytes at) in
       let r : v / 128 ≡ middle % 128 + last * 128 = omega (arith, u) in
@@ -112,7 +113,7 @@ module _ (s : List ℕ) (bytes : Bytes s) (at : ℕ) {v : ℕ} {c : Cursor} (e :
 
   only-two : at < length s → 128 ≤ low → at + 1 < length s → 0 < middle → middle < 128 → Spelled
   only-two h b d z k =
-      let q = spelled (two s at h b d z k refl) in
+      let q = spelled (two s at h b d z k refl refl) in
       let u : v ≡ low % 128 + middle * 128 = q .0 in
       let x : v % 128 + 128 ≡ low = omega (arith, u, bytes at) in
       let y : v / 128 ≡ middle = omega (arith, u) in (
@@ -122,25 +123,25 @@ module _ (s : List ℕ) (bytes : Bytes s) (at : ℕ) {v : ℕ} {c : Cursor} (e :
 
   only-one : at < length s → low < 128 → Spelled
   only-one h b =
-      let q = spelled (one s at h refl b) in
+      let q = spelled (one s at h refl b refl) in
       let p : v < 128 = omega (arith, q .0) in
       (omega arith, rw (shortest-one v p, q .0, q .1) (tail at h))
 
   on-last : at < length s → 128 ≤ low → at + 1 < length s → 128 ≤ middle → Dec (length s ≤ at + 1 + 1) → Dec (0 < last) → Dec (last ≤ 3)
       → Spelled
-  on-last h b d f (yes g) z k = let q = cut2 s at h b d f g in clash (cc)
-  on-last h b d f (no g) (no z) k = let q = long2 s at h b d f (omega arith) (omega arith) in clash (cc)
-  on-last h b d f (no g) (yes z) (no k) = let q = high s at h b d f (omega arith) (omega arith) in clash (cc)
+  on-last h b d f (yes g) z k = let q = cut2 s at h b d f g refl in clash (cc)
+  on-last h b d f (no g) (no z) k = let q = long2 s at h b d f (omega arith) (omega arith) refl in clash (cc)
+  on-last h b d f (no g) (yes z) (no k) = let q = high s at h b d f (omega arith) (omega arith) refl in clash (cc)
   on-last h b d f (no g) (yes z) (yes k) = only-three h b d f (omega arith) z k
 
   on-middle : at < length s → 128 ≤ low → Dec (length s ≤ at + 1) → Dec (0 < middle) → Dec (middle < 128) → Spelled
-  on-middle h b (yes d) z k = let q = cut s at h b d in clash (cc)
-  on-middle h b (no d) (no z) k = let q = long s at h b (omega arith) (omega arith) in clash (cc)
+  on-middle h b (yes d) z k = let q = cut s at h b d refl in clash (cc)
+  on-middle h b (no d) (no z) k = let q = long s at h b (omega arith) (omega arith) refl in clash (cc)
   on-middle h b (no d) (yes z) (yes k) = only-two h b (omega arith) z k
   on-middle h b (no d) (yes z) (no k) = on-last h b (omega arith) (omega arith) (decLe (length s) (at + 1 + 1)) (decLt 0 last) (decLe last 3)
 
   on-low : Dec (length s ≤ at) → Dec (low < 128) → Spelled
-  on-low (yes h) b = let q = none s at h in clash (cc)
+  on-low (yes h) b = let q = none s at h refl in clash (cc)
   on-low (no h) (yes b) = only-one (omega arith) b
   on-low (no h) (no b) = on-middle (omega arith) (omega arith) (decLe (length s) (at + 1)) (decLt 0 middle) (decLt middle 128)
 

@@ -1,30 +1,29 @@
 -- The number format: groups of seven bits, lowest group first; the top bit of a byte says that another follows. Only the shortest form counts: a last
--- byte 0 behind another is refused. A third byte is at most 3: more would be above 65,535, or announce a fourth.
+-- byte 0 behind another is refused. A third byte is at most 3: more would be above 65,535, or announce a fourth. A cursor comes with every answer: it stands
+-- behind the last byte that was fetched.
+use mathlib.Core.Path.{_≡_}
 use Prim.Native.Nat.{ℕ, _+_, _*_, _/_, _%_}
 use mathlib.Core.List.{List, [], _∷_}
 use mathlib.Core.Bool.{Bool, cond, _&&_}
 use lib.ListN.{length, getD}
 use lib.Dec.{ltb, leb, eqb}
-use Rattle.number.specs.Types.{Cursor, Read, Value, Refused, Refusal, Unfinished, Malformed, OverLimit, UnknownSymbol}
-
--- a cursor at a byte
-abbrev pub cursor : ℕ → Cursor
-cursor at = record { at = at }
+use Rattle.number.specs.Types.{Read, Value, Refused, Refusal, Unfinished, Malformed, OverLimit, UnknownSymbol}
+use Rattle.number.specs.Fetching.{cursor}
 
 -- the number whose first byte stands at `at` and is `low`, whose second is `middle`, and whose third and last stands at `here`
 unfoldable pub thirdByte : List ℕ → ℕ → ℕ → ℕ → ℕ → Read
 thirdByte s at low middle here =
-    cond (leb (length s) here) (Refused (Unfinished at))
-    (cond (eqb (getD s here 0) 0) (Refused (Malformed at))
-    (cond (ltb 3 (getD s here 0)) (Refused (Malformed at))
+    cond (leb (length s) here) (Refused (Unfinished at) (cursor here))
+    (cond (eqb (getD s here 0) 0) (Refused (Malformed at) (cursor (here + 1)))
+    (cond (ltb 3 (getD s here 0)) (Refused (Malformed at) (cursor (here + 1)))
     (Value (low % 128 + (middle % 128 + getD s here 0 * 128) * 128) (cursor (here + 1)))))
 
 -- the number whose first byte stands at `at` and is `low`, and whose second stands at `here`
 unfoldable pub secondByte : List ℕ → ℕ → ℕ → ℕ → Read
 unfolding thirdByte
 secondByte s at low here =
-    cond (leb (length s) here) (Refused (Unfinished at))
-    (cond (eqb (getD s here 0) 0) (Refused (Malformed at))
+    cond (leb (length s) here) (Refused (Unfinished at) (cursor here))
+    (cond (eqb (getD s here 0) 0) (Refused (Malformed at) (cursor (here + 1)))
     (cond (ltb (getD s here 0) 128) (Value (low % 128 + getD s here 0 * 128) (cursor (here + 1)))
     (thirdByte s at low (getD s here 0) (here + 1))))
 
@@ -32,9 +31,14 @@ secondByte s at low here =
 unfoldable pub numberAt : List ℕ → ℕ → Read
 unfolding secondByte
 numberAt s at =
-    cond (leb (length s) at) (Refused (Unfinished at))
+    cond (leb (length s) at) (Refused (Unfinished at) (cursor at))
     (cond (ltb (getD s at 0) 128) (Value (getD s at 0) (cursor (at + 1)))
     (secondByte s at (getD s at 0) (at + 1)))
+
+-- an answer is this refusal, wherever its cursor stands
+abbrev pub Refuses : Read → Refusal → Type 0
+Refuses (Value v c) f = ⊥
+Refuses (Refused r c) f = r ≡ f
 
 -- the highest number that is written
 abbrev pub maxNumber : ℕ
@@ -49,8 +53,8 @@ shortest v =
 
 -- a number that must pass a test, or a refusal of it
 unfoldable pub tested : (ℕ → Bool) → Refusal → Read → Read
-tested ok refusal (Value v c) = cond (ok v) (Value v c) (Refused refusal)
-tested ok refusal (Refused r) = Refused r
+tested ok refusal (Value v c) = cond (ok v) (Value v c) (Refused refusal c)
+tested ok refusal (Refused r c) = Refused r c
 
 -- the number at `at`, from lo to hi, or 3
 unfoldable pub limitedAt : List ℕ → ℕ → ℕ → ℕ → Read

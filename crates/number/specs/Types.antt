@@ -4,3 +4,4 @@ pub use Rattle.number.specs.declared.Refusal.the-variants.{Unfinished, M
 pub use Rattle.number.specs.declared.Cursor.{Cursor}
 pub use Rattle.number.specs.declared.Read.{Read}
 pub use Rattle.number.specs.declared.Read.the-variants.{Value, Refused}
+pub use Rattle.number.specs.declared.Fetch.{Fetch}

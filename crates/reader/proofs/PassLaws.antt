@@ -12,7 +12,8 @@ use borrow.Author.Tests.{ltb-false}
 use Rattle.base.proofs.Lists.{sets-sets, sets-append}
 use Rattle.reader.specs.inside.Types.{Read, Cursor, Value, Refused, OverLimit, Trailing, Symbol}
 use Rattle.grammar.specs.Limits.{maxKinds, maxNonterminals, maxProductions, maxLength, maxPlaces}
-use Rattle.number.specs.Number.{limitedAt, symbolAt, cursor}
+use Rattle.number.specs.Fetching.{cursor}
+use Rattle.number.specs.Number.{limitedAt, symbolAt, Refuses}
 use Rattle.base.specs.Lists.{AllOf}
 use Rattle.grammar.specs.Decode.{Rules, Legal, Production, Alternatives, Mark, mark, Parsed, got, refused, andThen, times, fromRead, limited, written}
 use Rattle.grammar.specs.Decode.{symbol, readProduction, nonterminal, ending, decode}
@@ -21,19 +22,19 @@ use Rattle.grammar.specs.inside.Tables.{wordOf, firstsAt, rulesAt}
 use Rattle.grammar.proofs.CompileLaws.{length-one, length-each}
 use Rattle.grammar.proofs.NumberReaders.{legal-written}
 use Rattle.reader.specs.inside.Pass.{Out, out, onRead, onOut, symbolsOf, productionsOf, nonterminalsOf, closing, finished, wholePass}
-use Rattle.number.proofs.NumberLaws.{symbol-legal, limited-is}
+use Rattle.number.proofs.NumberLaws.{symbol-legal, limited-is, refuses, refused-at}
 
 -- ---- an outcome of the pass beside one of decoding: the same refusal, or what f says of what was decoded, of which Q holds
 abbrev pub Same : {A : Type 0} → Out → (A → Mark → Out) → (A → Mark → Type 0) → Parsed A → Type 0
 Same o f Q (got y m) = (o ≡ f y m) × Q y m
-Same o f Q (refused r) = o .answer ≡ Refused r
+Same o f Q (refused r) = Refuses (o .answer) r
 
 same-read : {A : Type 0} (t : List ℕ) (x : Read) (p : ℕ) (K : ℕ → Cursor → Out) (h : ℕ → Mark → Parsed A) (f : A → Mark → Out)
     (Q : A → Mark → Type 0)
     → ((v : ℕ) (c : Cursor) → x ≡ Value v c → Same (K v c) f Q (h v (mark (c .at) p))) → Same (onRead t x K) f Q (andThen (fromRead p x) h)
 unfolding onRead andThen
 same-read t (Value v c) p K h f Q g = g v c refl
-same-read t (Refused r) p K h f Q g = refl
+same-read t (Refused r c) p K h f Q g = refl
 
 same-then : {A B : Type 0} (o : Out) (x : Parsed A) (f : A → Mark → Out) (Q : A → Mark → Type 0) (h : A → Mark → Parsed B)
     (f′ : B → Mark → Out) (Q′ : B → Mark → Type 0)
@@ -49,7 +50,7 @@ same-out : {A B : Type 0} (o : Out) (x : Parsed A) (f : A → Mark → Out) (Q :
 unfolding andThen onRead
 same-out o (got y m) f Q K h f′ Q′ e g = subst (λ (o′ : Out). Same (onOut o′ K) f′ Q′ (h y m)) (sym (e .0)) (g y m (e .1))
 same-out o (refused r) f Q K h f′ Q′ e g =
-    ap (λ (x : Read). onRead (o .tables) x (λ v c. K v c (o .tables)) .answer) e
+    let q = refused-at (o .answer) r e in refuses (sym (ap (λ (x : Read). onRead (o .tables) x (λ v c. K v c (o .tables)) .answer) (q .1)))
 
 -- ---- what the pass writes beside the places
 -- for each nonterminal the number of its first production, the first of them the kth; and the number behind the last
@@ -95,24 +96,24 @@ module _ (s : List ℕ) (kt nt : ℕ) where
       rw (e, f)
 
   abbrev SymbolsSame : ℕ → ℕ → Type 0
-  SymbolsSame n a = (c : Cursor) (p : ℕ) (t : List ℕ) (b : ℕ)
-      → Same (symbolsOf s kt nt a n c p t) (symbolsOut a p t) (Symbols n) (times n (symbol s kt nt) (mark (c .at) b))
+  SymbolsSame n a = (i p : ℕ) (t : List ℕ) (b : ℕ)
+      → Same (symbolsOf s kt nt a n i p t) (symbolsOut a p t) (Symbols n) (times n (symbol s kt nt) (mark i b))
 
   symbols-same : (n a : ℕ) → SymbolsSame n a
   unfolding symbolsOf times layOne symbol andThen onRead
-  symbols-same zero a c p t b = (refl, (refl, tt))
-  symbols-same (suc n) a c p t b = go (symbolAt s kt nt (c .at)) refl (symbols-same n a)
+  symbols-same zero a i p t b = (refl, (refl, tt))
+  symbols-same (suc n) a i p t b = go (symbolAt s kt nt i) refl (symbols-same n a)
     where
-      go : (x : Read) → symbolAt s kt nt (c .at) ≡ x → SymbolsSame n a
-          → Same (onRead t x (λ v next. symbolsOf s kt nt a n next (p + 1) (set t p (wordOf (at a (written v)))))) (symbolsOut a p t) (Symbols (suc n))
+      go : (x : Read) → symbolAt s kt nt i ≡ x → SymbolsSame n a
+          → Same (onRead t x (λ v next. symbolsOf s kt nt a n (next .at) (p + 1) (set t p (wordOf (at a (written v)))))) (symbolsOut a p t) (Symbols (suc n))
           (andThen (andThen (fromRead b x) (λ v m′. got (written v) m′))
           (λ x m′. andThen (times n (symbol s kt nt) m′) (λ l m″. got (x ∷ l) m″)))
       go (Value v next) e ih =
-          same-then (symbolsOf s kt nt a n next (p + 1) (set t p (wordOf (at a (written v))))) (times n (symbol s kt nt) (mark (next .at) b))
+          same-then (symbolsOf s kt nt a n (next .at) (p + 1) (set t p (wordOf (at a (written v))))) (times n (symbol s kt nt) (mark (next .at) b))
           (symbolsOut a (p + 1) (set t p (wordOf (at a (written v))))) (Symbols n) (λ l m″. got (written v ∷ l) m″) (symbolsOut a p t) (Symbols (suc n))
-          (ih next (p + 1) (set t p (wordOf (at a (written v)))) b)
-          (λ l m q h. (q ∙ symbols-push a p t v l m, (ap suc (h .0), (legal-written kt nt v (symbol-legal s kt nt (c .at) refl e), h .1))))
-      go (Refused r) e ih = refl
+          (ih (next .at) (p + 1) (set t p (wordOf (at a (written v)))) b)
+          (λ l m q h. (q ∙ symbols-push a p t v l m, (ap suc (h .0), (legal-written kt nt v (symbol-legal s kt nt i refl e), h .1))))
+      go (Refused r d) e ih = refl
 
   -- ---- productions
   -- the tables after productions
@@ -147,23 +148,23 @@ module _ (s : List ℕ) (kt nt : ℕ) where
   abbrev One : ℕ → ℕ → List Symbol → Mark → Type 0
   One p k β m = (length β ≡ k) × AllOf (Legal kt nt) β × (m .places ≡ p + suc k)
 
-  one-same : (a k : ℕ) (c : Cursor) (p : ℕ) (t : List ℕ)
-      → Same (symbolsOf s kt nt a k c p t) (oneOut a p t) (One p k)
-      (andThen (times k (symbol s kt nt) (mark (c .at) p)) (λ l m. got l (mark (m .byte) (p + suc k))))
-  one-same a k c p t =
-      same-then (symbolsOf s kt nt a k c p t) (times k (symbol s kt nt) (mark (c .at) p)) (symbolsOut a p t) (Symbols k)
+  one-same : (a k i p : ℕ) (t : List ℕ)
+      → Same (symbolsOf s kt nt a k i p t) (oneOut a p t) (One p k)
+      (andThen (times k (symbol s kt nt) (mark i p)) (λ l m. got l (mark (m .byte) (p + suc k))))
+  one-same a k i p t =
+      same-then (symbolsOf s kt nt a k i p t) (times k (symbol s kt nt) (mark i p)) (symbolsOut a p t) (Symbols k)
       (λ l m. got l (mark (m .byte) (p + suc k))) (oneOut a p t) (One p k)
-      (symbols-same k a c p t p)
+      (symbols-same k a i p t p)
       (λ l m q h. (q ∙ ap (λ (n : ℕ). out (Value (p + suc n) (cursor (m .byte))) (sets t p (map wordOf (layOne a l)))) (h .0), (h .0, h .1, refl)))
 
   abbrev ProductionsSame : ℕ → ℕ → Type 0
-  ProductionsSame n a = (c : Cursor) (p k : ℕ) (t : List ℕ) → p ≤ maxPlaces
-      → Same (productionsOf s kt nt a n c p k t) (productionsOut a p k t) (Productions n p) (times n (readProduction s kt nt) (mark (c .at) p))
+  ProductionsSame n a = (i p k : ℕ) (t : List ℕ) → p ≤ maxPlaces
+      → Same (productionsOf s kt nt a n i p k t) (productionsOut a p k t) (Productions n p) (times n (readProduction s kt nt) (mark i p))
 
   -- what decoding does behind a length, and behind a production
-  abbrev behindLength : Cursor → ℕ → ℕ → Mark → Parsed (List Symbol)
-  behindLength c p k m′ =
-      cond (ltb maxPlaces (p + suc k)) (refused (OverLimit (c .at)))
+  abbrev behindLength : ℕ → ℕ → ℕ → Mark → Parsed (List Symbol)
+  behindLength i p k m′ =
+      cond (ltb maxPlaces (p + suc k)) (refused (OverLimit i))
       (andThen (times k (symbol s kt nt) m′) (λ l m″. got l (mark (m″ .byte) (p + suc k))))
 
   abbrev behindOne : ℕ → List Symbol → Mark → Parsed (List (List Symbol))
@@ -171,19 +172,19 @@ module _ (s : List ℕ) (kt nt : ℕ) where
 
   productions-same : (n a : ℕ) → ProductionsSame n a
   unfolding productionsOf times readProduction limited andThen onRead startsEach layEach sizeEach
-  productions-same zero a c p k t l = (refl, (refl, omega arith, l, tt))
-  productions-same (suc n) a c p k t l = go (limitedAt s 0 maxLength (c .at)) refl (productions-same n a)
+  productions-same zero a i p k t l = (refl, (refl, omega arith, l, tt))
+  productions-same (suc n) a i p k t l = go (limitedAt s 0 maxLength i) refl (productions-same n a)
     where
       next-one : ProductionsSame n a → (len : ℕ) → len ≤ maxLength → p + suc len ≤ maxPlaces → (β : List Symbol) (m : Mark) → One p len β m
-          → Same (onOut (oneOut a p (set t (firstsAt + k) p) β m) (λ q c′ t′. productionsOf s kt nt a n c′ q (k + 1) t′)) (productionsOut a p k t)
+          → Same (onOut (oneOut a p (set t (firstsAt + k) p) β m) (λ q c′ t′. productionsOf s kt nt a n (c′ .at) q (k + 1) t′)) (productionsOut a p k t)
           (Productions (suc n) p) (behindOne n β m)
       next-one ih len most fits β m h =
           let b : m .places ≡ p + suc (length β) = omega (arith, h .0, h .2) in
           let T : List ℕ = sets (set t (firstsAt + k) p) p (map wordOf (layOne a β)) in
-          same-then (productionsOf s kt nt a n (cursor (m .byte)) (m .places) (k + 1) T) (times n (readProduction s kt nt) m)
+          same-then (productionsOf s kt nt a n (m .byte) (m .places) (k + 1) T) (times n (readProduction s kt nt) m)
           (productionsOut a (m .places) (k + 1) T) (Productions n (m .places))
           (λ l m″. got (β ∷ l) m″) (productionsOut a p k t) (Productions (suc n) p)
-          (ih (cursor (m .byte)) (m .places) (k + 1) T (omega (arith, h .2)))
+          (ih (m .byte) (m .places) (k + 1) T (omega (arith, h .2)))
           (λ l m″ q g. (
             q ∙ ap (λ (r : List ℕ). out (Value (m″ .places) (cursor (m″ .byte))) r)
                 (productions-push a p k t β l (m .places) b (omega (arith, h .2))),
@@ -191,28 +192,28 @@ module _ (s : List ℕ) (kt nt : ℕ) where
           ))
 
       by-room : ProductionsSame n a → (len : ℕ) (next : Cursor) → len ≤ maxLength → (b : Bool) → ltb maxPlaces (p + suc len) ≡ b
-          → Same (cond b (out (Refused (OverLimit (c .at))) t)
-          (onOut (symbolsOf s kt nt a len next p (set t (firstsAt + k) p)) (λ q c′ t′. productionsOf s kt nt a n c′ q (k + 1) t′)))
+          → Same (cond b (out (Refused (OverLimit i) next) t)
+          (onOut (symbolsOf s kt nt a len (next .at) p (set t (firstsAt + k) p)) (λ q c′ t′. productionsOf s kt nt a n (c′ .at) q (k + 1) t′)))
           (productionsOut a p k t) (Productions (suc n) p)
-          (andThen (cond b (refused (OverLimit (c .at)))
+          (andThen (cond b (refused (OverLimit i))
           (andThen (times len (symbol s kt nt) (mark (next .at) p)) (λ l m″. got l (mark (m″ .byte) (p + suc len))))) (behindOne n))
       by-room ih len next most true e = refl
       by-room ih len next most false e =
-          same-out (symbolsOf s kt nt a len next p (set t (firstsAt + k) p))
+          same-out (symbolsOf s kt nt a len (next .at) p (set t (firstsAt + k) p))
           (andThen (times len (symbol s kt nt) (mark (next .at) p)) (λ l m″. got l (mark (m″ .byte) (p + suc len))))
-          (oneOut a p (set t (firstsAt + k) p)) (One p len) (λ q c′ t′. productionsOf s kt nt a n c′ q (k + 1) t′) (behindOne n)
+          (oneOut a p (set t (firstsAt + k) p)) (One p len) (λ q c′ t′. productionsOf s kt nt a n (c′ .at) q (k + 1) t′) (behindOne n)
           (productionsOut a p k t) (Productions (suc n) p)
-          (one-same a len next p (set t (firstsAt + k) p))
+          (one-same a len (next .at) p (set t (firstsAt + k) p))
           (next-one ih len most (ltb-false maxPlaces (p + suc len) e))
 
-      go : (x : Read) → limitedAt s 0 maxLength (c .at) ≡ x → ProductionsSame n a
-          → Same (onRead t x (λ m next. cond (ltb maxPlaces (p + m + 1)) (out (Refused (OverLimit (c .at))) t)
-          (onOut (symbolsOf s kt nt a m next p (set t (firstsAt + k) p)) (λ q c′ t′. productionsOf s kt nt a n c′ q (k + 1) t′))))
-          (productionsOut a p k t) (Productions (suc n) p) (andThen (andThen (fromRead p x) (behindLength c p)) (behindOne n))
+      go : (x : Read) → limitedAt s 0 maxLength i ≡ x → ProductionsSame n a
+          → Same (onRead t x (λ m next. cond (ltb maxPlaces (p + m + 1)) (out (Refused (OverLimit i) next) t)
+          (onOut (symbolsOf s kt nt a m (next .at) p (set t (firstsAt + k) p)) (λ q c′ t′. productionsOf s kt nt a n (c′ .at) q (k + 1) t′))))
+          (productionsOut a p k t) (Productions (suc n) p) (andThen (andThen (fromRead p x) (behindLength i p)) (behindOne n))
       go (Value len next) e ih =
           let z : p + len + 1 ≡ p + suc len = omega arith in
-          rw z (by-room ih len next (limited-is s 0 maxLength (c .at) refl e .1) (ltb maxPlaces (p + suc len)) refl)
-      go (Refused r) e ih = refl
+          rw z (by-room ih len next (limited-is s 0 maxLength i refl e .1) (ltb maxPlaces (p + suc len)) refl)
+      go (Refused r d) e ih = refl
 
   -- ---- nonterminals
   -- the tables after nonterminals
@@ -256,45 +257,45 @@ module _ (s : List ℕ) (kt nt : ℕ) where
       ∙ (rw (f, g, e, n))
 
   abbrev RulesSame : ℕ → Type 0
-  RulesSame n = (a : ℕ) (c : Cursor) (p k : ℕ) (t : List ℕ) → p ≤ maxPlaces → k ≤ p
-      → Same (nonterminalsOf s kt nt a n c p k t) (rulesOut a p k t) (AllRules n p) (times n (nonterminal s kt nt) (mark (c .at) p))
+  RulesSame n = (a i p k : ℕ) (t : List ℕ) → p ≤ maxPlaces → k ≤ p
+      → Same (nonterminalsOf s kt nt a n i p k t) (rulesOut a p k t) (AllRules n p) (times n (nonterminal s kt nt) (mark i p))
 
   abbrev behindNonterminal : ℕ → List (List Symbol) → Mark → Parsed (List (List (List Symbol)))
   behindNonterminal n y m′ = andThen (times n (nonterminal s kt nt) m′) (λ l m″. got (y ∷ l) m″)
 
   rules-same : (n : ℕ) → RulesSame n
   unfolding nonterminalsOf times nonterminal limited andThen onRead countsOf firstsOf layAll sizeAll
-  rules-same zero a c p k t l kp = (refl, (refl, omega arith, l, tt))
-  rules-same (suc n) a c p k t l kp = go (limitedAt s 1 maxProductions (c .at)) refl (rules-same n)
+  rules-same zero a i p k t l kp = (refl, (refl, omega arith, l, tt))
+  rules-same (suc n) a i p k t l kp = go (limitedAt s 1 maxProductions i) refl (rules-same n)
     where
       next-one : RulesSame n → (m : ℕ) → 1 ≤ m → m ≤ maxProductions → (y : List (List Symbol)) (mk : Mark) → Productions m p y mk
-          → Same (onOut (productionsOut a p k (set t (rulesAt + a) k) y mk) (λ q c′ t′. nonterminalsOf s kt nt (a + 1) n c′ q (k + m) t′))
+          → Same (onOut (productionsOut a p k (set t (rulesAt + a) k) y mk) (λ q c′ t′. nonterminalsOf s kt nt (a + 1) n (c′ .at) q (k + m) t′))
           (rulesOut a p k t) (AllRules (suc n) p) (behindNonterminal n y mk)
       next-one ih m least most y mk h =
           let T : List ℕ = sets (sets (set t (rulesAt + a) k) (firstsAt + k) (startsEach p y)) p (map wordOf (layEach a y)) in
           let few : k + m ≤ mk .places = omega (arith, h .0, h .1, length-size y) in
-          same-then (nonterminalsOf s kt nt (a + 1) n (cursor (mk .byte)) (mk .places) (k + m) T) (times n (nonterminal s kt nt) mk)
+          same-then (nonterminalsOf s kt nt (a + 1) n (mk .byte) (mk .places) (k + m) T) (times n (nonterminal s kt nt) mk)
           (rulesOut (a + 1) (mk .places) (k + m) T)
           (AllRules n (mk .places)) (λ l m″. got (y ∷ l) m″) (rulesOut a p k t) (AllRules (suc n) p)
-          (ih (a + 1) (cursor (mk .byte)) (mk .places) (k + m) T (h .2) few)
+          (ih (a + 1) (mk .byte) (mk .places) (k + m) T (h .2) few)
           (λ l m″ q g. (
             q ∙ ap (λ (r : List ℕ). out (Value (m″ .places) (cursor (m″ .byte))) r)
                 (rules-push a p k t y l (mk .places) m (h .1) (h .2) kp (sym (h .0))),
             (ap suc (g .0), omega (arith, h .1, g .1), g .2, ((omega (arith, h .0), omega (arith, h .0), h .3), g .3)),
           ))
 
-      go : (x : Read) → limitedAt s 1 maxProductions (c .at) ≡ x → RulesSame n
-          → Same (onRead t x (λ m next. onOut (productionsOf s kt nt a m next p k (set t (rulesAt + a) k))
-          (λ q c′ t′. nonterminalsOf s kt nt (a + 1) n c′ q (k + m) t′)))
+      go : (x : Read) → limitedAt s 1 maxProductions i ≡ x → RulesSame n
+          → Same (onRead t x (λ m next. onOut (productionsOf s kt nt a m (next .at) p k (set t (rulesAt + a) k))
+          (λ q c′ t′. nonterminalsOf s kt nt (a + 1) n (c′ .at) q (k + m) t′)))
           (rulesOut a p k t) (AllRules (suc n) p) (andThen (andThen (fromRead p x) (λ k m′. times k (readProduction s kt nt) m′)) (behindNonterminal n))
       go (Value m next) e ih =
-          let b = limited-is s 1 maxProductions (c .at) refl e in
-          same-out (productionsOf s kt nt a m next p k (set t (rulesAt + a) k)) (times m (readProduction s kt nt) (mark (next .at) p))
+          let b = limited-is s 1 maxProductions i refl e in
+          same-out (productionsOf s kt nt a m (next .at) p k (set t (rulesAt + a) k)) (times m (readProduction s kt nt) (mark (next .at) p))
           (productionsOut a p k (set t (rulesAt + a) k)) (Productions m p)
-          (λ q c′ t′. nonterminalsOf s kt nt (a + 1) n c′ q (k + m) t′) (behindNonterminal n) (rulesOut a p k t) (AllRules (suc n) p)
-          (productions-same m a next p k (set t (rulesAt + a) k) l)
+          (λ q c′ t′. nonterminalsOf s kt nt (a + 1) n (c′ .at) q (k + m) t′) (behindNonterminal n) (rulesOut a p k t) (AllRules (suc n) p)
+          (productions-same m a (next .at) p k (set t (rulesAt + a) k) l)
           (next-one ih m (b .0) (b .1))
-      go (Refused r) e ih = refl
+      go (Refused r d) e ih = refl
 
 -- ---- the whole
 -- the tables of rules, over what stood there
@@ -329,7 +330,8 @@ closing-same s t kt nt hk hn l m h = go (ltb (m .byte) (length s))
       small = omega (arith, z);
     }
 
-    go : (b : Bool) → Same (cond b (out (Refused (Trailing (m .byte))) X) (out (Value (m .places) (cursor (m .byte))) (finished kt nt (m .places) X)))
+    go : (b : Bool) → Same
+        (cond b (out (Refused (Trailing (m .byte)) (cursor (m .byte))) X) (out (Value (m .places) (cursor (m .byte))) (finished kt nt (m .places) X)))
         (passOut t) (λ r m. Limited r)
         (cond b (refused (Trailing (m .byte))) (got (record { kinds = kt; productions = l }) m))
     go true = refl
@@ -340,7 +342,7 @@ unfolding wholePass decode limited
 pass-same s t =
     same-read t (limitedAt s 1 maxKinds 0) 0 _ _ (passOut t) (λ r m. Limited r) (λ kt c e.
     same-read t (limitedAt s 1 maxNonterminals (c .at)) 0 _ _ (passOut t) (λ r m. Limited r) (λ nt c′ e′.
-    same-out (nonterminalsOf s kt nt 0 nt c′ 0 0 t) (times nt (nonterminal s kt nt) (mark (c′ .at) 0)) (rulesOut s kt nt 0 0 0 t) (AllRules s kt nt nt 0)
+    same-out (nonterminalsOf s kt nt 0 nt (c′ .at) 0 0 t) (times nt (nonterminal s kt nt) (mark (c′ .at) 0)) (rulesOut s kt nt 0 0 0 t) (AllRules s kt nt nt 0)
     (λ p c″ t′. closing s kt nt p c″ t′) (λ l m. ending s (record { kinds = kt; productions = l }) m) (passOut t) (λ r m. Limited r)
-    (rules-same s kt nt nt 0 c′ 0 0 t (omega arith) (omega arith))
+    (rules-same s kt nt nt 0 (c′ .at) 0 0 t (omega arith) (omega arith))
     (closing-same s t kt nt (limited-is s 1 maxKinds 0 refl e) (limited-is s 1 maxNonterminals (c .at) refl e′))))

@@ -4,6 +4,7 @@ use mathlib.Core.List.{List, []}
 use Prim.Native.Nat.{ℕ}
 use lib.ListN.{replicate}
 use Rattle.base.proofs.Booleans.{clash}
+use Rattle.number.proofs.NumberLaws.{refused-at}
 use Rattle.reader.specs.inside.Types.{Refusal, Read, Cursor, Value, Refused}
 use Rattle.grammar.specs.Decode.{Rules, Mark, Parsed, got, refused, decode}
 use Rattle.grammar.specs.Grammar.{compile, Limited}
@@ -14,7 +15,7 @@ use Rattle.reader.proofs.TableLaws.{tables-say}
 use Rattle.reader.proofs.FitsLaws.{tables-fit}
 
 pub data PassGives (s : List ℕ) (x : Read) (t : List ℕ) : Type 0 where
-  none : (r : Refusal) → decode s ≡ refused r → x ≡ Refused r → PassGives s x t
+  none : (r : Refusal) (c : Cursor) → decode s ≡ refused r → x ≡ Refused r c → PassGives s x t
   whole : (r : Rules) (m : Mark) (v : ℕ) (c : Cursor) → decode s ≡ got r m → x ≡ Value v c → Limited r → grammarIn t ≡ compile r → TablesFit t
       → PassGives s x t
 
@@ -30,7 +31,8 @@ outcome s t₀ {x} {t} z e = go (decode s) refl (pass-same s (replicate tableWor
         let o = e₀ ∙ h .0 in
         let w : t ≡ laidOut (replicate tableWords 0) r = ap (λ (o : Out). o .tables) o in
         whole r m _ _ q (ap (λ (o : Out). o .answer) o) (h .1) (rw w (tables-say r (h .1))) (rw w (tables-fit r (h .1)))
-    go (refused r) q h = none r q (ap (λ (o : Out). o .answer) e₀ ∙ h)
+    go (refused r) q h =
+        let z = refused-at (wholePass s (replicate tableWords 0) .answer) r h in none r (z .0) q (ap (λ (o : Out). o .answer) e₀ ∙ z .1)
 
 -- rules that bytes say keep every limit
 pub decode-limited : (s : List ℕ) (r : Rules) (m : Mark) → decode s ≡ got r m → Limited r

@@ -1,2 +1,3 @@
 -- What the one pass over a grammar does.
+pub mod Counting
 pub mod inside

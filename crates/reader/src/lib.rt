@@ -1,4 +1,5 @@
-// One pass over the grammar's bytes: it checks refusals 1 to 5 as the bytes come and writes the compiled tables. Nobody looks at the bytes again.
+// One pass over the grammar's bytes: it checks refusals 1 to 5 as the bytes come, counts them, and writes the compiled tables. After it only beginning a cache
+// and refusal 13 look at the bytes.
 use number::Cursor;
 use number::Read;
 use number::Refusal;
@@ -6,6 +7,8 @@ ghost use mathlib.Core.Path.{_≡_};
 ghost use Prim.Native.Nat.{_+_, _≤_};
 ghost use lib.ListN.{length};
 ghost use Rattle.grammar.specs.inside.Tables.{tableWords};
+ghost use Rattle.number.specs.Fetching.{Tallied};
+ghost use Rattle.reader.specs.Counting.{CountsBytes};
 ghost use Rattle.reader.specs.inside.Pass.{WithinLimits, Leaves, symbolsOf, productionsOf, nonterminalsOf, finished, wholePass};
 
 // The symbols of a production of `owner`, from place `first` on, and its end. Answers the place behind them.
@@ -19,20 +22,19 @@ fn symbols(
     tables: &mut [u16],
     first: usize,
 ) -> Read
-    requires { ⌜ WithinLimits kinds nonterminals (first + count) (now tables) ⌝ }
-    ensures { λ r. ⌜ Leaves r (now (tables .exit)) (symbolsOf (now (bytes .entry)) kinds nonterminals owner count from first (now (tables .entry))) ⌝ }
+    requires { ⌜ WithinLimits kinds nonterminals (first + count) (now tables) × Tallied (now bytes) from ⌝ }
+    ensures { λ r. ⌜ Leaves r (now (tables .exit)) (symbolsOf (now (bytes .entry)) kinds nonterminals owner count (from .at) first (now (tables .entry))) ⌝ }
 {
+    let end = first + count;
     let mut c = from;
     let mut p = first;
-    let mut left = count;
-    while 0 < left {
+    while p < end {
         let n = c.symbol(bytes, kinds, nonterminals);
         let Read::Value(v, next) = n else {
             return n;
         };
         tables[p] = grammar::symbol_word(owner, v);
         p += 1;
-        left -= 1;
         c = next;
     }
     tables[p] = grammar::end_word(owner);
@@ -51,9 +53,9 @@ fn productions(
     first: usize,
     production: usize,
 ) -> Read
-    requires { ⌜ WithinLimits kinds nonterminals first (now tables) × (production ≤ first) ⌝ }
+    requires { ⌜ WithinLimits kinds nonterminals first (now tables) × Tallied (now bytes) from × (production ≤ first) ⌝ }
     ensures { λ r. ⌜ Leaves r (now (tables .exit))
-        (productionsOf (now (bytes .entry)) kinds nonterminals owner count from first production (now (tables .entry))) ⌝ }
+        (productionsOf (now (bytes .entry)) kinds nonterminals owner count (from .at) first production (now (tables .entry))) ⌝ }
 {
     let mut c = from;
     let mut p = first;
@@ -66,7 +68,7 @@ fn productions(
             return n;
         };
         if grammar::MAX_PLACES < p + m + 1 {
-            return Read::Refused(Refusal::OverLimit(at));
+            return Read::Refused(Refusal::OverLimit(at), next);
         }
         tables[grammar::FIRSTS + k] = base::narrow(p);
         let piece = symbols(bytes, next, m, kinds, nonterminals, owner, tables, p);
@@ -83,9 +85,9 @@ fn productions(
 
 // All nonterminals. Answers the number of places.
 fn rules(bytes: &[u8], from: Cursor, kinds: usize, nonterminals: usize, tables: &mut [u16]) -> Read
-    requires { ⌜ WithinLimits kinds nonterminals 0 (now tables) ⌝ }
-    ensures { λ r. ⌜ Leaves r (now (tables .exit)) (nonterminalsOf (now (bytes .entry)) kinds nonterminals 0 nonterminals from 0 0 (now (tables .entry)))
-        ⌝ }
+    requires { ⌜ WithinLimits kinds nonterminals 0 (now tables) × Tallied (now bytes) from ⌝ }
+    ensures { λ r. ⌜ Leaves r (now (tables .exit))
+        (nonterminalsOf (now (bytes .entry)) kinds nonterminals 0 nonterminals (from .at) 0 0 (now (tables .entry))) ⌝ }
 {
     let mut c = from;
     let mut p = 0;
@@ -121,12 +123,12 @@ fn finish(kinds: usize, nonterminals: usize, places: usize, tables: &mut [u16])
     tables[grammar::SIZE] = base::narrow(places);
 }
 
-// Reads a grammar into tables. Answers the number of places and the end of the bytes, or the first refusal of 1 to 5.
+// Reads a grammar into tables. Answers the number of places, or the first refusal of 1 to 5, and how many bytes were fetched.
 pub fn read_grammar(bytes: &[u8], tables: &mut [u16]) -> Read
     requires { ⌜ length (now tables) ≡ tableWords ⌝ }
-    ensures { λ r. ⌜ Leaves r (now (tables .exit)) (wholePass (now (bytes .entry)) (now (tables .entry))) ⌝ }
+    ensures { λ r. ⌜ Leaves r (now (tables .exit)) (wholePass (now (bytes .entry)) (now (tables .entry))) × CountsBytes (now (bytes .entry)) r ⌝ }
 {
-    let c = Cursor { at: 0 };
+    let c = Cursor { at: 0, count: 0 };
     let n = c.limited(bytes, 1, grammar::MAX_KINDS);
     let Read::Value(kinds, next) = n else {
         return n;
@@ -141,7 +143,7 @@ pub fn read_grammar(bytes: &[u8], tables: &mut [u16]) -> Read
     };
     let at = end.at;
     if at < bytes.len() {
-        return Read::Refused(Refusal::Trailing(at));
+        return Read::Refused(Refusal::Trailing(at), end);
     }
     finish(kinds, nonterminals, places, tables);
     piece

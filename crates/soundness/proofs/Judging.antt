@@ -92,12 +92,12 @@ module _ {t₀ t : List ℕ} {v : Verdict} (seven : Judgement v (leftRecursiveOf
 
 -- ---- the bytes
 module _ (s t₀ : List ℕ) {x : Read} {t : List ℕ} (z : t₀ ≡ replicate tableWords 0) (e : out x t ≡ wholePass s t₀) where
-  pub compile-refused : {r : Refusal} → x ≡ Unread r → Compiled s (Refused r) t
+  pub compile-refused : {r : Refusal} {c : Cursor} → x ≡ Unread r c → Compiled s (Refused r) t
   unfolding checkOf
   compile-refused {r} h = go (outcome s t₀ z e)
     where
       go : PassGives s x t → Compiled s (Refused r) t
-      go (none r′ q h′) = let y : r′ ≡ r = cc in
+      go (none r′ c′ q h′) = let y : r′ ≡ r = cc in
           record { verdict = rw (q, y); says = λ g m q′. clash (cc); fits = λ g m q′. clash (cc); cornered = λ q′. clash (cc) }
       go (whole g m v c q h′ l u f) = clash (cc)
 
@@ -106,7 +106,7 @@ module _ (s t₀ : List ℕ) {x : Read} {t : List ℕ} (z : t₀ ≡ replicate t
     compile-fits = go (outcome s t₀ z e)
       where
         go : PassGives s x t → TablesFit t
-        go (none r q h′) = clash (cc)
+        go (none r c′ q h′) = clash (cc)
         go (whole g m v c q h′ l u f) = f
 
     pub compile-judged : {w : Verdict} {t′ : List ℕ} → Judgement w (judgeOf (grammarIn t)) t t′ → Compiled s w t′
@@ -114,7 +114,7 @@ module _ (s t₀ : List ℕ) {x : Read} {t : List ℕ} (z : t₀ ≡ replicate t
     compile-judged {w} {t′} j = go (outcome s t₀ z e)
       where
         go : PassGives s x t → Compiled s w t′
-        go (none r q h′) = clash (cc)
+        go (none r c′ q h′) = clash (cc)
         go (whole g m v c q h′ l u f) =
             record {
               verdict = j .verdict ∙ ap judgeOf u ∙ ap onDecoded (sym q);

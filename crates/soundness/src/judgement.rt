@@ -120,7 +120,7 @@ pub fn compile(bytes: &[u8], tables: &mut [u16]) -> Verdict
 {
     let answer = reader::read_grammar(bytes, tables);
     match answer {
-        Read::Refused(r) => Verdict::Refused(r),
+        Read::Refused(r, _) => Verdict::Refused(r),
         Read::Value(_, _) => judge(tables),
     }
 }

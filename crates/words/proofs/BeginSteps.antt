@@ -23,11 +23,11 @@ use Rattle.grammar.proofs.ByteLaws.{decode-few}
 
 -- ---- refusal 13
 module _ (bytes c : List ℕ) where
-  by-parts : begun? bytes c ≡ (sizesHeld bytes c && bytesHeld bytes c)
+  by-parts : begun? bytes c ≡ (sizesHeld (length bytes) c && bytesHeld bytes c)
   unfolding begun? sizesHeld bytesHeld startsWith
   by-parts = refl
 
-  module _ {b : Bool} (e : b ≡ sizesHeld bytes c) where
+  module _ {b : Bool} (e : b ≡ sizesHeld (length bytes) c) where
     pub other-sizes : not b ≡ true → false ≡ begun? bytes c
     other-sizes n = rw (by-parts, ← e, not-true b n)
 
@@ -41,7 +41,7 @@ module _ (bytes c : List ℕ) where
   short-cache h = rw (lt-ltb (length c) minWords h)
 
   pub settled : {c₁ c₂ c₃ : List ℕ} → minWords ≤ length c → c₁ ≡ replicate (length c) 0 → c₂
-      ≡ sets c₁ lengthAt (sizeWords bytes (length c₁))
+      ≡ sets c₁ lengthAt (sizeWords (length bytes) (length c₁))
       → c₃ ≡ sets c₂ bytesAt (packBytes bytes) → begun 0 0 c₃ ≡ begin12 bytes c
   unfolding begin12 beginWords
   settled {c₁} {c₂} {c₃} h e f g =

@@ -23,16 +23,16 @@ cleared c c₀ k e h l =
     y ∙ rw (drop-length c₀) (append-nil (replicate (length c₀) 0))
 
 -- ---- the words of the lengths
-module _ (bytes c : List ℕ) where
+module _ (n : ℕ) (c : List ℕ) where
   abbrev low : ℕ
   low = length c % 2 ^ 32
 
   abbrev high : ℕ
   high = length c / 2 ^ 32
 
-  pub sizes-short : length c < 4 → false ≡ sizesHeld bytes c
+  pub sizes-short : length c < 4 → false ≡ sizesHeld n c
   unfolding sizesHeld sameList
-  sizes-short h = go c h low high (length bytes)
+  sizes-short h = go c h low high n
     where
       go : (c : List ℕ) → length c < 4 → (x y z : ℕ) → false ≡ sameList (take 3 (drop lengthAt c)) (x ∷ y ∷ z ∷ [])
       go [] h x y z = refl
@@ -42,9 +42,9 @@ module _ (bytes c : List ℕ) where
       go (a ∷ b ∷ d ∷ e ∷ l) h x y z = absurd (omega arith)
 
   module _ (h : 4 ≤ length c) where
-    by-words : sizesHeld bytes c ≡ (eqb (getD c 1 0) low && (eqb (getD c 2 0) high && eqb (getD c 3 0) (length bytes)))
+    by-words : sizesHeld n c ≡ (eqb (getD c 1 0) low && (eqb (getD c 2 0) high && eqb (getD c 3 0) n))
     unfolding sizesHeld sameList
-    by-words = go c h low high (length bytes)
+    by-words = go c h low high n
       where
         go : (c : List ℕ) → 4 ≤ length c → (x y z : ℕ)
             → sameList (take 3 (drop lengthAt c)) (x ∷ y ∷ z ∷ []) ≡ (eqb (getD c 1 0) x && (eqb (getD c 2 0) y && eqb (getD c 3 0) z))
@@ -54,14 +54,14 @@ module _ (bytes c : List ℕ) where
         go (a ∷ b ∷ d ∷ []) h x y z = absurd (omega arith)
         go (a ∷ b ∷ d ∷ e ∷ l) h x y z = rw (and-all (eqb e z))
 
-    pub sizes-first : (getD c 1 0 ≡ low → ⊥) → false ≡ sizesHeld bytes c
-    sizes-first n = rw (by-words, ne-eqb (getD c 1 0) low n)
+    pub sizes-first : (getD c 1 0 ≡ low → ⊥) → false ≡ sizesHeld n c
+    sizes-first d = rw (by-words, ne-eqb (getD c 1 0) low d)
 
     module _ (e : getD c 1 0 ≡ low) where
-      pub sizes-second : (getD c 2 0 ≡ high → ⊥) → false ≡ sizesHeld bytes c
-      sizes-second n = rw (by-words, eq-eqb (getD c 1 0) low e, ne-eqb (getD c 2 0) high n)
+      pub sizes-second : (getD c 2 0 ≡ high → ⊥) → false ≡ sizesHeld n c
+      sizes-second d = rw (by-words, eq-eqb (getD c 1 0) low e, ne-eqb (getD c 2 0) high d)
 
-      pub sizes-third : {x : ℕ} → getD c 2 0 ≡ high → x ≡ getD c 3 0 → eqb x (length bytes) ≡ sizesHeld bytes c
+      pub sizes-third : {x : ℕ} → getD c 2 0 ≡ high → x ≡ getD c 3 0 → eqb x n ≡ sizesHeld n c
       sizes-third f q = rw (by-words, eq-eqb (getD c 1 0) low e, eq-eqb (getD c 2 0) high f, q)
 
 -- packed bytes are no more words than bytes

@@ -18,21 +18,21 @@ packBytes (a ∷ b ∷ []) = (a + 2 ^ 8 * b) ∷ []
 packBytes (a ∷ b ∷ c ∷ []) = (a + 2 ^ 8 * b + 2 ^ 16 * c) ∷ []
 packBytes (a ∷ b ∷ c ∷ d ∷ l) = (a + 2 ^ 8 * b + 2 ^ 16 * c + 2 ^ 24 * d) ∷ packBytes l
 
--- L in two words, and the number of grammar bytes
-abbrev pub sizeWords : List ℕ → ℕ → List ℕ
-sizeWords bytes l = l % 2 ^ 32 ∷ l / 2 ^ 32 ∷ length bytes ∷ []
+-- L in two words, and the number n of grammar bytes
+abbrev pub sizeWords : ℕ → ℕ → List ℕ
+sizeWords n l = l % 2 ^ 32 ∷ l / 2 ^ 32 ∷ n ∷ []
 
 -- a cache of l words that has just begun
 unfoldable pub beginWords : List ℕ → ℕ → List ℕ
 unfolding packBytes
-beginWords bytes l = sets (sets (replicate l 0) lengthAt (sizeWords bytes l)) bytesAt (packBytes bytes)
+beginWords bytes l = sets (sets (replicate l 0) lengthAt (sizeWords (length bytes) l)) bytesAt (packBytes bytes)
 
 -- begun for these grammar bytes at this length: the words that hold both say so
 unfoldable pub begun? : List ℕ → List ℕ → Bool
 unfolding packBytes sameList
 begun? bytes c =
     let same = sameList (take (length (packBytes bytes)) (drop bytesAt c)) (packBytes bytes) in
-    sameList (take 3 (drop lengthAt c)) (sizeWords bytes (length c)) && same
+    sameList (take 3 (drop lengthAt c)) (sizeWords (length bytes) (length c)) && same
 
 -- what beginning answers, and the words that it leaves
 pub record Begun : Type 0 where

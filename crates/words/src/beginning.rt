@@ -75,20 +75,20 @@ fn clear(cache: &mut [u32])
     }
 }
 
-// Stores the cache's length and that of the bytes.
-fn write_sizes(bytes: &[u8], cache: &mut [u32])
-    requires { ⌜ (heldAt ≤ length (now cache)) × (length (now bytes) < 2 ^ 32) ⌝ }
-    ensures { λ _. ⌜ now (cache .exit) ≡ sets (now (cache .entry)) lengthAt (sizeWords (now (bytes .entry)) (length (now (cache .entry)))) ⌝ }
+// Stores the cache's length, and the number of the grammar's bytes.
+fn write_sizes(count: usize, cache: &mut [u32])
+    requires { ⌜ (heldAt ≤ length (now cache)) × (count < 2 ^ 32) ⌝ }
+    ensures { λ _. ⌜ now (cache .exit) ≡ sets (now (cache .entry)) lengthAt (sizeWords count (length (now (cache .entry)))) ⌝ }
 {
     let n = cache.len();
     cache[LENGTH_AT] = low(n);
     cache[LENGTH_HIGH_AT] = high(n);
-    cache[BYTE_COUNT_AT] = base::word(bytes.len());
+    cache[BYTE_COUNT_AT] = base::word(count);
 }
 
-// Whether these lengths are stored.
-fn has_sizes(bytes: &[u8], cache: &[u32]) -> bool
-    ensures { λ r. ⌜ r ≡ sizesHeld (now (bytes .entry)) (now (cache .entry)) ⌝ }
+// Whether the cache's length, and this number of bytes, are stored.
+fn has_sizes(count: usize, cache: &[u32]) -> bool
+    ensures { λ r. ⌜ r ≡ sizesHeld count (now (cache .entry)) ⌝ }
 {
     let n = cache.len();
     if n < HELD_AT {
@@ -100,7 +100,7 @@ fn has_sizes(bytes: &[u8], cache: &[u32]) -> bool
     if cache[LENGTH_HIGH_AT] != high(n) {
         return false;
     }
-    base::number(cache[BYTE_COUNT_AT]) == bytes.len()
+    base::number(cache[BYTE_COUNT_AT]) == count
 }
 
 // 12, and then every word is settled.
@@ -112,7 +112,7 @@ fn settle(bytes: &[u8], cache: &mut [u32]) -> Beginning
         return Beginning::ShortCache;
     }
     clear(cache);
-    write_sizes(bytes, cache);
+    write_sizes(bytes.len(), cache);
     crate::bytes::write_bytes(bytes, cache);
     Beginning::Ready
 }
@@ -132,7 +132,7 @@ pub fn begin(grammar: &[u8], cache: &mut [u32]) -> Beginning
 pub fn is_begun(grammar: &[u8], cache: &[u32]) -> bool
     ensures { λ r. ⌜ r ≡ begun? (now (grammar .entry)) (now (cache .entry)) ⌝ }
 {
-    if !has_sizes(grammar, cache) {
+    if !has_sizes(grammar.len(), cache) {
         return false;
     }
     crate::bytes::has_bytes(grammar, cache)

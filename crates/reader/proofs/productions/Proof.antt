@@ -7,7 +7,10 @@ use Prim.Native.Nat.{_≤_}
 use lib.ListN.{length, length-set}
 use Rattle.reader.specs.inside.Pass.{productionsOf}
 use Rattle.grammar.specs.Limits.{maxPlaces}
+use Rattle.number.specs.Fetching.{Tallied}
 use Rattle.number.proofs.NumberLaws.{limited-is}
+use Rattle.number.proofs.CountLaws.{limited-tallied}
+use Rattle.reader.proofs.CountLaws.{symbols-tallied}
 use Rattle.reader.proofs.PassSteps.{productions-done, productions-refused, productions-full, productions-piece, productions-more, symbols-end}
 use Rattle.reader.proofs.productions.Statement.{statement}
 use Rattle.reader.proofs.productions.Tie as tie
@@ -15,7 +18,9 @@ use Rattle.reader.proofs.productions.Tie as tie
 abbrev Inv-loop : tie.InvT-loop
 Inv-loop bytes count kinds nonterminals owner tables₀ first production c₀ p₀ k₀ left₀ tables c p k left =
     (k ≤ p) × (p ≤ maxPlaces) × (length tables ≡ length tables₀)
-    × (productionsOf bytes kinds nonterminals owner left c p k tables ≡ productionsOf bytes kinds nonterminals owner count c₀ first production tables₀)
+    × (productionsOf bytes kinds nonterminals owner left (c .at) p k tables
+    ≡ productionsOf bytes kinds nonterminals owner count (c₀ .at) first production tables₀)
+    × Tallied bytes c
 
 abbrev μ-loop : tie.MeasureT-loop
 μ-loop bytes count kinds nonterminals owner tables₀ first production c₀ p₀ k₀ left₀ tables c p k left = left
@@ -74,7 +79,13 @@ slice-write-tables : tie.Need-slice-write-tables Inv-loop μ-loop
 slice-write-tables c = search needs
 
 symbols-requires : tie.Need-symbols-requires Inv-loop μ-loop
-symbols-requires c κs = record { kinds-most = omega arith; few = omega arith; room = omega arith; long = simp length-set (omega arith) }
+symbols-requires c κs =
+    let at-n = c .before .before .before .before in
+    let at-limited = at-n .before .before in
+    let at-loop = at-limited .before .before in (
+      record { kinds-most = omega arith; few = omega arith; room = omega arith; long = simp length-set (omega arith) },
+      limited-tallied _ _ (at-loop .loop .inv .4 .1) _ _ (at-limited .limited .ensures) (at-n .n .given .1),
+    )
 
 enum-known-piece : tie.Need-enum-known-piece Inv-loop μ-loop
 enum-known-piece c = search needs
@@ -113,19 +124,21 @@ loop-again c =
     let at-n = at-narrow .before .before .before in
     let at-limited = at-n .before .before in
     let at-loop = at-limited .before .before in
-    let h = symbols-end _ _ _ _ _ _ _ _ (at-symbols .symbols .ensures) (c .before .piece .given .1) in (
+    let h = symbols-end _ _ _ _ _ _ _ _ (at-symbols .symbols .ensures) (c .before .piece .given .1) in
+    let next = limited-tallied _ _ (at-loop .loop .inv .4 .1) _ _ (at-limited .limited .ensures) (at-n .n .given .1) in (
       omega arith,
       omega arith,
       omega (arith, simp length-set at (at-symbols .symbols .kept .1 .1 .1 .1 .1 .1 .0)),
       productions-more _ _ _ _ _ _ _ _ _ (omega arith) (at-loop .loop .inv .3) (at-limited .limited .ensures) (at-n .n .given .1) (at-narrow .narrow .ensures)
           (omega arith) (at-symbols .symbols .ensures) (c .before .piece .given .1),
+      symbols-tallied _ _ _ _ _ _ _ _ (next .1) (at-symbols .symbols .ensures) (c .before .piece .given .1),
     )
 
 same-length-4 : tie.Need-same-length-4 Inv-loop μ-loop
 same-length-4 c = search needs
 
 returns-4 : tie.Need-returns-4 Inv-loop μ-loop
-returns-4 c = productions-done _ _ _ _ _ _ _ _ _ (omega arith) (c .before .loop .inv .3)
+returns-4 c = productions-done _ _ _ _ _ _ _ _ _ (c .before .loop .inv .4) (omega arith) (c .before .loop .inv .3)
 
 pub productions-spec : {M : Type 1} → statement M
 productions-spec =

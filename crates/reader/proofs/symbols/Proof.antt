@@ -2,26 +2,32 @@
 -- code that fits its word.
 use native.Mathlib.Omega.{arith}
 use borrow.Author.Needs.{needs}
-use mathlib.Core.Path.{_≡_}
-use Prim.Native.Nat.{_+_, _-_}
+use mathlib.Core.Path.{_≡_, refl, _∙_}
+use Prim.Native.Nat.{_+_, _-_, _≤_}
 use lib.ListN.{length, length-set}
 use Rattle.grammar.specs.inside.Tables.{codes}
 use Rattle.reader.specs.inside.Pass.{symbolsOf}
+use Rattle.number.specs.Fetching.{Tallied}
 use Rattle.number.proofs.NumberLaws.{symbol-low}
-use Rattle.reader.proofs.PassSteps.{symbols-done, symbols-refused, symbols-more}
+use Rattle.number.proofs.CountLaws.{symbol-tallied}
+use Rattle.reader.proofs.PassSteps.{symbols-left, symbols-done, symbols-refused, symbols-more}
 use Rattle.reader.proofs.symbols.Statement.{statement}
 use Rattle.reader.proofs.symbols.Tie as tie
 
 abbrev Inv-loop : tie.InvT-loop
-Inv-loop bytes count kinds nonterminals owner tables₀ first c₀ p₀ left₀ tables c p left =
-    (p + left ≡ first + count) × (length tables ≡ length tables₀)
-    × (symbolsOf bytes kinds nonterminals owner left c p tables ≡ symbolsOf bytes kinds nonterminals owner count c₀ first tables₀)
+Inv-loop bytes count kinds nonterminals owner tables₀ first end c₀ p₀ tables c p =
+    (p ≤ end) × (length tables ≡ length tables₀)
+    × (symbolsOf bytes kinds nonterminals owner (end - p) (c .at) p tables ≡ symbolsOf bytes kinds nonterminals owner count (c₀ .at) first tables₀)
+    × Tallied bytes c
 
 abbrev μ-loop : tie.MeasureT-loop
-μ-loop bytes count kinds nonterminals owner tables₀ first c₀ p₀ left₀ tables c p left = left
+μ-loop bytes count kinds nonterminals owner tables₀ first end c₀ p₀ tables c p = end - p
+
+add-end : tie.Need-add-end Inv-loop μ-loop
+add-end c = search needs
 
 loop-holds : tie.Need-loop-holds Inv-loop μ-loop
-loop-holds c = search needs
+loop-holds c = (omega arith, refl, symbols-left _ _ _ _ _ _ _ (omega arith), search needs)
 
 symbol-requires : tie.Need-symbol-requires Inv-loop μ-loop
 symbol-requires c κs = search needs
@@ -56,9 +62,6 @@ slice-write-tables c = search needs
 add-p : tie.Need-add-p Inv-loop μ-loop
 add-p c = search needs
 
-sub-left : tie.Need-sub-left Inv-loop μ-loop
-sub-left c = search needs
-
 loop-less : tie.Need-loop-less Inv-loop μ-loop
 loop-less c = search needs
 
@@ -69,7 +72,9 @@ loop-again c =
     let at-loop = at-symbol .before .before in (
       omega arith,
       simp length-set (omega arith),
-      symbols-more _ _ _ _ _ _ _ _ (omega arith) (at-loop .loop .inv .2) (at-symbol .symbol .ensures) (at-n .n .given .1) (c .symbol-word .ensures),
+      symbols-left _ _ _ _ _ _ _ (omega arith)
+          ∙ symbols-more _ _ _ _ _ _ _ _ (omega arith) (at-loop .loop .inv .2) (at-symbol .symbol .ensures) (at-n .n .given .1) (c .symbol-word .ensures),
+      symbol-tallied _ _ (at-loop .loop .inv .3 .1) _ _ (at-symbol .symbol .ensures) (at-n .n .given .1),
     )
 
 end-word-requires : tie.Need-end-word-requires Inv-loop μ-loop
@@ -90,7 +95,7 @@ same-length-2 c = search needs
 returns-2 : tie.Need-returns-2 Inv-loop μ-loop
 returns-2 c =
     let at-loop = c .before .before in
-    symbols-done _ _ _ _ _ _ _ _ (omega arith) (at-loop .loop .inv .2) (c .end-word .ensures)
+    symbols-done _ _ _ _ _ _ _ _ (at-loop .loop .inv .3) (omega arith) (at-loop .loop .inv .2) (c .end-word .ensures)
 
 pub symbols-spec : {M : Type 1} → statement M
 symbols-spec =
@@ -98,6 +103,7 @@ symbols-spec =
     (tie.spec
     Inv-loop
     μ-loop
+    add-end
     loop-holds
     symbol-requires
     enum-known-n
@@ -108,7 +114,6 @@ symbols-spec =
     mul-tables
     slice-write-tables
     add-p
-    sub-left
     loop-less
     loop-again
     end-word-requires

@@ -20,10 +20,10 @@ unfoldable pub startsWith : List ℕ → List ℕ → Bool
 unfolding sameList
 startsWith c ws = sameList (take (length ws) c) ws
 
--- the words of the lengths say these
-unfoldable pub sizesHeld : List ℕ → List ℕ → Bool
+-- the words of the lengths say the cache's, and n bytes
+unfoldable pub sizesHeld : ℕ → List ℕ → Bool
 unfolding sameList
-sizesHeld bytes c = sameList (take 3 (drop lengthAt c)) (sizeWords bytes (length c))
+sizesHeld n c = sameList (take 3 (drop lengthAt c)) (sizeWords n (length c))
 
 -- the words of the bytes say these
 unfoldable pub bytesHeld : List ℕ → List ℕ → Bool

@@ -18,7 +18,7 @@ judge-requires : tie.Need-judge-requires
 judge-requires c κs =
     let at-read-grammar = c .before .before .before .before .before in
     let at-entry = at-read-grammar .before .before .before .before in
-    compile-fits _ _ (at-entry .pre) (at-read-grammar .read-grammar .ensures) (c .before .enum-told .given .1)
+    compile-fits _ _ (at-entry .pre) (at-read-grammar .read-grammar .ensures .0) (c .before .enum-told .given .1)
 
 same-length : tie.Need-same-length
 same-length c = search needs
@@ -27,7 +27,7 @@ returns : tie.Need-returns
 returns c =
     let at-read-grammar = c .before .before .before .before .before in
     let at-entry = at-read-grammar .before .before .before .before in
-    compile-refused _ _ (at-entry .pre) (at-read-grammar .read-grammar .ensures) (c .before .answer .given .1)
+    compile-refused _ _ (at-entry .pre) (at-read-grammar .read-grammar .ensures .0) (c .before .answer .given .1)
 
 same-length-2 : tie.Need-same-length-2
 same-length-2 c = search needs
@@ -38,7 +38,7 @@ returns-2 c =
     let at-enum-told = at-judge .before .before in
     let at-read-grammar = at-enum-told .before .before .before .before in
     let at-entry = at-read-grammar .before .before .before .before in
-    compile-judged _ _ (at-entry .pre) (at-read-grammar .read-grammar .ensures) (at-enum-told .enum-told .given .1) (at-judge .judge .ensures)
+    compile-judged _ _ (at-entry .pre) (at-read-grammar .read-grammar .ensures .0) (at-enum-told .enum-told .given .1) (at-judge .judge .ensures)
 
 pub compile-spec : {M : Type 1} → statement M
 compile-spec =
