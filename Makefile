@@ -12,7 +12,7 @@ VERSION := $(shell awk '/define ALLSTAR_VERSION_(MAJOR|MINOR|PATCH) / { printf "
 fill = sed -e 's|@PREFIX@|$(PREFIX)|; s|@LIBDIR@|$(libdir)|; s|@INCLUDEDIR@|$(includedir)|; s|@VERSION@|$(VERSION)|'
 
 library = target/staticlib/liballstar_c.a
-programs = notes tokens check_grammar
+programs = notes tokens check_grammar audit_cache
 
 # The files that a crate and all crates that it knows are proved from.
 proved = $(shell find $$(tools/knows $(1) | sed 's|^|crates/|') -name must-fail -prune -o -print)
@@ -20,7 +20,7 @@ proved = $(shell find $$(tools/knows $(1) | sed 's|^|crates/|') -name must-fail 
 .PHONY: all install uninstall
 .NOTPARALLEL:
 all: $(library) $(programs:%=target/bin/%) target/rust/liballstar.rlib
-	@echo "built, in target/: staticlib/liballstar_c.a, rust/liballstar.rlib, bin/notes, bin/tokens, bin/check_grammar"
+	@echo "built in target/: staticlib/liballstar_c.a, rust/liballstar.rlib, bin/{notes,tokens,check_grammar,audit_cache}"
 
 .SECONDEXPANSION:
 target/staticlib/lib%.a: $$(call proved,$$*)

@@ -10,6 +10,7 @@
  *   allstar_begin     makes a cache for a grammar
  *   allstar_quick     reads a note over a cache: the same answer, and faster the more the cache has learned
  *   allstar_batch     reads up to 64 notes over a cache in one call: the same answers
+ *   allstar_audit     may this cache, whoever wrote its words, be trusted for this grammar?
  *   allstar_split     makes a note of a typed line: its words, numbers and marks become tokens
  *
  * Every call is safe for any bytes, tokens and words of any number. Memory stays the caller's: a call reads
@@ -26,7 +27,7 @@
 
 /* The version of this header; allstar_version() tells that of the library that is linked. */
 #define ALLSTAR_VERSION_MAJOR 1
-#define ALLSTAR_VERSION_MINOR 3
+#define ALLSTAR_VERSION_MINOR 4
 #define ALLSTAR_VERSION_PATCH 0
 #define ALLSTAR_VERSION (ALLSTAR_VERSION_MAJOR * 10000 + ALLSTAR_VERSION_MINOR * 100 + ALLSTAR_VERSION_PATCH)
 
@@ -56,7 +57,9 @@ enum allstar_number {
     ALLSTAR_FOREIGN_BYTE = 16,    /* a byte is below 32 or above 126; the first such */
     ALLSTAR_BAD_LIST = 17,        /* not words with single blanks between, more than 66, or one of them twice */
     /* What is lent for a batch does not fit together. */
-    ALLSTAR_BAD_BATCH = 18        /* notes, lengths, answers and row are not as allstar_batch wants them */
+    ALLSTAR_BAD_BATCH = 18,       /* notes, lengths, answers and row are not as allstar_batch wants them */
+    /* A no of the audit. */
+    ALLSTAR_NOT_COHERENT = 19     /* words of the cache are not as allstar_audit wants them */
 };
 
 /* The limits of grammars and notes, and the most notes of a batch. */
@@ -165,8 +168,8 @@ uint32_t allstar_plain(const uint8_t *grammar, size_t grammar_length,
  *   the note        its tokens, at most 128
  *   the row         as in allstar_plain
  *   the cache       begun by allstar_begin for the same grammar bytes at the same length, at least 2,368
- *                   words; lent whole, as the last reading over it left it. It stays the caller's, and two
- *                   calls at the same time never share it
+ *                   words; lent whole, as the last reading over it left it; or one that allstar_audit said
+ *                   yes to. It stays the caller's, and two calls at the same time never share it
  *   the workspace   as in allstar_plain, of the same least length; it may hold anything before the call and
  *                   holds anything after it
  * Answers 0 if the note is a sentence and its derivation fits the row, else the number of the refusal, the
@@ -188,8 +191,8 @@ uint32_t allstar_plain(const uint8_t *grammar, size_t grammar_length,
  * after any other refusal it is untouched.
  *
  * Only the words that hold the grammar bytes and the length are looked at for 13. If other words of the cache
- * are not what allstar_begin and allstar_quick left there, the answer can be wrong, and nothing else: the
- * call still ends, and writes nothing but what is lent to it. */
+ * are not what allstar_begin and allstar_quick left there, and allstar_audit has not said yes to them, the
+ * answer can be wrong, and nothing else: the call still ends, and writes nothing but what is lent to it. */
 uint32_t allstar_quick(const uint8_t *grammar, size_t grammar_length,
                        const uint16_t *note, size_t note_length,
                        uint16_t *row, size_t row_length,
@@ -235,6 +238,27 @@ uint32_t allstar_batch(const uint8_t *grammar, size_t grammar_length,
                        uint16_t *row, size_t row_length,
                        uint32_t *cache, size_t cache_length,
                        uint32_t *workspace, size_t workspace_length,
+                       uint64_t *place);
+
+/* Audits a cache whose words another program wrote, or that may have been damaged. Lent are
+ *   the grammar     bytes of any length; they are checked
+ *   the cache       words of any number, to be looked at alone
+ * Answers 0 for a yes, else the number of the refusal, the first that applies in this order:
+ *   1 to 5, 7, 6   the grammar, as in allstar_check
+ *   12             the cache has fewer than 2,368 words
+ *   13             the cache was not begun for these grammar bytes at this length
+ *   19             the words are laid out otherwise than they must be, or a decision holds two equal states, or
+ *                  a start or step is recorded that the learning rules do not give
+ * and stores the place: as in allstar_check for 1 to 7, else 0. It writes nothing else.
+ *
+ * After a yes the cache may be lent to allstar_quick and allstar_batch, with the same grammar bytes and at the
+ * same length, as if allstar_begin and they alone had written it: they answer what allstar_plain does, and a
+ * note that was read before teaches nothing more. What those calls leave gets a yes again, always. It need not
+ * be asked again. docs/CACHE.md tells each word, for whoever writes such a program, and each test.
+ *
+ * It works out every outcome that is recorded once more, and looks at every word. */
+uint32_t allstar_audit(const uint8_t *grammar, size_t grammar_length,
+                       const uint32_t *cache, size_t cache_length,
                        uint64_t *place);
 
 /* Makes a note of a typed line. Lent are
@@ -309,6 +333,8 @@ static inline const char *allstar_text(uint32_t number)
         return "the list of words is no list";
     case ALLSTAR_BAD_BATCH:
         return "the parts of the batch do not fit together";
+    case ALLSTAR_NOT_COHERENT:
+        return "the words of the cache are not coherent";
     default:
         return "no number of this library";
     }

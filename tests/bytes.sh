@@ -4,8 +4,8 @@
 # their length.
 set -euo pipefail
 cd "$(dirname "$0")/.."
-# These read typed lines, not grammars: their bytes do not count unless they are called so.
-typed="splitter lines notes tokens allstar_c::allstar_split"
+# These read typed lines, or standard input into a buffer: their bytes do not count unless they are called a grammar.
+typed="splitter lines notes tokens audit_cache allstar_c::allstar_split"
 found=$(mktemp)
 trap 'rm -f "$found"' EXIT
 

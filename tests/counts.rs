@@ -5,7 +5,7 @@
 #[allow(dead_code)]
 #[path = "support/edges.rs"]
 mod edges;
-#[allow(unsafe_code)]
+#[allow(dead_code, unsafe_code)]
 #[path = "support/fence.rs"]
 mod fence;
 #[allow(dead_code)]

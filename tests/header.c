@@ -12,7 +12,7 @@ SAME(workspace_max, ALLSTAR_WORKSPACE_MAX, 271352);
 SAME(workspace_of_g1, ALLSTAR_WORKSPACE_WORDS(10, 16), 9552);
 SAME(listed_last, ALLSTAR_KIND_LISTED + ALLSTAR_LISTED_MAX - 1, ALLSTAR_KINDS_MAX);
 SAME(notes_max, ALLSTAR_NOTES_MAX, 64);
-SAME(version, ALLSTAR_VERSION, 10300);
+SAME(version, ALLSTAR_VERSION, 10400);
 
 static const uint8_t too_long[ALLSTAR_LINE_MAX + 1] = {0};
 static uint32_t cache[ALLSTAR_CACHE_MIN], space[ALLSTAR_WORKSPACE_WORDS(10, 2)];
@@ -70,10 +70,20 @@ int main(void)
         allstar_batch(g1, sizeof g1 - 1, notes, 5, lengths, 3, answers, 8, parts, 6, cache, ALLSTAR_CACHE_MIN, space,
                       ALLSTAR_WORKSPACE_WORDS(places, 2), &place) != ALLSTAR_UNFINISHED || place != 13)
         return 13;
+    if (allstar_audit(g1, sizeof g1, cache, ALLSTAR_CACHE_MIN, &place) != ALLSTAR_OK || place != 0 ||
+        allstar_audit(g1, sizeof g1, cache, ALLSTAR_CACHE_MIN - 1, &place) != ALLSTAR_SHORT_CACHE ||
+        allstar_audit(g1, sizeof g1 - 1, cache, ALLSTAR_CACHE_MIN, &place) != ALLSTAR_UNFINISHED || place != 13)
+        return 14;
+    cache[0] = 1;
+    if (allstar_audit(g1, sizeof g1, cache, ALLSTAR_CACHE_MIN, &place) != ALLSTAR_NOT_COHERENT || place != 0)
+        return 15;
+    cache[1] = 1;
+    if (allstar_audit(g1, sizeof g1, cache, ALLSTAR_CACHE_MIN, &place) != ALLSTAR_FOREIGN_CACHE || place != 0)
+        return 16;
     /* Each number has a text of its own. */
-    for (number = 0; number <= ALLSTAR_BAD_BATCH + 1; number++)
+    for (number = 0; number <= ALLSTAR_NOT_COHERENT + 1; number++)
         for (other = 0; other < number; other++)
             if (strcmp(allstar_text(number), allstar_text(other)) == 0)
-                return 14;
-    return strcmp(allstar_text(99), allstar_text(ALLSTAR_BAD_BATCH + 1)) == 0 ? 0 : 15;
+                return 17;
+    return strcmp(allstar_text(99), allstar_text(ALLSTAR_NOT_COHERENT + 1)) == 0 ? 0 : 18;
 }

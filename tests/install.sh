@@ -19,7 +19,7 @@ fi
 # shellcheck disable=SC2086
 tests/examples.sh $flags > "$work/log" || { cat "$work/log"; exit 1; }
 
-for program in notes tokens check_grammar; do
+for program in notes tokens check_grammar audit_cache; do
     page=$prefix/share/man/man1/$program.1
     if grep '@[A-Z]*@' "$page"; then exit 1; fi
     sed -n '/^\.EX/,/^\.EE/ { /^\.E[XE]/d; s/\\e/\\/g; p }' "$page" > "$work/shown"

@@ -1,5 +1,6 @@
 //! Holds the table of docs/CACHE.md to the words that beginning and a quick reading leave: every word
-//! that is not 0 stands in it, with its value, who left it and what it says by the layout.
+//! that is not 0 stands in it, with its value, who left it and what it says by the layout. And the
+//! audit says yes to words that are made from the table alone, as another program would make them.
 #![deny(unsafe_code)]
 
 #[allow(dead_code)]
@@ -128,11 +129,24 @@ fn main() {
         );
         std::process::exit(1);
     }
+    // The words as the table has them, and nobody else: they are the cache's, and get a yes.
+    let mut written = vec![0; WORDS];
+    for line in &told {
+        let columns: Vec<&str> = line.split(" | ").collect();
+        let at: usize = columns[0].trim_start_matches("| ").parse().unwrap();
+        written[at] = columns[1].parse().unwrap();
+    }
+    assert_eq!(written, cache);
+    assert_eq!(calls::audit(&grammar, &written).number, 0);
     // The note that the document goes on with.
     let read = cache.clone();
     calls::quick(&grammar, &[1, 2, 2], &mut row, &mut cache, &mut workspace);
     let changed = (0..WORDS).filter(|&at| cache[at] != read[at]);
     let changed: Vec<(usize, u32)> = changed.map(|at| (at, cache[at])).collect();
     assert_eq!(changed, [(2692, 2), (3652, 2)]);
-    println!("layout: {} words, each as docs/CACHE.md says", found.len());
+    assert_eq!(calls::audit(&grammar, &cache).number, 0);
+    println!(
+        "layout: {} words, each as docs/CACHE.md says, and they get a yes",
+        found.len()
+    );
 }

@@ -30,6 +30,7 @@ fn main() {
     grammars();
     readings();
     caches();
+    audits();
     long_rows();
     many_notes();
     typed_lines();
@@ -79,7 +80,7 @@ fn declarations() {
             (name.to_string(), parameters.collect::<Vec<_>>().join(", "))
         })
         .collect();
-    assert_eq!(of_header.len(), 8);
+    assert_eq!(of_header.len(), 9);
     assert_eq!(of_header, of_package);
     assert_eq!(of_header, of_library);
 }
@@ -157,8 +158,8 @@ fn numbers() {
         }
         count += 1;
     }
-    assert_eq!(count, 19);
-    assert_eq!(Refusal::new(19, 0), None);
+    assert_eq!(count, 20);
+    assert_eq!(Refusal::new(20, 0), None);
 }
 
 /// What tests/header.c says of the header's macros.
@@ -280,6 +281,44 @@ fn caches() {
         CacheRefusal::ForeignCache
     );
     assert_eq!(refused(&g1, &learned[..100]), CacheRefusal::ShortCache);
+}
+
+/// Audits of the package: what readings left gets a yes, and so does what a program that knows the layout writes;
+/// a word that says something else does not, nor do words of another grammar or length.
+fn audits() {
+    let g1 = Grammar::new(G1).unwrap();
+    let mut workspace = Workspace::new();
+    let mut cache = Cache::new(&g1, 6).unwrap();
+    assert_eq!(cache.audit(), Ok(()));
+    cache.read(&[1, 2], &mut workspace).unwrap();
+    assert_eq!(cache.audit(), Ok(()));
+    let learned = cache.words().to_vec();
+    let mut again = Cache::audited(&g1, learned.clone()).unwrap();
+    assert_eq!(again.read(&[1, 2], &mut workspace).unwrap().entries(), [1, 2]);
+    assert_eq!((again.words(), again.grammar()), (&learned[..], &g1));
+    // The start of decision 0 leads to the state of decision 1.
+    let mut wrong = learned.clone();
+    wrong[32] = 21;
+    assert_eq!(allstar::audit(&g1, &wrong), Err(CacheRefusal::NotCoherent));
+    assert_eq!(
+        Cache::audited(&g1, wrong.clone()).unwrap_err(),
+        CacheRefusal::NotCoherent
+    );
+    // Whoever takes it up without an audit is misled, and can still ask.
+    let unseen = Cache::from_words(&g1, wrong).unwrap();
+    assert_eq!(unseen.audit(), Err(CacheRefusal::NotCoherent));
+    let other = Grammar::new([1, 1, 1, 0]).unwrap();
+    assert_eq!(allstar::audit(&other, &learned), Err(CacheRefusal::ForeignCache));
+    assert_eq!(
+        allstar::audit(&g1, &learned[..2_400]),
+        Err(CacheRefusal::ForeignCache)
+    );
+    assert_eq!(
+        allstar::audit(&g1, &learned[..2_367]),
+        Err(CacheRefusal::ShortCache)
+    );
+    let refused = calls::audit(&[1, 1, 1, 2, 2, 1], &learned);
+    assert_eq!((refused.number, refused.place), (6, 0));
 }
 
 /// A derivation with as many entries as a row may have is given, one with more is refused.

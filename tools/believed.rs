@@ -1,11 +1,12 @@
-// Which definitions have to be believed: those that the statements of the demands, of batches and of typed lines reach. Starts at those in crates/demands/specs, follows
-// every name to where it is defined in some crate's specs/, and stops at the clauses of the contracts (HINGES), which stand in the contract and in the
-// theorem alike. Prints the list of docs/TRUST.md: files in the order of crates.txt, with the lines of their believed definitions, comments included.
+// Which definitions have to be believed: those that the statements of the demands, of batches, of delivered caches and of typed lines reach. Starts at those in
+// crates/demands/specs, follows every name to where it is defined in some crate's specs/, and stops at the clauses of the contracts (HINGES), which stand in
+// the contract and in the theorem alike. Prints the list of docs/TRUST.md: files in the order of crates.txt, with the lines of their believed definitions,
+// comments included.
 use std::collections::{BTreeMap, BTreeSet};
 use std::fs;
 use std::path::Path;
 
-const HINGES: [&str; 6] = ["CheckDid", "BeginDid", "PlainDid", "QuickDid", "BatchDid", "SplitDid"];
+const HINGES: [&str; 7] = ["CheckDid", "BeginDid", "PlainDid", "QuickDid", "BatchDid", "AuditDid", "SplitDid"];
 
 // A definition: its lines in the file (comments in front of it included), and the names that it uses.
 struct Definition {
@@ -170,7 +171,8 @@ fn main() {
     let mut believed: BTreeSet<(String, usize)> = BTreeSet::new();
     let mut declared: BTreeSet<String> = BTreeSet::new();
     let mut open: Vec<(String, usize)> = vec![];
-    for (key, (_, module)) in modules.iter().filter(|(k, _)| k.starts_with("demands/Demand") || *k == "demands/Trucks" || *k == "demands/Typed") {
+    let stated = |key: &str| key.starts_with("demands/Demand") || ["demands/Trucks", "demands/Delivered", "demands/Typed"].contains(&key);
+    for (key, (_, module)) in modules.iter().filter(|(key, _)| stated(key)) {
         open.extend((0..module.definitions.len()).map(|k| (key.clone(), k)));
     }
     while let Some(next) = open.pop() {

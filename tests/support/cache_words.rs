@@ -168,7 +168,7 @@ impl Places {
     }
 
     /// The configuration that any three words say.
-    fn unpack(&self, words: &[u32]) -> Config {
+    pub fn unpack(&self, words: &[u32]) -> Config {
         let bits = |from: u32, count: u32| words[0] >> from & ((1 << count) - 1);
         let mut rest = u64::from(words[1]) | u64::from(words[2]) << 32;
         let mut stack = Vec::new();

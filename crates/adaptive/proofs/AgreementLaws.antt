@@ -3,7 +3,6 @@ use mathlib.Core.Path.{_≡_, refl, sym, subst, ap, _∙_}
 use mathlib.Core.Logic.{_⊎_, inl, inr}
 use mathlib.Core.List.{List, [], _∷_, List·Memᴰ·cases-cons, List·Memᴰ·not-nil}
 use Prim.Native.Nat.{ℕ, _≤_}
-use lib.Dec.{T}
 use lib.ListN.{length}
 use Rattle.base.proofs.Booleans.{clash}
 use Rattle.grammar.specs.Decode.{Rules, Mark, got, decode}
@@ -20,7 +19,7 @@ use Rattle.derivation.specs.Demand2.{Known}
 use Rattle.derivation.proofs.GateLaws.{Noted, eight, nine, eleven, admitted, note-gate, note-passes, gate-sound}
 use Rattle.lookahead.specs.Configs.{In}
 use Rattle.words.specs.Layout.{minWords}
-use Rattle.words.specs.Begin.{begun?}
+use Rattle.words.specs.Begin.{BegunFor}
 use Rattle.cache.specs.Coherent.{Coherent, Extends}
 use Rattle.cache.proofs.SuitLaws.{Suits, decode-suits}
 use Rattle.words.specs.inside.Standings.{standingOf}
@@ -80,7 +79,7 @@ module _ (s : List ℕ) (r : Rules) (m : Mark) (e : decode s ≡ got r m) (v : c
       ∙ quick-answer g s suits ordered (k .note) t (k .row) c h
 
   -- over any words that 12 and 13 let pass
-  read-words : (c : List ℕ) (k : Call) → minWords ≤ length c → T (begun? s c) → {x : Gate} → Noted g (k .note) (k .space) x
+  read-words : (c : List ℕ) (k : Call) → minWords ≤ length c → BegunFor s c → {x : Gate} → Noted g (k .note) (k .space) x
       → (quickAt c k x) .words ≡ taughtAt c k x
   read-words c k b h (eight l) = refl
   read-words c k b h (nine i l u) = refl
@@ -130,12 +129,12 @@ module _ (s : List ℕ) (r : Rules) (m : Mark) (e : decode s ≡ got r m) (v : c
       let same-row = subst (λ (i : ℕ). Extends g ((quickNote g (k .note) i (y .words)) .state) c) q same-note in
       quick-again g s suits ordered (k .note) t (length (k .row)) (y .words) c (y .coherent) h same-row
 
-  left : (c : List ℕ) (k : Call) → minWords ≤ length c → T (begun? s c) → (quick s c k) .words ≡ taught g c k
+  left : (c : List ℕ) (k : Call) → minWords ≤ length c → BegunFor s c → (quick s c k) .words ≡ taught g c k
   unfolding taught
   left c k b h = ap (λ (x : Reply). x .words) (quick-sound c k) ∙ read-words c k b h (note-gate g (k .note) (k .space))
 
   -- A QUICK READING TEACHES what the learning rules give, whatever words the cache holds that 12 and 13 let pass
-  pub quick-teaches : (c : List ℕ) (k : Call) → minWords ≤ length c → T (begun? s c) → Teaches (compile r) c k ((quick s c k) .words)
+  pub quick-teaches : (c : List ℕ) (k : Call) → minWords ≤ length c → BegunFor s c → Teaches (compile r) c k ((quick s c k) .words)
   quick-teaches c k b h = teaches-iff r limits c k ((quick s c k) .words) .1 (left c k b h)
 
   -- and every earlier record is kept, whatever words there are

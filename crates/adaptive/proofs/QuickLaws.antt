@@ -6,7 +6,6 @@ use mathlib.Core.Option.{some}
 use mathlib.Core.List.{List, [], _∷_, List·Memᴰ·cases-cons, List·Memᴰ·not-nil}
 use Prim.Native.Nat.{ℕ, suc, _≤_, _<_, suc-le-suc}
 use native.Mathlib.Omega.{arith}
-use lib.Dec.{T}
 use lib.ListN.{length, getElem?}
 use borrow.Author.Tests.{lt-ltb, le-ltb}
 use Rattle.base.proofs.Booleans.{T→true}
@@ -23,7 +22,8 @@ use Rattle.lookahead.specs.Configs.{In}
 use Rattle.lookahead.specs.Rules.{Each}
 use Rattle.lookahead.proofs.Agreeing.{Marked}
 use Rattle.words.specs.Layout.{minWords}
-use Rattle.words.specs.Begin.{begun?}
+use Rattle.words.specs.Begin.{begun?, BegunFor}
+use Rattle.words.proofs.StandingLaws.{for-begun}
 use Rattle.cache.specs.Predict.{predict}
 use Rattle.cache.specs.Predictor.{Predictor}
 use Rattle.cache.specs.Coherent.{Coherent, Extends}
@@ -43,9 +43,9 @@ module _ (s : List ℕ) (g : Grammar) (w row c : List ℕ) where
   unfolding overCache
   over-13 l e = rw (overCache, le-ltb (length c) minWords l, e)
 
-  pub over-begun : minWords ≤ length c → T (begun? s c) → overCache s g w row c ≡ replyOf g w row (quickNote g w (length row) c)
+  pub over-begun : minWords ≤ length c → BegunFor s c → overCache s g w row c ≡ replyOf g w row (quickNote g w (length row) c)
   unfolding overCache
-  over-begun l t = rw (overCache, le-ltb (length c) minWords l, T→true (begun? s c) t)
+  over-begun l b = rw (overCache, le-ltb (length c) minWords l, T→true (begun? s c) (for-begun s c b))
 
 -- ---- a note of known tokens
 pub tokens-of : (kinds : ℕ) (w : List ℕ) → Known kinds w → Each (λ (t : ℕ). t ≤ kinds) (marked w)

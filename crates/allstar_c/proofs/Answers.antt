@@ -1,4 +1,4 @@
--- Measures, beginnings, readings, batches and splittings told in numbers are the answers of the definitions.
+-- Measures, beginnings, readings, batches, audits and splittings told in numbers are the answers of the definitions.
 use mathlib.Core.Path.{_≡_}
 use mathlib.Core.List.{List}
 use Prim.Native.Nat.{ℕ}
@@ -15,6 +15,9 @@ use Rattle.quick.specs.inside.Replied.{replied}
 use Rattle.batch.specs.declared.answer.Batch.{Batch}
 use Rattle.batch.specs.Batches.{Batched, batched}
 use Rattle.batch.specs.Contract.{batchNumber, batchPlace, SpaceKept}
+use Rattle.audit.specs.declared.answer.Audit.{Audit}
+use Rattle.audit.specs.Auditing.{Audited, audited}
+use Rattle.audit.specs.Contract.{auditNumber, auditPlace}
 use Rattle.splitter.specs.declared.splitting.Splitting.{Splitting}
 use Rattle.splitter.specs.Splitting.{SplitAnswer, splitAnswer}
 use Rattle.splitter.specs.Contract.{splittingNumber, splittingPlace, splittingCount}
@@ -32,6 +35,10 @@ pub told-batch : (b : Batch) (answers row words space space′ : List ℕ) {n p 
     → (batched (batchNumber b) (batchPlace b) answers row words ≡ x) × SpaceKept (batchNumber b) space space′
     → (batched n p answers row words ≡ x) × SpaceKept n space space′
 told-batch b answers row words space space′ e f h = rw (e, f) h
+
+pub told-audit : (a : Audit) {n p : ℕ} {x : Audited} → n ≡ auditNumber a → p ≡ auditPlace a → audited (auditNumber a) (auditPlace a) ≡ x
+    → audited n p ≡ x
+told-audit a e f h = rw (e, f) h
 
 pub told-begun : (b : Beginning) (c : List ℕ) {n p : ℕ} {x : Begun} → n ≡ beginningNumber b → p ≡ beginningPlace b → begunBy b c ≡ x
     → begun n p c ≡ x

@@ -5,7 +5,7 @@ abbrev major : ℕ
 major = 1
 
 abbrev minor : ℕ
-minor = 3
+minor = 4
 
 abbrev patch : ℕ
 patch = 0

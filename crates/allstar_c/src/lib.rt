@@ -6,6 +6,7 @@ ghost use Rattle.words.specs.Begin.{BeginDid};
 ghost use Rattle.plain.specs.Contract.{PlainDid};
 ghost use Rattle.quick.specs.Contract.{QuickDid};
 ghost use Rattle.batch.specs.Contract.{BatchDid, SpaceKept};
+ghost use Rattle.audit.specs.Contract.{AuditDid};
 ghost use Rattle.splitter.specs.Contract.{SplitDid};
 ghost use Rattle.measuring.specs.Measuring.{figures, figuresOf, measureOf};
 ghost use Rattle.allstar_c.specs.Version.{version};
@@ -13,7 +14,7 @@ ghost use Rattle.allstar_c.specs.Version.{version};
 // The library's version. specs/Version has the same.
 const MAJOR: u32 = 1;
 
-const MINOR: u32 = 3;
+const MINOR: u32 = 4;
 
 const PATCH: u32 = 0;
 
@@ -98,6 +99,16 @@ pub extern "C" fn allstar_batch(
     let outcome = batch::batch(grammar, tokens, lengths, answers, row, cache, workspace);
     *place = outcome.place() as u64;
     outcome.number()
+}
+
+// Audits a cache for a grammar. Answers the scope's number, 0 for a yes, and stores the place. The cache is lent to be looked at alone.
+#[no_mangle]
+pub extern "C" fn allstar_audit(grammar: &[u8], cache: &[u32], place: &mut u64) -> u32
+    ensures { λ r. ⌜ AuditDid (now (grammar .entry)) (now (cache .entry)) r (now (place .exit)) ⌝ }
+{
+    let audited = audit::audit(grammar, cache);
+    *place = audited.place() as u64;
+    audited.number()
 }
 
 // Makes tokens of a typed line. Answers the scope's number, 0 if the line was split, stores the place and the count of tokens, and leaves the row as

@@ -8,7 +8,7 @@ use native.Mathlib.Nat.{one-mul, div-one, div-self, div-eq-of-lt, pow-suc, lt-of
 use native.Mathlib.Omega.{arith}
 use native.Mathlib.Decide.{decLt}
 use lib.Dec.{T, eqb, eqb→eq, eqb-refl}
-use lib.Bits.{bitOr, bitAnd, bitXor, differ, xor-shr, xor-step, or-shr, or-step, and-shr, and-step, and-mask, or-add-and, and-le-l, and-le-r, or-lt}
+use lib.Bits.{bitOr, bitAnd, bitXor, differ, xor-shr, xor-step, or-shr, or-step, and-shr, and-step, and-mask, or-add-and, and-le-l, and-le-r, or-lt, or-zero-l}
 use lib.Count.{trailingZeros, under}
 use lib.Pow.{pow-pos, pow-lt, pow-mono, pow-add, shl-exact, shl-shr, shr-shr}
 use lib.Arith.{digits-mod}
@@ -129,6 +129,15 @@ or-ge-r x y = omega (arith, or-add-and x y, and-le-l x y)
 -- what a union holds came from one of its parts
 pub or-pos : (x y : ℕ) → 0 < bitOr x y → (0 < x) ⊎ (0 < y)
 or-pos x y h = ⊎-elim (λ e. inr (omega (arith, or-add-and x y))) (λ n. inl (omega arith)) (same? x 0)
+
+-- a union is empty exactly if both sets are
+pub or-none : (x y : ℕ) → eqb (bitOr x y) 0 ≡ (eqb x 0 && eqb y 0)
+or-none x y = go (eqb x 0) refl (eqb y 0) refl
+  where
+    go : (a : Bool) → eqb x 0 ≡ a → (b : Bool) → eqb y 0 ≡ b → eqb (bitOr x y) 0 ≡ (a && b)
+    go true e true f = let p = eqb-true x 0 e in let q = eqb-true y 0 f in eq-eqb (bitOr x y) 0 (rw (p, q) (or-zero-l 0))
+    go true e false f = let q = eqb-false y 0 f in ne-eqb (bitOr x y) 0 (λ z. q (omega (arith, or-ge-r x y)))
+    go false e b f = let p = eqb-false x 0 e in ne-eqb (bitOr x y) 0 (λ z. p (omega (arith, or-ge x y)))
 
 -- ---- members in common
 and-test : (x y : ℕ) → x < 2 → y < 2 → eqb (min x y) 1 ≡ (eqb x 1 && eqb y 1)

@@ -1,10 +1,11 @@
--- Booleans read as types, and contradictions.
-use mathlib.Core.Path.{_≡_, refl, sym, subst}
+-- Booleans read as types, contradictions, and tests one after another.
+use mathlib.Core.Path.{_≡_, refl, sym, ap, _∙_, subst}
 use mathlib.Core.Logic.{_⊎_, inl, inr}
-use mathlib.Core.Bool.{Bool, true, false, _&&_, _||_}
+use mathlib.Core.Bool.{Bool, true, false, _&&_, _||_, not}
 use Prim.Native.Nat.{ℕ}
 use native.Mathlib.Omega.{arith}
 use lib.Dec.{T}
+use borrow.Author.Tests.{not-true, not-false}
 
 -- two constructors that are said to be equal: `clash (cc)` closes any goal
 pub clash : {A : Type 0} → _≡_ {A = ℕ} 0 1 → A
@@ -74,3 +75,18 @@ and-all false = refl
 pub and-none : (a : Bool) → (a && false) ≡ false
 and-none true = refl
 and-none false = refl
+
+-- ---- tests as code makes them
+-- one that was found to fail, and one that was found to hold
+pub failed : {r p : Bool} → r ≡ p → not r ≡ true → p ≡ false
+failed {r} e n = sym e ∙ not-true r n
+
+pub passed : {r p : Bool} → r ≡ p → not r ≡ false → p ≡ true
+passed {r} e n = sym e ∙ not-false r n
+
+-- one after another: the first that fails decides, and else the last
+pub stop : {a : Bool} (r : Bool) → a ≡ false → false ≡ (a && r)
+stop {a} r e = ap (λ (b : Bool). b && r) (sym e)
+
+pub on : {a x r : Bool} → a ≡ true → x ≡ r → x ≡ (a && r)
+on {a} {x} {r} e h = h ∙ ap (λ (b : Bool). b && r) (sym e)

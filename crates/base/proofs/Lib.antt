@@ -4,4 +4,5 @@ pub mod Bits
 pub mod Lists
 pub mod Fixpoint
 pub mod Lowest
+pub mod AllLaws
 pub mod ClearLaws

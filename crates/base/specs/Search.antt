@@ -1,5 +1,5 @@
--- The lowest number with a property: as a search, and as what the search must find.
-use mathlib.Core.Bool.{Bool, true, false}
+-- The lowest number with a property: as a search, and as what the search must find. And a test of all numbers of a range.
+use mathlib.Core.Bool.{Bool, true, false, _&&_}
 use mathlib.Core.Option.{Option, none, some}
 use Prim.Native.Nat.{ℕ, zero, suc, _≤_}
 
@@ -12,3 +12,8 @@ lowestFrom p i (suc n) = elim (p i) [ true ↦ some i | false ↦ lowestFrom p (
 pub data LowestIs (P : ℕ → Type 0) : Option ℕ → Type 0 where
   this : (a : ℕ) → P a → ((c : ℕ) → P c → a ≤ c) → LowestIs P (some a)
   nothing : ((c : ℕ) → ¬ P c) → LowestIs P none
+
+-- all of the n numbers from i on pass the test; a later one is asked only if those before it pass
+unfoldable pub allFrom : (ℕ → Bool) → ℕ → ℕ → Bool
+allFrom p i zero = true
+allFrom p i (suc n) = let rest = allFrom p (suc i) n in p i && rest

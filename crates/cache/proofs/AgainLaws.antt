@@ -56,7 +56,7 @@ module _ (g : Grammar) (bytes : List ℕ) (suits : Suits g bytes) {c″ : List �
         where
           go : Dec (word c″ i ≡ 0) → word c″ i ≡ 0
           go (yes z) = z
-          go (no n) = let y = field-says g k″ (field-extends g x f) n in absurd (not-held (y .0) (y .2) (y .3) (y .4))
+          go (no n) = let y = field-says g suits k″ (field-extends g x f) n in absurd (not-held (y .0) (y .2) (y .3) (y .4))
 
       again-unheld : ask c″ i a (state ks) ≡ learned fullWord c″
       unfolding recordOutcome recordNew

@@ -59,7 +59,7 @@ unfolding RoomFor
 room-state o ws e h = rw e at h
 
 -- the words from k on
-rest-is : (ws : List ℕ) (k : ℕ) → take (length ws - k) (drop k ws) ≡ drop k ws
+pub rest-is : (ws : List ℕ) (k : ℕ) → take (length ws - k) (drop k ws) ≡ drop k ws
 rest-is ws k = ap (λ (n : ℕ). take n (drop k ws)) (sym (length-drop k ws)) ∙ take-length (drop k ws)
 
 pub room-part : (o : told.Outcome) (ws : List ℕ) {f n : ℕ} → o ≡ State f n → RoomFor o ws

@@ -1,20 +1,16 @@
 -- A cache that has just begun is begun for its bytes, holds nothing, and is coherent.
-use mathlib.Core.Path.{_≡_, refl, _∙_}
+use mathlib.Core.Path.{_≡_, refl, sym, ap, _∙_}
 use mathlib.Core.Logic.{_⊎_, inl, inr}
 use mathlib.Core.List.{List}
 use Prim.Native.Nat.{ℕ, zero, suc, _+_, _-_, _≤_, _<_}
 use native.Mathlib.Omega.{arith}
 use native.Mathlib.Decide.{decLt}
-use lib.Dec.{T}
 use lib.ListN.{length, take, drop, replicate, length-replicate}
 use lib.Seq.{sets, length-sets}
-use Rattle.base.proofs.Booleans.{T-and}
 use Rattle.grammar.specs.Grammar.{Grammar}
-use Rattle.lookahead.specs.Closing.{sameList}
-use Rattle.lookahead.proofs.AddLaws.{list-same}
 use Rattle.words.specs.Layout.{minWords, fixedWords, lengthAt, heldAt, startAt, bytesAt}
 use Rattle.words.specs.Words.{word, held, startOf}
-use Rattle.words.specs.Begin.{packBytes, sizeWords, beginWords, begun?}
+use Rattle.words.specs.Begin.{packBytes, sizeWords, beginWords, BegunFor}
 use Rattle.cache.specs.Coherent.{Used, size, byte, Coherent}
 use Rattle.words.proofs.WordLaws.{word-sets, region-sets, region-same}
 use Rattle.cache.proofs.SuitLaws.{Suits}
@@ -68,12 +64,9 @@ module _ (bytes : List ℕ) (packed : bytesAt + length (packBytes bytes) ≤ fix
   unfolding beginWords
   begun-long = long-fresh
 
-  pub begun-begun : T (begun? bytes (beginWords bytes l))
-  unfolding beginWords begun?
-  begun-begun =
-      rw (size-words, byte-words, long-fresh)
-      (T-and (sameList (sizeWords (length bytes) l) (sizeWords (length bytes) l)) (sameList (packBytes bytes) (packBytes bytes))
-      (list-same (sizeWords (length bytes) l)) (list-same (packBytes bytes)))
+  begun-begun : BegunFor bytes (beginWords bytes l)
+  unfolding beginWords
+  begun-begun = record { sizes = size-words ∙ ap (λ (n : ℕ). sizeWords (length bytes) n) (sym long-fresh); grammar = byte-words }
 
   none-held : held (beginWords bytes l) ≡ 0
   unfolding held beginWords

@@ -4,14 +4,14 @@ use mathlib.Core.Logic.{inl, inr}
 use mathlib.Core.List.{List}
 use Prim.Native.Nat.{ℕ, _+_, _≤_, _<_}
 use native.Mathlib.Omega.{arith}
-use lib.Dec.{T, ltb}
+use lib.Dec.{ltb}
 use lib.ListN.{length, take, drop}
 use Rattle.grammar.specs.Grammar.{Grammar}
 use Rattle.lookahead.specs.Outcomes.{Outcome, full, alternative, state}
 use Rattle.configurations.specs.Packing.{unpackAll}
 use Rattle.words.specs.Layout.{minWords, fixedWords, lengthAt, bytesAt}
 use Rattle.words.specs.Words.{held, keptIn}
-use Rattle.words.specs.Begin.{packBytes, begun?}
+use Rattle.words.specs.Begin.{packBytes, sizeWords, begun?, BegunFor}
 use Rattle.words.specs.inside.Standings.{standingBy, standingOf}
 use Rattle.cache.specs.Coherent.{Says, Extends}
 use Rattle.words.proofs.WordLaws.{region-same}
@@ -49,25 +49,26 @@ module _ (g : Grammar) where
   unfolding keptIn
   kept-extends x s h = ap unpackAll (x .same-kept s h)
 
-  -- the words that say what the cache was begun for
-  pub begun-same : (bytes : List ℕ) {c c′ : List ℕ} → bytesAt + length (packBytes bytes) ≤ fixedWords → Extends g c c′
-      → begun? bytes c′ ≡ begun? bytes c
-  unfolding begun?
-  begun-same bytes {c} {c′} few x =
-      let n = length (packBytes bytes) in
-      let l : length c′ ≡ length c = x .as-long in
-      let p : take 3 (drop lengthAt c′) ≡ take 3 (drop lengthAt c) = region-same c c′ lengthAt 3 l (λ i h k. x .same-fixed i (inl (omega arith))) in
-      let q : take n (drop bytesAt c′) ≡ take n (drop bytesAt c) = region-same c c′ bytesAt n l (λ i h k. x .same-fixed i (inr (h, omega arith))) in
-      rw (p, q, l)
+  module _ (bytes : List ℕ) {c c′ : List ℕ} (few : bytesAt + length (packBytes bytes) ≤ fixedWords) (x : Extends g c c′) where
+    -- the words that say what the cache was begun for
+    sizes-same : take 3 (drop lengthAt c′) ≡ take 3 (drop lengthAt c)
+    sizes-same = region-same c c′ lengthAt 3 (x .as-long) (λ i h k. x .same-fixed i (inl (omega arith)))
 
-  pub begun-extends : (bytes : List ℕ) {c c′ : List ℕ} → bytesAt + length (packBytes bytes) ≤ fixedWords → Extends g c c′ → T (begun? bytes c)
-      → T (begun? bytes c′)
-  begun-extends bytes few x t = rw (begun-same bytes few x) t
+    bytes-same : take (length (packBytes bytes)) (drop bytesAt c′) ≡ take (length (packBytes bytes)) (drop bytesAt c)
+    bytes-same = region-same c c′ bytesAt (length (packBytes bytes)) (x .as-long) (λ i h k. x .same-fixed i (inr (h, omega arith)))
 
-  -- HOW A CACHE STANDS to a grammar no reading changes
-  pub standing-extends : (bytes : List ℕ) {c c′ : List ℕ} → bytesAt + length (packBytes bytes) ≤ fixedWords → Extends g c c′
-      → standingOf bytes c′ ≡ standingOf bytes c
-  unfolding standingOf
-  standing-extends bytes {c} {c′} few x =
-      ap (λ (l : ℕ). standingBy (ltb l minWords) (begun? bytes c′)) (x .as-long)
-      ∙ ap (standingBy (ltb (length c) minWords)) (begun-same bytes few x)
+    begun-same : begun? bytes c′ ≡ begun? bytes c
+    unfolding begun?
+    begun-same = rw (sizes-same, bytes-same, x .as-long)
+
+    pub begun-extends : BegunFor bytes c → BegunFor bytes c′
+    begun-extends b = record {
+      sizes = sizes-same ∙ b .sizes ∙ ap (λ (l : ℕ). sizeWords (length bytes) l) (sym (x .as-long));
+      grammar = bytes-same ∙ b .grammar;
+    }
+
+    -- HOW A CACHE STANDS to a grammar no reading changes
+    pub standing-extends : standingOf bytes c′ ≡ standingOf bytes c
+    unfolding standingOf
+    standing-extends =
+        ap (λ (l : ℕ). standingBy (ltb l minWords) (begun? bytes c′)) (x .as-long) ∙ ap (standingBy (ltb (length c) minWords)) begun-same

@@ -1,6 +1,6 @@
 -- The words that record outcomes, starts and steps alike: where they stand, and what coherent words say there.
-use mathlib.Core.Path.{_≡_, sym, ap, _∙_}
-use mathlib.Core.Logic.{_⊎_, inl, inr, _≢_}
+use mathlib.Core.Path.{_≡_, refl, sym, ap, _∙_}
+use mathlib.Core.Logic.{_⊎_, inl, inr, _≢_, _↔_}
 use mathlib.Core.List.{List}
 use Prim.Native.Nat.{ℕ, _+_, _≤_, _<_}
 use native.Mathlib.Omega.{arith}
@@ -8,11 +8,14 @@ use native.Mathlib.Decide.{decLt}
 use lib.ListN.{length}
 use Rattle.grammar.specs.Limits.{maxNonterminals, maxKinds}
 use Rattle.grammar.specs.Grammar.{Grammar}
-use Rattle.lookahead.specs.Outcomes.{Outcome, startOutcome, stepOutcome}
-use Rattle.words.specs.Layout.{keptRoom, fixedWords, heldAt, startAt, bytesAt, slotAt, countAt, stepAt, configsAt}
-use Rattle.words.specs.Words.{word, held, startOf, stepOf, decision, keptIn}
 use Rattle.lookahead.specs.Configs.{Decides}
-use Rattle.cache.specs.Coherent.{Says, Coherent, Used, size, start, byte, its-decision, count, step, kept, Extends}
+use Rattle.lookahead.specs.Order.{Packable}
+use Rattle.lookahead.specs.Outcomes.{Outcome, startOutcome, stepOutcome}
+use Rattle.lookahead.specs.Rules.{Each}
+use Rattle.configurations.proofs.UnpackLaws.{unpacked}
+use Rattle.words.specs.Layout.{keptRoom, fixedWords, heldAt, startAt, bytesAt, slotAt, countAt, stepAt, configsAt}
+use Rattle.words.specs.Words.{word, held, startOf, stepOf, decision, keptWords, keptIn}
+use Rattle.cache.specs.Coherent.{Says, SaysGiven, Coherent, Used, size, start, byte, its-decision, count, step, kept, Extends}
 use Rattle.words.proofs.WordLaws.{kept-room}
 use Rattle.cache.proofs.SuitLaws.{Suits}
 use Rattle.cache.proofs.ExtendLaws.{kept-extends}
@@ -50,6 +53,17 @@ cell-configs {i} (step-cell s′ t h e) s = go (decLt s s′)
     go (yes l) = inr (omega arith)
     go (no l) = inl (omega arith)
 
+-- ---- what is said
+-- where one outcome is given, a word says a given outcome exactly if it says that one
+pub says-given : {c : List ℕ} {a w : ℕ} {Given : Outcome → Type 0} {o : Outcome} → ((p : Outcome) → Given p ↔ (o ≡ p))
+    → SaysGiven c a w Given ↔ Says c a w o
+says-given {o = o} one = (λ x. let e = one (x .outcome) .0 (x .given) in rw e (x .says), λ y. record { outcome = o; given = one o .1 refl; says = y })
+
+-- any words of a slot can be said by packed values
+pub kept-packable : (c : List ℕ) (s : ℕ) → Each Packable (keptIn c s)
+unfolding keptIn
+kept-packable c s = unpacked (keptWords c s)
+
 -- ---- fields
 -- the word i of c records the outcome o of decision a
 pub data Field (g : Grammar) (c : List ℕ) (i a : ℕ) (o : Outcome) : Type 0 where
@@ -75,10 +89,12 @@ module _ (g : Grammar) where
   recorded-stays u {c} {c′} x (of-step s t h l d e q) n = rw e (x .same-step s t h (omega (arith, u .kinds)) (rw e at n))
 
   -- coherent words say the outcome in every field that records one
-  pub field-says : {bytes c : List ℕ} → Coherent g bytes c → {i a : ℕ} {o : Outcome} → Field g c i a o → word c i ≢ 0 → Says c a (word c i) o
+  pub field-says : {bytes : List ℕ} → Suits g bytes → {c : List ℕ} → Coherent g bytes c → {i a : ℕ} {o : Outcome} → Field g c i a o
+      → word c i ≢ 0 → Says c a (word c i) o
   unfolding startOf stepOf
-  field-says {bytes} {c} k {i} {a} (of-start d e q) n = rw (q, e) (k .started a d (rw e at n))
-  field-says {bytes} {c} k {i} {a} (of-step s t h l d e q) n = rw (q, e, ← d) (k .stepped s t h l (rw e at n))
+  field-says u {c} k {i} {a} (of-start d e q) n = rw (q, e) (says-given (u .starts a) .0 (k .started a d (rw e at n)))
+  field-says u {c} k {i} {a} (of-step s t h l d e q) n =
+      rw (q, e, ← d) (says-given (u .steps (keptIn c s) (kept-packable c s) t) .0 (k .stepped s t h l (rw e at n)))
 
   -- ---- used words
   pub field-used : {bytes c : List ℕ} {i a : ℕ} {o : Outcome} → Field g c i a o → Used g bytes c i

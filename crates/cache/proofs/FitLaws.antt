@@ -39,6 +39,7 @@ fits-packable k f = record { place = omega (arith, f .place); alternative = omeg
 -- what one word, or one slot, can record
 pub record Keepable (ks : List Config) : Type 0 where
   pub fitting : Each Storable ks
+  pub some : 1 ≤ length ks
   pub few : length ks ≤ maxKept
   pub ascending : Ascending ks
 
@@ -74,6 +75,12 @@ limited-one ks {b} e = go (ltb maxKept (length ks)) e
     go true e = clash (cc)
     go false e = judged-one ks e
 
+-- ---- a state keeps something: with nothing kept the outcome is FULL
+kept-some : (ks : List Config) → judged ks ≡ state ks → 1 ≤ length ks
+unfolding judged
+kept-some [] e = clash (cc)
+kept-some (k ∷ ks) e = omega arith
+
 module _ (g : Grammar) where
   outcome-one : (start : List Config) {b : ℕ} → outcome g start ≡ alternative b → (c : Config) × Closes g start c × (c .alternative ≡ b)
   unfolding outcome
@@ -97,6 +104,7 @@ module _ (g : Grammar) where
         let f = members-fit start (h .members) l (h .closure) in
         record {
           fitting = λ c m. f c (kept-right g (h .members) c .0 (subst (In c) (sym (h .same)) m) .0);
+          some = kept-some ks (h .rules);
           few = h .few;
           ascending = subst Ascending (h .same) (kept-ascending g (h .members) (h .closure .distinct) (λ c m. fits-packable c (f c m)));
         }

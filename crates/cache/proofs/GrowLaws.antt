@@ -16,7 +16,7 @@ use Rattle.words.specs.Words.{word, held, startOf, stepOf, decision, keptWords,
 use Rattle.cache.specs.Coherent.{Says, Storable, Slot, Used, Coherent, Extends}
 use Rattle.cache.proofs.SuitLaws.{Suits}
 use Rattle.cache.proofs.ExtendLaws.{kept-extends, begun-extends}
-use Rattle.cache.proofs.FieldLaws.{Field, of-start, of-step, used-extends}
+use Rattle.cache.proofs.FieldLaws.{Field, of-start, of-step, says-given, kept-packable, used-extends}
 
 -- how words grew: at most one state more, and what every new word says
 pub record Growth (g : Grammar) (bytes c c′ : List ℕ) : Type 0 where
@@ -43,6 +43,7 @@ module _ (g : Grammar) (bytes : List ℕ) (suits : Suits g bytes) {c c′ : List
       record {
         decides = rw d (o .decides);
         counted = w .counts s h ∙ o .counted ∙ ap length (sym e);
+        some = rw e (o .some);
         few = rw e (o .few);
         packed = x .same-kept s h ∙ o .packed ∙ ap packAll (sym e);
         fitting = subst (Each Storable) (sym e) (o .fitting);
@@ -83,6 +84,6 @@ module _ (g : Grammar) (bytes : List ℕ) (suits : Suits g bytes) {c c′ : List
     slot = λ s h. slot s h (decLt s (held c));
     unused = λ i n. w .elsewhere i n ∙ k .unused i (λ u. n (used-extends g x u));
     single = λ s s′ h h′ d e. single s s′ h h′ d e (decLt s (held c)) (decLt s′ (held c));
-    started = λ a d n. w .said (of-start d refl refl) n;
-    stepped = λ s t h l n. stepped s t h l n (decLt s (held c));
+    started = λ a d n. says-given (suits .starts a) .1 (w .said (of-start d refl refl) n);
+    stepped = λ s t h l n. says-given (suits .steps (keptIn c′ s) (kept-packable c′ s) t) .1 (stepped s t h l n (decLt s (held c)));
   }

@@ -22,9 +22,8 @@ use Rattle.cache.specs.Lessons.{Records, says-full, says-alternative, sa
 use Rattle.cache.specs.Lessons.{ObtainsStart, ObtainsStep, Pursues, names-one, says-none, no-token, steps, Foretells}
 use Rattle.cache.proofs.SuitLaws.{compile-decisions}
 use Rattle.cache.proofs.ExtendLaws.{extends-refl, extends-trans}
-use Rattle.cache.proofs.FieldLaws.{Cell, start-cell, step-cell}
+use Rattle.cache.proofs.FieldLaws.{Cell, start-cell, step-cell, kept-packable}
 use Rattle.cache.proofs.StayLaws.{put-extends, cell-stays, new-extends}
-use Rattle.cache.proofs.LessonLaws.{kept-packable}
 
 -- ---- one outcome
 module _ (g : Grammar) {c : List ℕ} {a i : ℕ} (cell : Cell i) where

@@ -14,19 +14,17 @@ use Rattle.grammar.specs.Limits.{maxProductions}
 use Rattle.grammar.specs.Decode.{Rules}
 use Rattle.grammar.specs.Grammar.{Grammar, alternatives, compile, Limited}
 use Rattle.lookahead.specs.Configs.{Config}
-use Rattle.lookahead.specs.Order.{Packable}
 use Rattle.lookahead.specs.Outcomes.{Outcome, full, alternative, state, startOutcome, stepOutcome}
-use Rattle.lookahead.specs.Rules.{Each}
 use Rattle.lookahead.specs.Given.{StartGives, StepGives}
 use Rattle.lookahead.proofs.Bounds.{compile-bounded}
 use Rattle.lookahead.proofs.Learned.{start-learns, step-learns}
-use Rattle.configurations.proofs.UnpackLaws.{unpacked}
 use Rattle.words.specs.Layout.{slots, startAt, stepAt, fullWord, stateWord}
-use Rattle.words.specs.Words.{word, held, keptWords, keptIn}
+use Rattle.words.specs.Words.{word, held, keptIn}
 use Rattle.cache.specs.Recording.{Learned, recordNew, recordOutcome, askStart, askStep}
 use Rattle.cache.specs.Predict.{Meaning, chosen, undecided, at, meaning, meaningOf, predictFrom, predict}
 use Rattle.cache.specs.Lessons.{Stores, Records, says-full, says-alternative, says-held, says-new, no-slot, Obtains, as-recorded, worked-out}
 use Rattle.cache.specs.Lessons.{ObtainsStart, ObtainsStep, NamesAlternative, NamesSlot, Pursues, names-one, says-none, no-token, steps, Foretells}
+use Rattle.cache.proofs.FieldLaws.{kept-packable}
 use Rattle.cache.proofs.FindLaws.{found}
 use Rattle.cache.proofs.RecordLaws.{putAt, byRoom, byFind, byWord, ask, start-ask, step-ask}
 use Rattle.cache.proofs.FollowLaws.{meaning-none, meaning-beyond, meaning-chosen, meaning-state, meaning-is, follow-unsure, follow-sure, follow-over}
@@ -60,11 +58,6 @@ obtains c a i Given o h = go (eqb (word c i) 0) refl
     go : (b : Bool) → eqb (word c i) 0 ≡ b → Obtains c a i Given ((byWord c i a o b) .said) ((byWord c i a o b) .words)
     go true e = worked-out (eqb-true (word c i) 0 e) h (records c a i o)
     go false e = as-recorded (eqb-false (word c i) 0 e)
-
--- what a slot of any words says
-pub kept-packable : (c : List ℕ) (s : ℕ) → Each Packable (keptIn c s)
-unfolding keptIn
-kept-packable c s = unpacked (keptWords c s)
 
 -- ---- what a word means, in facts
 data Meant (g : Grammar) (a w : ℕ) (c : List ℕ) : Meaning → Type 0 where

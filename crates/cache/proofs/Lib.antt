@@ -19,7 +19,6 @@ pub mod PredictorLaws
 pub mod LessonLaws
 pub mod LessonOne
 pub mod LessonGrowth
-pub mod RecordedLaws
 pub mod StateSteps
 pub mod AskSteps
 pub mod PredictSteps

@@ -66,6 +66,7 @@ module _ (g : Grammar) (bytes : List ℕ) (suits : Suits g bytes) {c : List ℕ}
     new-slot = record {
       decides = rw (new .its-decision) decides;
       counted = new .its-count ∙ ap length (sym its-kept);
+      some = rw its-kept (keep .some);
       few = rw its-kept (keep .few);
       packed = new .its-words ∙ ap packAll (sym its-kept);
       fitting = subst (Each Storable) (sym its-kept) (keep .fitting);
@@ -93,7 +94,7 @@ module _ (g : Grammar) (bytes : List ℕ) (suits : Suits g bytes) {c : List ℕ}
     new-said : {i b : ℕ} {o : Outcome} → Field g c i b o → word after i ≢ 0 → Says after b (word after i) o
     new-said {i} {b} {o} f n =
         let e = cells (field-cell g suits f) in
-        rw e (says-extends g grows b (word c i) o (field-says g k f (λ z. n (e ∙ z))))
+        rw e (says-extends g grows b (word c i) o (field-says g suits k f (λ z. n (e ∙ z))))
 
     growth : Growth g bytes c after
     growth = record {

@@ -57,7 +57,7 @@ module _ (g : Grammar) (bytes : List ℕ) (suits : Suits g bytes) {c : List ℕ}
       put-said {j} {b} {o′} f′ n = go (ℕ-discrete j i)
         where
           go : Dec (j ≡ i) → Says after b (word after j) o′
-          go (no m) = rw (put-other c cell w j m) (says-extends g put-grows b (word c j) o′ (field-says g k f′ (λ z. n (put-other c cell w j m ∙ z))))
+          go (no m) = rw (put-other c cell w j m) (says-extends g put-grows b (word c j) o′ (field-says g suits k f′ (λ z. n (put-other c cell w j m ∙ z))))
           go (yes e) =
               let q = field-one g suits f (subst (λ (y : ℕ). Field g c y b o′) e f′) in
               let p : a ≡ b = q .0 in

@@ -111,7 +111,7 @@ module _ (g : Grammar) (bytes : List ℕ) (suits : Suits g bytes) where
       where
         go : (b : Bool) → eqb (word c i) 0 ≡ b → Asked g bytes c a o (byWord c i a o b)
         go true e = record-asked o f (eqb-true (word c i) 0 e)
-        go false e = record { coherent = k; extends = extends-refl g c; says = inr (field-says g k f (eqb-false (word c i) 0 e)) }
+        go false e = record { coherent = k; extends = extends-refl g c; says = inr (field-says g suits k f (eqb-false (word c i) 0 e)) }
 
   pub ask-start : (c : List ℕ) (a : ℕ) → Coherent g bytes c → Decides g a → Asked g bytes c a (startOutcome g a) (askStart g c a)
   ask-start c a k d = rw (start-ask g c a) (asked k (startOutcome g a) (of-start d refl refl))

@@ -7,7 +7,7 @@ use Prim.Native.Nat.{ℕ, zero, suc, _+_, _-_, _*_, _≤_, _<_}
 use native.Mathlib.Numerals.{add-one}
 use native.Mathlib.Omega.{arith}
 use lib.Dec.{eqb}
-use lib.ListN.{length, set, take, drop, length-set, length-take, length-drop}
+use lib.ListN.{length, set, take, drop, length-set}
 use lib.Seq.{sets, length-sets}
 use borrow.Author.Tests.{lt-ltb, le-ltb, eq-eqb, ne-eqb}
 use Rattle.base.specs.Search.{lowestFrom}
@@ -22,14 +22,9 @@ use Rattle.cache.specs.Recording.{Learned, learned}
 use Rattle.cache.specs.inside.ByWords.{holdsWords, findWords, foundIn, addWords, sayWord, newWords, onFound, stateWords}
 use Rattle.cache.specs.declared.recording.Found.{Found}
 use Rattle.cache.specs.declared.recording.Found.the-variants.{Slot, Nowhere}
-use Rattle.words.proofs.WordLaws.{slot-within}
+use Rattle.words.proofs.WordLaws.{slot-within, kept-long}
 
 -- ---- one slot
-kept-long : (c : List ℕ) (s : ℕ) → s < slots (length c) → length (keptWords c s) ≡ configWords * keptCount c s
-unfolding keptWords keptCount
-kept-long c s h =
-    omega (arith, slot-within (length c) s h, length-take (configWords * keptCount c s) (drop (configsAt s) c), length-drop (configsAt s) c)
-
 lists-differ : (k l : List ℕ) → (length k ≡ length l → ⊥) → sameList k l ≡ false
 lists-differ k l h = go (sameList k l) refl
   where

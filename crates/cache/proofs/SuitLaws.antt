@@ -1,5 +1,6 @@
 -- What recording relies on in a grammar and its bytes; every grammar that is read from bytes has it.
 use mathlib.Core.Path.{_≡_, ap}
+use mathlib.Core.Logic.{_↔_}
 use mathlib.Core.List.{List}
 use Prim.Native.Nat.{ℕ, _+_, _≤_, _<_}
 use native.Mathlib.Omega.{arith}
@@ -12,10 +13,15 @@ use Rattle.grammar.proofs.ByteLaws.{decode-few}
 use Rattle.grammar.proofs.GrammarLaws.{no-alternatives}
 use Rattle.grammar.proofs.PlaceLaws.{length-startsAll}
 use Rattle.reader.proofs.ReadLaws.{decode-limited}
+use Rattle.lookahead.specs.Configs.{Config, Decides}
+use Rattle.lookahead.specs.Order.{Packable}
+use Rattle.lookahead.specs.Outcomes.{Outcome, startOutcome, stepOutcome}
+use Rattle.lookahead.specs.Rules.{Each}
+use Rattle.lookahead.specs.Given.{StartGives, StepGives}
 use Rattle.lookahead.proofs.Bounds.{Bounded, compile-bounded}
+use Rattle.lookahead.proofs.Learned.{start-learns, step-learns}
 use Rattle.words.specs.Layout.{fixedWords, bytesAt}
 use Rattle.words.specs.Begin.{packBytes}
-use Rattle.lookahead.specs.Configs.{Decides}
 use Rattle.words.proofs.SizeLaws.{packed-few}
 
 pub record Suits (g : Grammar) (bytes : List ℕ) : Type 0 where
@@ -23,6 +29,9 @@ pub record Suits (g : Grammar) (bytes : List ℕ) : Type 0 where
   pub kinds : g .kinds ≤ maxKinds
   pub decisions : (a : ℕ) → Decides g a → a < maxNonterminals
   pub packed : bytesAt + length (packBytes bytes) ≤ fixedWords
+  -- the computed outcomes are those that the rules give, and no others are
+  pub starts : (a : ℕ) (o : Outcome) → StartGives g a o ↔ (startOutcome g a ≡ o)
+  pub steps : (ks : List Config) → Each Packable ks → (t : ℕ) (o : Outcome) → StepGives g t ks o ↔ (stepOutcome g t ks ≡ o)
 
 pub compile-decisions : (r : Rules) → Limited r → (a : ℕ) → Decides (compile r) a → a < maxNonterminals
 unfolding compile
@@ -45,4 +54,6 @@ decode-suits s r m e =
       kinds = limits .kinds-most;
       decisions = compile-decisions r limits;
       packed = omega (arith, decode-few s r m e, packed-few s);
+      starts = start-learns r limits;
+      steps = step-learns r limits;
     }

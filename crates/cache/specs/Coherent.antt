@@ -1,29 +1,34 @@
 -- Coherent words: laid out as documented, no decision holds two equal states, and every recorded start and step is what the learning rules give.
--- These are the caches of demand 3, and what an audit has to decide.
+-- These are the caches of demand 3, and what an audit has to decide. No test is computed here, and no outcome: what the rules give is their relation.
 use mathlib.Core.Path.{_≡_}
 use mathlib.Core.Logic.{_⊎_, _≢_}
 use mathlib.Core.List.{List}
 use Prim.Native.Nat.{ℕ, _+_, _≤_, _<_}
-use lib.Dec.{T}
 use lib.ListN.{length}
 use Rattle.grammar.specs.Limits.{maxNonterminals, maxProductions, maxKinds}
-use Rattle.grammar.specs.Grammar.{Grammar, alternatives}
-use Rattle.lookahead.specs.Configs.{Config}
+use Rattle.grammar.specs.Grammar.{Grammar}
+use Rattle.lookahead.specs.Configs.{Config, Decides}
 use Rattle.lookahead.specs.Closing.{maxEntries, maxKept}
 use Rattle.lookahead.specs.Order.{pastEnd, Ascending, returnRadix}
-use Rattle.lookahead.specs.Outcomes.{Outcome, full, alternative, state, startOutcome, stepOutcome}
+use Rattle.lookahead.specs.Outcomes.{Outcome, full, alternative, state}
 use Rattle.lookahead.specs.Rules.{Each}
+use Rattle.lookahead.specs.Given.{StartGives, StepGives}
 use Rattle.words.specs.Layout.{minWords, fixedWords, slots, heldAt, startAt, bytesAt, slotAt, countAt, stepAt, configsAt, fullWord, stateWord}
 use Rattle.configurations.specs.Packing.{packAll}
 use Rattle.words.specs.Words.{word, held, startOf, stepOf, decision, keptWords, keptIn}
-use Rattle.lookahead.specs.Configs.{Decides}
-use Rattle.words.specs.Begin.{packBytes, begun?}
+use Rattle.words.specs.Begin.{packBytes, BegunFor}
 
 -- the word w says the outcome o of decision a
 abbrev pub Says : List ℕ → ℕ → ℕ → Outcome → Type 0
 Says c a w full = w ≡ fullWord
 Says c a w (alternative b) = (w ≡ b) × (1 ≤ b) × (b ≤ maxProductions)
 Says c a w (state ks) = (s : ℕ) × (w ≡ stateWord s) × (s < held c) × (decision c s ≡ a) × (keptWords c s ≡ packAll ks)
+
+-- the word w says an outcome of decision a that is given
+pub record SaysGiven (c : List ℕ) (a w : ℕ) (Given : Outcome → Type 0) : Type 0 where
+  pub outcome : Outcome
+  pub given : Given outcome
+  pub says : Says c a w outcome
 
 -- a configuration that three words hold
 pub record Storable (k : Config) : Type 0 where
@@ -37,6 +42,7 @@ pub record Storable (k : Config) : Type 0 where
 pub record Slot (g : Grammar) (c : List ℕ) (s : ℕ) : Type 0 where
   pub decides : Decides g (decision c s)
   pub counted : word c (countAt s) ≡ length (keptIn c s)
+  pub some : 1 ≤ length (keptIn c s)
   pub few : length (keptIn c s) ≤ maxKept
   pub packed : keptWords c s ≡ packAll (keptIn c s)
   pub fitting : Each Storable (keptIn c s)
@@ -55,15 +61,15 @@ pub data Used (g : Grammar) (bytes c : List ℕ) (i : ℕ) : Type 0 where
 pub record Coherent (g : Grammar) (bytes c : List ℕ) : Type 0 where
   -- the layout
   pub long : minWords ≤ length c
-  pub begun-for : T (begun? bytes c)
+  pub begun-for : BegunFor bytes c
   pub held-fits : held c ≤ slots (length c)
   pub slot : (s : ℕ) → s < held c → Slot g c s
   pub unused : (i : ℕ) → ¬ Used g bytes c i → word c i ≡ 0
   -- no decision holds two equal states
   pub single : (s s′ : ℕ) → s < held c → s′ < held c → decision c s ≡ decision c s′ → keptWords c s ≡ keptWords c s′ → s ≡ s′
-  -- every recorded start and step is what the learning rules give
-  pub started : (a : ℕ) → Decides g a → startOf c a ≢ 0 → Says c a (startOf c a) (startOutcome g a)
-  pub stepped : (s t : ℕ) → s < held c → t ≤ g .kinds → stepOf c s t ≢ 0 → Says c (decision c s) (stepOf c s t) (stepOutcome g t (keptIn c s))
+  -- every recorded start and step says an outcome that the learning rules give
+  pub started : (a : ℕ) → Decides g a → startOf c a ≢ 0 → SaysGiven c a (startOf c a) (StartGives g a)
+  pub stepped : (s t : ℕ) → s < held c → t ≤ g .kinds → stepOf c s t ≢ 0 → SaysGiven c (decision c s) (stepOf c s t) (StepGives g t (keptIn c s))
 
 -- words only grow: what was recorded stays as it was
 pub record Extends (g : Grammar) (c c′ : List ℕ) : Type 0 where

@@ -37,7 +37,13 @@ pub fn ask_start(tables: &[u16], cache: &mut [u32], a: usize) -> u32
 }
 
 // The outcome of the step of slot s over token t, worked out.
-fn step_outcome(tables: &[u16], cache: &[u32], s: usize, t: usize, members: &mut [u32]) -> Outcome
+pub fn step_outcome(
+    tables: &[u16],
+    cache: &[u32],
+    s: usize,
+    t: usize,
+    members: &mut [u32],
+) -> Outcome
     requires { ⌜ Steppable (now tables) (now cache) s t × (length (now members) ≡ memberWords) ⌝ }
     ensures { λ r. ⌜ Tells r (now (members .exit)) (stepOutcome (grammarIn (now (tables .entry))) t (keptIn (now (cache .entry)) s)) ⌝ }
 {

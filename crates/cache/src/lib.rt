@@ -5,9 +5,11 @@ mod recording;
 
 pub use asking::ask_start;
 pub use asking::ask_step;
+pub use asking::step_outcome;
 pub use prediction::Forecast;
 pub use prediction::Prediction;
 pub use prediction::predict;
+pub use recording::holds;
 pub use words::Beginning;
 pub use words::MIN_WORDS;
 pub use words::begin;

@@ -22,7 +22,7 @@ pub enum Found {
 }
 
 // Whether slot s holds the n configurations of ws for decision a.
-fn holds(cache: &[u32], a: usize, ws: &[u32], n: usize, s: usize) -> bool
+pub fn holds(cache: &[u32], a: usize, ws: &[u32], n: usize, s: usize) -> bool
     requires { ⌜ (s < slots (length (now cache))) × KeptConfigs n (now ws) ⌝ }
     ensures { λ r. ⌜ r ≡ holdsWords (now (cache .entry)) a (take (configWords * n) (now (ws .entry))) s ⌝ }
 {

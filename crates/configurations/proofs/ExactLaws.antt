@@ -72,7 +72,7 @@ module _ (c : Packed) where
   entries-are = length-digits (c .head / (placeRadix * alternativeRadix) % entriesRadix) (c .stack)
 
   -- the stack's digits that are used
-  used : stackKey (configOf c .stack) ≡ c .stack % 2 ^ (returnBits * (c .head / (placeRadix * alternativeRadix) % entriesRadix))
+  pub used : stackKey (configOf c .stack) ≡ c .stack % 2 ^ (returnBits * (c .head / (placeRadix * alternativeRadix) % entriesRadix))
   unfolding configOf unpack
   used = key-digits (c .head / (placeRadix * alternativeRadix) % entriesRadix) (c .stack)
 

@@ -3,6 +3,7 @@ pub mod PackLaws
 pub mod UnpackLaws
 pub mod WordLaws
 pub mod ExactLaws
+pub mod FitLaws
 pub mod CompareLaws
 pub mod HeldLaws
 pub mod SearchLaws

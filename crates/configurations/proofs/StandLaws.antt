@@ -15,7 +15,7 @@ abbrev pub Words : List ℕ → Type 0
 Words ws = (i : ℕ) → getD ws i 0 < wordRadix
 
 -- the words of one
-pack-at : (ws : List ℕ) (k : ℕ) → Words ws → Exact (packedAt ws k) → pack (configAt ws k)
+pub pack-at : (ws : List ℕ) (k : ℕ) → Words ws → Exact (packedAt ws k) → pack (configAt ws k)
     ≡ getD ws (configWords * k) 0 ∷ getD ws (configWords * k + 1) 0 ∷ getD ws (configWords * k + 2) 0 ∷ []
 unfolding pack configAt packedAt
 pack-at ws k small e =

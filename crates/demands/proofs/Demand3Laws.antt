@@ -2,25 +2,20 @@
 use mathlib.Core.Path.{_≡_, refl, sym, subst, ap, _∙_}
 use mathlib.Core.List.{List, [], _∷_}
 use Prim.Native.Nat.{ℕ}
-use lib.ListN.{length}
 use Rattle.grammar.specs.Decode.{Rules, Mark, got, decode}
 use Rattle.grammar.specs.Grammar.{Grammar, compile}
 use Rattle.reader.proofs.ReadLaws.{decode-limited}
 use Rattle.soundness.specs.declared.judgement.Verdict.the-variants.{Sound}
 use Rattle.soundness.specs.Check.{checkOf}
-use Rattle.soundness.proofs.VerdictLaws.{zero-sound}
 use Rattle.derivation.specs.Plain.{Answer, answer}
-use Rattle.words.specs.Begin.{Begun, BeginDid, beginWords}
-use Rattle.words.proofs.BeginMeans.{begins}
 use Rattle.cache.specs.Coherent.{Coherent}
-use Rattle.cache.proofs.SuitLaws.{decode-suits}
-use Rattle.cache.proofs.BeginLaws.{begun-coherent}
 use Rattle.adaptive.specs.Quick.{Reply}
 use Rattle.adaptive.specs.Calls.{Call, quick, inTurn, lastWords}
 use Rattle.adaptive.specs.Teaching.{Teaches, TeachesAll}
 use Rattle.adaptive.specs.inside.Agreement.{AllAgree}
 use Rattle.adaptive.proofs.TeachLaws.{teaches-one}
 use Rattle.adaptive.proofs.AgreementLaws.{agreement}
+use Rattle.demands.proofs.AuditLaws.{Yes, yes-means, begun-yes}
 use Rattle.demands.specs.Demand3.{Both, BothDid, Session, lastCache, calls, ReadBefore, AllSame, Throughout, Demand3}
 
 -- ---- the calls, from what the definitions do
@@ -74,18 +69,13 @@ throughout s r m q v c h xs d =
     alone : (c d e : List ℕ) (k : Call) → Teaches (compile r) c k d → Teaches (compile r) c k e → d ≡ e
     alone c d e k t u = teaches-one r (decode-limited s r m q) t u
 
--- ---- and so from those that a beginning left
-begun-throughout : (s c₀ : List ℕ) (place : ℕ) (c : List ℕ) → BeginDid s c₀ 0 place c
+-- ---- and so from those that got a yes, and from those that a beginning left
+yes-throughout : (s c : List ℕ) → Yes s c
     → (r : Rules) × (m : Mark) × (decode s ≡ got r m) × ((xs : List Both) → Session s c xs → Throughout (compile r) c xs)
-begun-throughout s c₀ place c d =
-    let x = begins s c₀ (sym (ap (λ (k : Begun). k .number) d)) in
-    let w : c ≡ beginWords s (length c₀) = ap (λ (k : Begun). k .words) d ∙ x .words in
-    let h = begun-coherent (compile (x .rules)) s (decode-suits s (x .rules) (x .mark) (x .decoded)) (length c₀) (x .long) in
-    let h′ : Coherent (compile (x .rules)) s c = subst (λ (k : List ℕ). Coherent (compile (x .rules)) s k) (sym w) h in
-    (x .rules, x .mark, x .decoded, throughout s (x .rules) (x .mark) (x .decoded) (x .sound) c h′)
+yes-throughout s c y = (y .rules, y .mark, y .decoded, throughout s (y .rules) (y .mark) (y .decoded) (y .sound) c (y .words))
 
 pub demand3 : Demand3
 demand3 = record {
-  begun = begun-throughout;
-  coherent = λ s r m e place v c h xs d. throughout s r m e (zero-sound s place v) c h xs d;
+  audited = λ s c place a. yes-throughout s c (yes-means s c place a);
+  begun = λ s c₀ place c d. yes-throughout s c (begun-yes s c₀ place c d);
 }

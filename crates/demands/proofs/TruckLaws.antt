@@ -8,12 +8,11 @@ use native.Mathlib.Omega.{arith}
 use lib.Dec.{eqb}
 use lib.ListN.{length}
 use borrow.Author.Tests.{eqb-true, eqb-false}
-use Rattle.base.proofs.Booleans.{clash, true→T}
+use Rattle.base.proofs.Booleans.{true→T}
 use Rattle.number.specs.Refusals.{refusalNumber, refusalPlace}
 use Rattle.grammar.specs.Grammar.{Grammar, compile}
 use Rattle.soundness.specs.declared.judgement.Verdict.the-variants.{Sound}
 use Rattle.soundness.specs.Check.{checkOf, CheckDid}
-use Rattle.soundness.proofs.VerdictLaws.{zero-sound}
 use Rattle.derivation.specs.Gate.{Gate, atGate}
 use Rattle.derivation.specs.Plain.{Answer, answer}
 use Rattle.derivation.proofs.GateLaws.{Checked, refuses, sound, sound-gate, refusal-early}
@@ -22,6 +21,7 @@ use Rattle.adaptive.specs.Calls.{Call, quick, inTurn, lastWords}
 use Rattle.batch.specs.Batches.{Batched, batched, callsOf, answersOf, rowsOf, told, readOf, readAll, Fits, fits?, from18, batchReading}
 use Rattle.batch.specs.Contract.{BatchDid}
 use Rattle.batch.proofs.FitLaws.{fits-means, part-is, fits-pass, fits-fails, none-fits}
+use Rattle.demands.proofs.CheckedLaws.{shut-is, open-is}
 use Rattle.demands.specs.Demand3.{Both, Session, calls, lastCache, AllSame}
 use Rattle.demands.specs.Trucks.{Singly, none, next, Batches, refused, bad, read, AllPlainly, Truck, unloaded, TruckDid, Load, note, truck, Worked}
 use Rattle.demands.specs.Trucks.{WasRead, quickAnswers, plainAnswers, IsMadeOf, MadeOf, one, many, no-one, Trucks}
@@ -77,23 +77,13 @@ module _ (bytes tokens lengths answers row : List ℕ) (space : ℕ) (cache : Li
       go (refuses r e) = refused (refusalNumber r) (refusalPlace r) (rw e, rw e) (λ z. let h = refusal-early r .0 .some in omega arith)
       go (sound r m d v) = fitting v (fits? tokens lengths answers row) refl
 
-  -- 1 to 7 are answered as the check answers them
   refused-is : (n p : ℕ) → CheckDid bytes n p → ¬ (n ≡ 0) → batched n p answers row cache ≡ whole
   unfolding batchReading
-  refused-is n p (a, b) z = go (sound-gate bytes)
-    where
-      go : {x : Gate} → Checked bytes x → batched n p answers row cache ≡ behind x
-      go (refuses r e) = rw (a, b, e)
-      go (sound r m d v) = absurd (z (rw v at a))
+  refused-is n p k z = shut-is bytes (λ n p. batched n p answers row cache) (λ g. onward) n p k z
 
-  -- sound bytes pass
   past-sound : (p : ℕ) → CheckDid bytes 0 p → onward ≡ whole
   unfolding batchReading
-  past-sound p c = go (zero-sound bytes p c) (sound-gate bytes)
-    where
-      go : checkOf bytes ≡ Sound → {x : Gate} → Checked bytes x → onward ≡ behind x
-      go v (refuses r e) = clash (cc)
-      go v (sound r m d w) = refl
+  past-sound p k = open-is bytes (λ n p. batched n p answers row cache) (λ g. onward) p k .3
 
   -- AND NO OTHER
   only : {x : Batched} → Is x → x ≡ whole
@@ -174,7 +164,7 @@ session-append bytes [] ys c d e = e
 session-append bytes (x ∷ xs) ys c (d, ds) e = (d, session-append bytes xs ys (x .cache) ds e)
 
 -- a list that did what its contracts say is made of readings that did
-made : (bytes : List ℕ) (ls : List Load) (c : List ℕ) → Worked bytes c ls → (xs : List Both) × MadeOf c ls xs × Session bytes c xs
+pub made : (bytes : List ℕ) (ls : List Load) (c : List ℕ) → Worked bytes c ls → (xs : List Both) × MadeOf c ls xs × Session bytes c xs
 made bytes [] c w = ([], MadeOf.none, tt)
 made bytes (note x ∷ ls) c (d, w) = let (xs, m, s) = made bytes ls (x .cache) w in (x ∷ xs, one m, (d, s))
 made bytes (truck t ∷ ls) c (d, w) = let (xs, m, s) = made bytes ls (t .cache) w in go (eqb (t .number) 0) refl xs m s
@@ -203,12 +193,15 @@ same-answers g (x ∷ xs) c earlier (h, hs) =
 pub trucks : Trucks
 trucks = record {
   singly = batch-iff;
+  audited = λ bytes c place a.
+      let (r, m, e, h) = demand3 .audited bytes c place a in
+      (r, m, e, λ ls w. let (xs, k, s) = made bytes ls c w in (xs, k, s, h xs s));
   begun = λ bytes c₀ place c d.
       let (r, m, e, h) = demand3 .begun bytes c₀ place c d in
       (r, m, e, λ ls w. let (xs, k, s) = made bytes ls c w in (xs, k, s, h xs s));
-  coherent = λ bytes r m e place v c h ls w. let (xs, k, s) = made bytes ls c w in (xs, k, s, demand3 .coherent bytes r m e place v c h xs s);
-  as-plain = λ bytes r m e place v c h t d u.
+  as-plain = λ bytes c place a t d u.
       let (ys, i, s) = unloads bytes c t d u in
-      let z = same-answers (compile r) ys c [] (demand3 .coherent bytes r m e place v c h ys s .each) ∙ sym (i .plainly) in
+      let (r, m, e, h) = demand3 .audited bytes c place a in
+      let z = same-answers (compile r) ys c [] (h ys s .each) ∙ sym (i .plainly) in
       record { answers = i .answers ∙ ap answersOf z; rows = i .rows ∙ ap rowsOf z };
 }

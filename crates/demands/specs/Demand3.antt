@@ -9,16 +9,15 @@ use Prim.Native.Nat.{ℕ, _≤_}
 use lib.ListN.{length}
 use Rattle.grammar.specs.Decode.{Rules, Mark, got, decode}
 use Rattle.grammar.specs.Grammar.{Grammar, compile}
-use Rattle.soundness.specs.Check.{CheckDid}
 use Rattle.derivation.specs.Space.{spaceWords}
 use Rattle.derivation.specs.Plain.{Answer}
 use Rattle.lookahead.specs.Configs.{In}
 use Rattle.words.specs.Begin.{BeginDid}
-use Rattle.cache.specs.Coherent.{Coherent}
 use Rattle.adaptive.specs.Calls.{Call}
 use Rattle.adaptive.specs.Teaching.{Teaches, TeachesAll}
 use Rattle.plain.specs.Contract.{PlainDid}
 use Rattle.quick.specs.Contract.{QuickDid}
+use Rattle.audit.specs.Contract.{AuditDid}
 
 -- ---- a list of readings
 -- a quick call, and a plain call with the same note, an equal row and as much working space: what both were lent, and what each answered and left
@@ -78,9 +77,9 @@ pub record Throughout (g : Grammar) (cache : List ℕ) (xs : List Both) : Type 0
 
 -- ---- DEMAND 3
 pub record Demand3 : Type 0 where
-  -- over a cache that an accepted beginning has left
+  -- over words that got a yes of the audit, for that grammar and at that length, whoever wrote them
+  pub audited : (bytes cache : List ℕ) (place : ℕ) → AuditDid bytes cache 0 place
+      → (r : Rules) × (m : Mark) × (decode bytes ≡ got r m) × ((xs : List Both) → Session bytes cache xs → Throughout (compile r) cache xs)
+  -- and so over a cache that an accepted beginning has left, which always gets one (`Delivered`)
   pub begun : (bytes cache₀ : List ℕ) (place : ℕ) (cache : List ℕ) → BeginDid bytes cache₀ 0 place cache
       → (r : Rules) × (m : Mark) × (decode bytes ≡ got r m) × ((xs : List Both) → Session bytes cache xs → Throughout (compile r) cache xs)
-  -- and so over coherent words of any cache, of which that is one
-  pub coherent : (bytes : List ℕ) (r : Rules) (m : Mark) → decode bytes ≡ got r m → (place : ℕ) → CheckDid bytes 0 place → (cache : List ℕ)
-      → Coherent (compile r) bytes cache → (xs : List Both) → Session bytes cache xs → Throughout (compile r) cache xs

@@ -9,13 +9,13 @@ use Rattle.grammar.specs.Grammar.{Grammar, compile}
 use Rattle.soundness.specs.Check.{CheckDid}
 use Rattle.derivation.specs.Plain.{Answer}
 use Rattle.words.specs.Begin.{BeginDid}
-use Rattle.cache.specs.Coherent.{Coherent}
 use Rattle.adaptive.specs.Quick.{Reply}
 use Rattle.adaptive.specs.Calls.{Call}
 use Rattle.plain.specs.Contract.{PlainDid}
 use Rattle.quick.specs.Contract.{QuickDid}
 use Rattle.batch.specs.Batches.{callsOf, answersOf, rowsOf, Batched, batched, readOf, Fits}
 use Rattle.batch.specs.Contract.{BatchDid}
+use Rattle.audit.specs.Contract.{AuditDid}
 use Rattle.demands.specs.Demand3.{Both, BothDid, Session, calls, lastCache, Throughout}
 
 -- ---- a batch
@@ -129,12 +129,11 @@ pub record Trucks : Type 0 where
   pub singly : (bytes tokens lengths answers row : List ℕ) (space : ℕ) (cache : List ℕ) (number place : ℕ) (answers′ row′ cache′ : List ℕ)
       → BatchDid bytes tokens lengths answers row space cache number place answers′ row′ cache′
       ↔ Batches bytes tokens lengths answers row space cache (batched number place answers′ row′ cache′)
-  -- demand 3, batches in the list, over a cache that an accepted beginning has left
+  -- demand 3, batches in the list, over words that got a yes of the audit
+  pub audited : (bytes cache : List ℕ) (place : ℕ) → AuditDid bytes cache 0 place
+      → (r : Rules) × (m : Mark) × (decode bytes ≡ got r m) × ((ls : List Load) → Worked bytes cache ls → ThroughoutLoads bytes (compile r) cache ls)
+  -- and so over a cache that an accepted beginning has left
   pub begun : (bytes cache₀ : List ℕ) (place : ℕ) (cache : List ℕ) → BeginDid bytes cache₀ 0 place cache
       → (r : Rules) × (m : Mark) × (decode bytes ≡ got r m) × ((ls : List Load) → Worked bytes cache ls → ThroughoutLoads bytes (compile r) cache ls)
-  -- and over coherent words of any cache
-  pub coherent : (bytes : List ℕ) (r : Rules) (m : Mark) → decode bytes ≡ got r m → (place : ℕ) → CheckDid bytes 0 place → (cache : List ℕ)
-      → Coherent (compile r) bytes cache → (ls : List Load) → Worked bytes cache ls → ThroughoutLoads bytes (compile r) cache ls
-  -- so a batch over such a cache answers as plain calls do
-  pub as-plain : (bytes : List ℕ) (r : Rules) (m : Mark) → decode bytes ≡ got r m → (place : ℕ) → CheckDid bytes 0 place → (cache : List ℕ)
-      → Coherent (compile r) bytes cache → (t : Truck) → TruckDid bytes cache t → WasRead t → AsPlain t
+  -- so a batch over words that got a yes answers as plain calls do
+  pub as-plain : (bytes cache : List ℕ) (place : ℕ) → AuditDid bytes cache 0 place → (t : Truck) → TruckDid bytes cache t → WasRead t → AsPlain t

@@ -82,7 +82,7 @@ pub fn over(
 
 // Reads a note over a cache that was begun for the grammar: number, place, count and row are those of the plain reading, and the cache learns. The row then
 // holds the derivation and zeros behind it; after 10 and 14 it is all zeros, and the cache keeps what it learned; after any other refusal both are as they
-// were. A cache with other words than begin and this call left may make the answer wrong, and nothing else.
+// were. Words that begin and this call did not leave, and that got no yes of an audit, may make the answer wrong, and nothing else.
 pub fn quick(
     grammar: &[u8],
     note: &[u16],

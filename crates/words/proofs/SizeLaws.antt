@@ -2,7 +2,7 @@
 use mathlib.Core.Path.{_≡_, refl, sym, _∙_}
 use mathlib.Core.Bool.{false, _&&_}
 use mathlib.Core.List.{List, [], _∷_, _++_, append-nil}
-use Prim.Native.Nat.{ℕ, _/_, _%_, _^_, _≤_, _<_}
+use Prim.Native.Nat.{ℕ, _+_, _/_, _%_, _^_, _≤_, _<_}
 use native.Mathlib.Omega.{arith}
 use lib.Dec.{eqb}
 use lib.ListN.{length, getD, take, drop, replicate}
@@ -72,3 +72,12 @@ packed-few (a ∷ []) = omega arith
 packed-few (a ∷ b ∷ []) = omega arith
 packed-few (a ∷ b ∷ c ∷ []) = omega arith
 packed-few (a ∷ b ∷ c ∷ d ∷ l) = let h = packed-few l in omega arith
+
+-- a word for every four bytes that have begun
+pub packed-length : (s : List ℕ) → length (packBytes s) ≡ (length s + 3) / 4
+unfolding packBytes
+packed-length [] = omega arith
+packed-length (a ∷ []) = omega arith
+packed-length (a ∷ b ∷ []) = omega arith
+packed-length (a ∷ b ∷ c ∷ []) = omega arith
+packed-length (a ∷ b ∷ c ∷ d ∷ l) = let h = packed-length l in omega arith

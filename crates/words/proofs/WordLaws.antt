@@ -67,6 +67,12 @@ pub slot-within : (l s : ℕ) → s < slots l → slotAt s + slotWords ≤ l
 unfolding slots
 slot-within l s h = omega arith
 
+-- a slot within the words has all the words of its configurations
+pub kept-long : (c : List ℕ) (s : ℕ) → s < slots (length c) → length (keptWords c s) ≡ configWords * keptCount c s
+unfolding keptWords keptCount
+kept-long c s h =
+    omega (arith, slot-within (length c) s h, length-take (configWords * keptCount c s) (drop (configsAt s) c), length-drop (configsAt s) c)
+
 -- ---- a new state
 -- what the words are after a state took the next slot
 pub record Added (c : List ℕ) (a : ℕ) (ks : List Config) (c′ : List ℕ) : Type 0 where

@@ -34,6 +34,11 @@ begun? bytes c =
     let same = sameList (take (length (packBytes bytes)) (drop bytesAt c)) (packBytes bytes) in
     sameList (take 3 (drop lengthAt c)) (sizeWords (length bytes) (length c)) && same
 
+-- the same with no test: the words of the sizes and of the bytes are these
+pub record BegunFor (bytes c : List ℕ) : Type 0 where
+  pub sizes : take 3 (drop lengthAt c) ≡ sizeWords (length bytes) (length c)
+  pub grammar : take (length (packBytes bytes)) (drop bytesAt c) ≡ packBytes bytes
+
 -- what beginning answers, and the words that it leaves
 pub record Begun : Type 0 where
   pub number : ℕ

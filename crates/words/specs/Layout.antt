@@ -1,5 +1,5 @@
 -- The layout of a cache of L words (the scope leaves it to us). All that is not named here is 0.
---   0              always 0, and looked at by nobody
+--   0              always 0, and looked at by the audit alone
 --   1, 2           L, its low and its high 32 bits
 --   3              how many grammar bytes there are
 --   4              how many states are held

@@ -11,6 +11,17 @@ pub fn cache_words(slots: usize) -> usize {
     2_048 + 320 * slots
 }
 
+/// Audits words for a grammar, whoever wrote them: whether readings over them may be trusted. Nothing is written,
+/// and nothing kept; [`Cache::audited`] takes them up as well.
+pub fn audit(grammar: &Grammar, words: &[u32]) -> Result<(), CacheRefusal> {
+    let verdict = calls::audit(grammar.bytes(), words);
+    match Refusal::new(verdict.number, verdict.place) {
+        None => Ok(()),
+        Some(Refusal::Cache(refusal)) => Err(refusal),
+        Some(other) => unreachable!("an audit answered {other:?}"),
+    }
+}
+
 /// A cache for one grammar, which it keeps. Readings over it give the same answers as without, and go faster
 /// the more it has learned.
 #[derive(Clone, Debug)]
@@ -38,7 +49,7 @@ impl Cache {
     /// Takes a cache up again from words that [`words`](Cache::words) gave, in this process or an earlier
     /// one. It is only seen whether they were begun for this grammar at this length. If any other word has
     /// changed since, answers can be wrong, and nothing else: whoever stores words takes care that they come
-    /// back whole.
+    /// back whole, or takes them up by [`audited`](Cache::audited).
     pub fn from_words(grammar: &Grammar, mut words: Vec<u32>) -> Result<Cache, CacheRefusal> {
         // With no row a reading predicts nothing, so that the cache stays as it is.
         let mut space = vec![0; workspace_words(grammar.places(), 0)];
@@ -50,6 +61,36 @@ impl Cache {
                 words,
             }),
         }
+    }
+
+    /// Takes up words that another program wrote, or that may not have come back whole: they are audited. After
+    /// that, readings over the cache answer as without one, whoever wrote the words.
+    ///
+    /// ```
+    /// use allstar::{Cache, CacheRefusal, Grammar, Refusal, Workspace};
+    ///
+    /// let grammar = Grammar::new([2, 2, 2, 1, 3, 2, 3, 4, 2, 1, 2, 2, 2, 4])?;
+    /// let mut cache = Cache::new(&grammar, 6)?;
+    /// cache.read(&[1, 2], &mut Workspace::new())?;
+    /// let mut words = cache.words().to_vec();
+    /// assert!(Cache::audited(&grammar, words.clone()).is_ok());
+    /// // The step of state 2 over the end mark is recorded as alternative 1, and the rules give FULL.
+    /// words[2690] = 1;
+    /// assert_eq!(Cache::audited(&grammar, words).unwrap_err(), CacheRefusal::NotCoherent);
+    /// # Ok::<(), Refusal>(())
+    /// ```
+    pub fn audited(grammar: &Grammar, words: Vec<u32>) -> Result<Cache, CacheRefusal> {
+        audit(grammar, &words)?;
+        Ok(Cache {
+            grammar: grammar.clone(),
+            words,
+        })
+    }
+
+    /// Audits the words: a yes, always, unless the cache was taken up by [`from_words`](Cache::from_words) from
+    /// words that were not as some cache had left them.
+    pub fn audit(&self) -> Result<(), CacheRefusal> {
+        audit(&self.grammar, &self.words)
     }
 
     /// The words, to be stored.

@@ -7,7 +7,7 @@
 use crate::ffi;
 use std::fmt;
 
-/// What [`check`], [`begin`] and [`batch`] answer.
+/// What [`check`], [`begin`], [`batch`] and [`audit`] answer.
 #[derive(Clone, Copy, Debug, PartialEq, Eq)]
 pub struct Verdict {
     /// 0, or the number of the refusal.
@@ -242,6 +242,30 @@ pub fn batch_at(
             place,
         )
     }
+}
+
+/// Audits a cache for a grammar: 0 for a yes, 19 for a no. Nothing is written.
+#[inline]
+pub fn audit(grammar: &[u8], cache: &[u32]) -> Verdict {
+    audit_over(grammar, cache, NONE)
+}
+
+/// [`audit`], the place being stored over `garbage`: no answer hangs on what stood there.
+#[inline]
+pub fn audit_over(grammar: &[u8], cache: &[u32], garbage: u64) -> Verdict {
+    let mut place = garbage;
+    // SAFETY: grammar and cache are valid for reads of that many elements (an empty slice has a non-null,
+    // dangling pointer), `place` is valid for a write and overlaps neither, and the library keeps none.
+    let number = unsafe {
+        ffi::allstar_audit(
+            grammar.as_ptr(),
+            grammar.len(),
+            cache.as_ptr(),
+            cache.len(),
+            &mut place,
+        )
+    };
+    Verdict { number, place }
 }
 
 /// Makes a note of a typed line: writes the kinds of its words, numbers and marks to `tokens`. The words of the

@@ -69,6 +69,14 @@ extern "C" {
         place: *mut u64,
     ) -> u32;
 
+    pub fn allstar_audit(
+        grammar: *const u8,
+        grammar_length: usize,
+        cache: *const u32,
+        cache_length: usize,
+        place: *mut u64,
+    ) -> u32;
+
     pub fn allstar_split(
         line: *const u8,
         line_length: usize,

@@ -18,7 +18,8 @@
 //!
 //! A [`Grammar`] is checked bytes. A [`Cache`] belongs to a grammar and learns, and reads one note or many;
 //! [`Grammar::read`] does without one. A [`Workspace`] is what readings work in; it sizes itself. A [`Reading`]
-//! has the derivation, as a row of alternatives and as a tree. A [`WordList`] makes notes of typed lines.
+//! has the derivation, as a row of alternatives and as a tree. A [`WordList`] makes notes of typed lines. Words
+//! of a cache that another program wrote are trusted after an [`audit`].
 //! Refusals are enums with a case for each, and errors. [`calls`] has the calls of the library as they are, for
 //! whoever wants to lend his own memory.
 //!
@@ -37,7 +38,7 @@ mod refusal;
 mod word_list;
 mod workspace;
 
-pub use cache::{cache_words, Cache};
+pub use cache::{audit, cache_words, Cache};
 pub use grammar::{Grammar, Symbol};
 pub use reading::{Node, Reading};
 pub use refusal::{CacheRefusal, GrammarRefusal, LineRefusal, NoteRefusal, Refusal};

@@ -1,4 +1,4 @@
-//! Why something is refused: the numbers 1 to 18 of the library, with their places.
+//! Why something is refused: the numbers 1 to 19 of the library, with their places.
 
 use std::error::Error;
 use std::fmt;
@@ -70,6 +70,9 @@ pub enum CacheRefusal {
     ShortCache,
     /// 13: the words were not begun for this grammar at this length.
     ForeignCache,
+    /// 19: the words are laid out otherwise than they must be, a decision holds two equal states, or something
+    /// is recorded that the learning rules do not give. Only an [audit](crate::Cache::audited) says so.
+    NotCoherent,
 }
 
 /// Why a typed line, or the list lent with it, is refused. Bytes count from 0.
@@ -95,7 +98,7 @@ pub enum Refusal {
     Note(NoteRefusal),
     /// 11: the working space is too short. [`Workspace`](crate::Workspace) never is.
     ShortWorkspace,
-    /// 12 and 13: of a cache.
+    /// 12, 13 and 19: of a cache.
     Cache(CacheRefusal),
     /// 15 to 17: of a typed line.
     Line(LineRefusal),
@@ -128,11 +131,12 @@ impl Refusal {
             16 => LineRefusal::ForeignByte { byte: at }.into(),
             17 => LineRefusal::BadList.into(),
             18 => Refusal::BadBatch,
+            19 => CacheRefusal::NotCoherent.into(),
             _ => return None,
         })
     }
 
-    /// The library's number, 1 to 18.
+    /// The library's number, 1 to 19.
     pub fn number(self) -> u32 {
         self.parts().0
     }
@@ -169,6 +173,7 @@ impl Refusal {
             Refusal::Cache(it) => match it {
                 ShortCache => (12, 0, "the cache is too short"),
                 ForeignCache => (13, 0, "the cache was not begun for this grammar at this length"),
+                NotCoherent => (19, 0, "the words of the cache are not coherent"),
             },
             Refusal::Line(it) => match it {
                 LongLine => (15, 0, "the line has more than 512 bytes"),

@@ -1,14 +1,16 @@
 -- Packed configurations in the code: which configuration one is, and how it lies in a row of words.
 use mathlib.Core.Path.{_≡_}
+use mathlib.Core.Bool.{Bool, _&&_}
 use mathlib.Core.List.{List, _∷_}
 use Prim.Native.Nat.{ℕ, suc, _+_, _*_, _/_, _%_, _≤_, _<_}
+use lib.Dec.{eqb}
 use lib.ListN.{length, getD, set}
 use Rattle.grammar.specs.Limits.{endPlace}
 use Rattle.lookahead.specs.Configs.{Config}
 use Rattle.lookahead.specs.Closing.{maxMembers, maxEntries}
 use Rattle.lookahead.specs.Order.{stackKey, headKey}
 use Rattle.configurations.specs.declared.config.Packed.{Packed}
-use Rattle.configurations.specs.Packing.{configWords, unpack, wordRadix}
+use Rattle.configurations.specs.Packing.{configWords, unpack, storable?, wordRadix}
 
 -- ---- one configuration
 -- the bits of a return place in a stack
@@ -25,6 +27,14 @@ pub record Exact (c : Packed) : Type 0 where
   pub head : headKey (configOf c) ≡ c .head
   pub stack : stackKey (configOf c .stack) ≡ c .stack
   pub shallow : length (configOf c .stack) ≤ maxEntries
+
+-- its numbers are in range, and it has no digit too many
+unfoldable pub fits? : Packed → Bool
+unfolding configOf headKey stackKey storable?
+fits? c =
+    let k = configOf c in
+    let stack = eqb (stackKey (k .stack)) (c .stack) in
+    eqb (headKey k) (c .head) && (storable? k && stack)
 
 -- c is exactly configuration d
 pub record Packs (c : Packed) (d : Config) : Type 0 where

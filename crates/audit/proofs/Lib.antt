@@ -1,0 +1,2 @@
+-- Laws on the audit's answers.
+pub mod AuditLaws

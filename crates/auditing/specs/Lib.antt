@@ -1,0 +1,3 @@
+-- Which words of a cache are coherent, as a test.
+pub mod Coherence
+pub mod inside
