@@ -1,9 +1,10 @@
 -- What a word means, and where a prediction goes from there, over any words.
-use mathlib.Core.Path.{_≡_, refl, ap, _∙_}
+use mathlib.Core.Path.{_≡_, refl, sym, ap, _∙_}
 use mathlib.Core.Bool.{false}
 use mathlib.Core.List.{List, [], _∷_}
 use Prim.Native.Nat.{ℕ, zero, suc, _-_, _≤_, _<_}
 use native.Mathlib.Omega.{arith}
+use native.Mathlib.Decide.{decLt}
 use lib.Dec.{ltb, leb}
 use lib.ListN.{length}
 use borrow.Author.Tests.{lt-ltb, le-ltb, le-leb, lt-leb}
@@ -64,3 +65,19 @@ module _ (g : Grammar) where
       ≡ predictFrom g a ts (askStep g (l .words) a s t)
   unfolding predictFrom
   follow-on t ts a s l e = rw (predictFrom, e)
+
+  -- where no state was said, the tokens that are left do not matter
+  pub follow-done : (ts : List ℕ) (a w : ℕ) (c : List ℕ) → w ≤ fullWord → predictFrom g a [] (learned w c) ≡ predictFrom g a ts (learned w c)
+  follow-done ts a w c l = go (decLt 0 w) (decLt (length (alternatives g a)) w)
+    where
+      unsure : (0 < w → length (alternatives g a) < w) → predictFrom g a [] (learned w c) ≡ predictFrom g a ts (learned w c)
+      unsure h =
+          let e = meaning-is a (learned w c) ∙ meaning-none (length (alternatives g a)) (slots (length c)) w l h in
+          follow-unsure [] a (learned w c) e ∙ sym (follow-unsure ts a (learned w c) e)
+
+      go : Dec (0 < w) → Dec (length (alternatives g a) < w) → predictFrom g a [] (learned w c) ≡ predictFrom g a ts (learned w c)
+      go (no p) q = unsure (λ y. absurd (p y))
+      go (yes p) (yes q) = unsure (λ _. q)
+      go (yes p) (no q) =
+          let e = meaning-is a (learned w c) ∙ meaning-chosen (length (alternatives g a)) (slots (length c)) w p (omega arith) l in
+          follow-sure [] a w (learned w c) e ∙ sym (follow-sure ts a w (learned w c) e)

@@ -22,3 +22,4 @@ pub mod LessonGrowth
 pub mod StateSteps
 pub mod AskSteps
 pub mod PredictSteps
+pub mod FollowSteps

@@ -2,7 +2,7 @@
 use mathlib.Core.Path.{_≡_, refl, sym, ap, _∙_}
 use mathlib.Core.Bool.{Bool, true, false}
 use mathlib.Core.Option.{some}
-use mathlib.Core.List.{List}
+use mathlib.Core.List.{List, []}
 use Prim.Native.Nat.{ℕ, suc, _+_, _-_, _≤_, _<_}
 use native.Mathlib.Numerals.{add-one}
 use native.Mathlib.Omega.{arith}
@@ -20,13 +20,12 @@ use Rattle.derivation.proofs.Notes.{drop-of-get}
 use Rattle.derivation.proofs.MarkedCells.{length-marked}
 use Rattle.derivation.proofs.TokenLaws.{token-mark, token-note}
 use Rattle.words.specs.Layout.{slots, fullWord, stateWord}
-use Rattle.cache.specs.declared.prediction.Forecast.the-variants.{Alternative, Full}
+use Rattle.cache.specs.declared.prediction.Forecast.the-variants.{Full}
 use Rattle.cache.specs.Predictor.{Predicted, predicted}
 use Rattle.cache.specs.Recording.{Learned, learned, askStart, askStep}
-use Rattle.cache.specs.Predict.{chosen, undecided, at, meaning, meaningOf, predictFrom, predict}
+use Rattle.cache.specs.Predict.{undecided, at, meaning, meaningOf, predictFrom, predict}
 use Rattle.cache.proofs.LengthLaws.{length-askStart, length-askStep}
-use Rattle.cache.proofs.FollowLaws.{meaning-none, meaning-beyond, meaning-chosen, meaning-state, meaning-is}
-use Rattle.cache.proofs.FollowLaws.{follow-unsure, follow-sure, follow-over, follow-on}
+use Rattle.cache.proofs.FollowLaws.{meaning-beyond, meaning-state, meaning-is, follow-unsure, follow-over, follow-on, follow-done}
 
 module _ (g : Grammar) (a : ℕ) (w : List ℕ) where
   -- where a prediction stands: this was said of what lies before position j, and the rest is left
@@ -64,16 +63,9 @@ module _ (g : Grammar) (a : ℕ) (w : List ℕ) where
           sym (follow-over g a (r - stateWord 0) (learned said c) (standing h))
           ∙ ap (λ (ts : List ℕ). predictFrom g a ts (learned said c)) (sym (drop-of-length-le (marked w) {i = j} (omega (arith, length-marked w)))) ∙ x .is
 
-    -- no state was said, and r is that as a number
-    module _ {r : ℕ} (e : r ≡ said) (l : said ≤ fullWord) where
-      pub asking-none : (0 < r → length (alternatives g a) < r) → predicted Full c ≡ end
-      asking-none h = unsure (meaning-none count (slots (length c)) said l (λ m. let n = h (omega arith) in omega arith))
-
-      pub asking-some : 0 < r → r ≤ length (alternatives g a) → predicted (Alternative r) c ≡ end
-      asking-some m n =
-          ap (λ (v : ℕ). predicted (Alternative v) c) e
-          ∙ sym (follow-sure g (drop j (marked w)) a said (learned said c)
-          (meaning-is g a (learned said c) ∙ meaning-chosen count (slots (length c)) said (omega arith) (omega arith) l)) ∙ x .is
+    -- no state was said: that says what is predicted
+    pub asking-done : said ≤ fullWord → predictFrom g a [] (learned said c) ≡ end
+    asking-done l = follow-done g (drop j (marked w)) a said c l ∙ x .is
 
 -- a prediction begins as its decision's start says
 pub predict-starts : (g : Grammar) (c : List ℕ) (a : ℕ) (ts : List ℕ) {l : Learned} → l ≡ askStart g c a → predictFrom g a ts l ≡ predict g c a ts
@@ -91,20 +83,20 @@ module _ (g : Grammar) (c : List ℕ) (a : ℕ) {n said : ℕ} {c′ : List ℕ}
   pub step-slots : (s t : ℕ) → learned said c′ ≡ askStep g c a s t → n ≡ slots (length c) → n ≡ slots (length c′)
   step-slots s t e k = k ∙ ap slots (sym (words-kept e (length-askStep g c a s t)))
 
--- tokens of a known note, and the end mark, are within the limits
-pub token-small : (t : List ℕ) → Ready t → (w : List ℕ) → Known (grammarIn t .kinds) w → (j : ℕ) {u : ℕ} → getElem? (marked w) j ≡ some u
-    → u ≤ maxKinds
+-- tokens of a known note are within the limits
+pub kinds-small : (t : List ℕ) → Ready t → (w : List ℕ) → Known (grammarIn t .kinds) w → (j : ℕ) → j < length w → getD w j 0 ≤ maxKinds
 unfolding compile
-token-small t h w k j {u} e = go (ltb j (length w)) refl
-  where
-    kinds : grammarIn t .kinds ≤ maxKinds
-    kinds = rw (h .says) (h .limited .kinds-most)
+kinds-small t h w k j l = let kinds : grammarIn t .kinds ≤ maxKinds = rw (h .says) (h .limited .kinds-most) in omega (arith, k j l .1, kinds)
 
+-- and so is the end mark
+pub token-small : (w : List ℕ) → ((j : ℕ) → j < length w → getD w j 0 ≤ maxKinds) → (j : ℕ) {u : ℕ} → getElem? (marked w) j ≡ some u → u ≤ maxKinds
+token-small w k j {u} e = go (ltb j (length w)) refl
+  where
     go : (b : Bool) → ltb j (length w) ≡ b → u ≤ maxKinds
     go true q =
         let l = ltb-true j (length w) q in
         let z : some (getD w j 0) ≡ some u = sym (token-note w j l refl) ∙ e in
-        let y : getD w j 0 ≡ u = cc in omega (arith, k j l .1, kinds)
+        let y : getD w j 0 ≡ u = cc in omega (arith, k j l)
     go false q =
         let n : j < length (marked w) = get-below (marked w) j e in
         let z : some 0 ≡ some u = sym (token-mark w j (omega (arith, ltb-false j (length w) q, length-marked w))) ∙ e in

@@ -1,5 +1,6 @@
 // The lookahead cache: what is looked up and recorded in it, and what it predicts. How its words begin is `words`.
 mod asking;
+mod following;
 mod prediction;
 mod recording;
 

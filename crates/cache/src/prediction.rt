@@ -3,10 +3,14 @@
 use words::layout::FULL;
 use words::layout::STATES;
 ghost use mathlib.Core.Path.{_≡_};
+ghost use Prim.Native.Nat.{_≤_, _<_};
 ghost use lib.ListN.{drop};
-ghost use Rattle.grammar.specs.inside.Tables.{grammarIn};
+ghost use Rattle.grammar.specs.inside.Tables.{grammarIn, nonterminalsIn};
 ghost use Rattle.derivation.specs.Runs.{marked};
+ghost use Rattle.derivation.specs.inside.Ready.{Ready};
+ghost use Rattle.words.specs.Layout.{fullWord};
 ghost use Rattle.cache.specs.inside.Calls.{Predictable};
+ghost use Rattle.cache.specs.inside.Following.{Says};
 ghost use Rattle.cache.specs.Predictor.{predicted};
 ghost use Rattle.cache.specs.Predict.{predict};
 
@@ -21,8 +25,29 @@ pub struct Prediction {
     pub forecast: Forecast,
 }
 
-// What is predicted of nonterminal a at position i. What had to be worked out is recorded.
-pub fn predict(tables: &[u16], note: &[u16], cache: &mut [u32], a: usize, i: usize) -> Prediction
+// What a word says that tells no state: one of nonterminal a's alternatives, or FULL.
+fn forecast_of(tables: &[u16], a: usize, said: u32) -> Prediction
+    requires { ⌜ Ready (now tables) × (a < nonterminalsIn (now tables)) × (said ≤ fullWord) ⌝ }
+    ensures { λ r. ⌜ Says (grammarIn (now (tables .entry))) a said (r .forecast) ⌝ }
+{
+    let b = base::number(said);
+    if b == 0 {
+        return Prediction {
+            forecast: Forecast::Full,
+        };
+    }
+    if derivation::alternatives(tables, a) < b {
+        return Prediction {
+            forecast: Forecast::Full,
+        };
+    }
+    Prediction {
+        forecast: Forecast::Alternative(b),
+    }
+}
+
+// The same as `predict`, from the decision's start on: what is not recorded is worked out and recorded.
+fn learn(tables: &[u16], note: &[u16], cache: &mut [u32], a: usize, i: usize) -> Prediction
     requires { ⌜ Predictable (now tables) (now note) (now cache) a i ⌝ }
     ensures { λ r. ⌜ predicted (r .forecast) (now (cache .exit))
         ≡ predict (grammarIn (now (tables .entry))) (now (cache .entry)) a (drop i (marked (now (note .entry)))) ⌝ }
@@ -47,18 +72,18 @@ pub fn predict(tables: &[u16], note: &[u16], cache: &mut [u32], a: usize, i: usi
         said = crate::asking::ask_step(tables, cache, a, s, t);
         j += 1;
     }
-    let b = base::number(said);
-    if b == 0 {
-        return Prediction {
-            forecast: Forecast::Full,
-        };
+    forecast_of(tables, a, said)
+}
+
+// What is predicted of nonterminal a at position i. What had to be worked out is recorded. Where all is recorded, the words are only read.
+pub fn predict(tables: &[u16], note: &[u16], cache: &mut [u32], a: usize, i: usize) -> Prediction
+    requires { ⌜ Predictable (now tables) (now note) (now cache) a i ⌝ }
+    ensures { λ r. ⌜ predicted (r .forecast) (now (cache .exit))
+        ≡ predict (grammarIn (now (tables .entry))) (now (cache .entry)) a (drop i (marked (now (note .entry)))) ⌝ }
+{
+    let said = crate::following::recorded(note, cache, a, i);
+    if said == 0 {
+        return learn(tables, note, cache, a, i);
     }
-    if derivation::alternatives(tables, a) < b {
-        return Prediction {
-            forecast: Forecast::Full,
-        };
-    }
-    Prediction {
-        forecast: Forecast::Alternative(b),
-    }
+    forecast_of(tables, a, said)
 }

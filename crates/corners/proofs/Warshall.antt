@@ -153,19 +153,22 @@ module _ (n : ℕ) where
   reach-keeps zero rows few a c l t = t
   reach-keeps (suc b) rows few a c l t = pivot-keeps b (reachOf n b rows) (omega (arith, reach-length n b rows)) a c l (reach-keeps b rows few a c l t)
 
-  abbrev Sound : Grammar → List ℕ → Type 0
-  Sound g rows = (a c : ℕ) → a < n → T (holds rows a c) → Reaches (ofPlaces g) a c
+  -- what n rows hold is within a relation
+  abbrev Sound : (ℕ → ℕ → Type 0) → List ℕ → Type 0
+  Sound R rows = (a c : ℕ) → a < n → T (holds rows a c) → R a c
 
-  pub reach-sound : (g : Grammar) (b : ℕ) (rows : List ℕ) → n ≤ length rows → b ≤ n → Sound g rows → Sound g (reachOf n b rows)
+  -- if it is transitive, the passes stay within it
+  pub reach-sound : (R : ℕ → ℕ → Type 0) → ((a b c : ℕ) → R a b → R b c → R a c) → (b : ℕ) (rows : List ℕ) → n ≤ length rows → b ≤ n → Sound R rows
+      → Sound R (reachOf n b rows)
   unfolding reachOf
-  reach-sound g zero rows few lb h = h
-  reach-sound g (suc b) rows few lb h =
-      λ a c l t. go a c l (reach-sound g b rows few (omega arith) h) (pivot-from b (reachOf n b rows) (omega (arith, reach-length n b rows)) a c l t)
+  reach-sound R trans zero rows few lb h = h
+  reach-sound R trans (suc b) rows few lb h =
+      λ a c l t. go a c l (reach-sound R trans b rows few (omega arith) h) (pivot-from b (reachOf n b rows) (omega (arith, reach-length n b rows)) a c l t)
     where
-      go : (a c : ℕ) → a < n → Sound g (reachOf n b rows)
-          → T (holds (reachOf n b rows) a c) ⊎ (T (holds (reachOf n b rows) a b) × T (holds (reachOf n b rows) b c)) → Reaches (ofPlaces g) a c
+      go : (a c : ℕ) → a < n → Sound R (reachOf n b rows)
+          → T (holds (reachOf n b rows) a c) ⊎ (T (holds (reachOf n b rows) a b) × T (holds (reachOf n b rows) b c)) → R a c
       go a c l s (inl t) = s a c l t
-      go a c l s (inr t) = reaches-trans (s a b l (t .0)) (s b c (omega arith) (t .1))
+      go a c l s (inr t) = trans a b c (s a b l (t .0)) (s b c (omega arith) (t .1))
 
 -- ---- the rows to begin with
 moves-are : (nullable : ℕ) (g : Grammar) (a x : ℕ) → DerivingIs false g nullable → MovesFrom nullable g a x → (c : ℕ) → testBit x c ≡ move? g a c
@@ -191,6 +194,6 @@ module _ (g : Grammar) (n : ℕ) (rows : List ℕ) (e : n ≡ length (g .starts)
       (λ a c m. omega (arith, e, named a c m))
       (λ a c la lc t. reach-keeps n n rows few a c (omega (arith, e)) (rw (row-is g n rows h a (omega (arith, e)) c) t))
       (λ a b c la lb lc s t. reach-closed n n rows few (omega arith) a b c (omega (arith, e)) (omega (arith, e)) (omega (arith, e)) s t)
-      (λ a c la t. reach-sound n g n rows few (omega arith) (λ a c la t. one (move-iff g a c .0 (rw (row-is g n rows h a la c) at t))) a c
-      (omega (arith, e)) t)
+      (λ a c la t. reach-sound n (Reaches (ofPlaces g)) (λ a b c. reaches-trans) n rows few (omega arith)
+      (λ a c la t. one (move-iff g a c .0 (rw (row-is g n rows h a la c) at t))) a c (omega (arith, e)) t)
       a (omega (arith, e)) a)

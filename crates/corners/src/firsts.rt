@@ -45,7 +45,7 @@ fn first_of(tables: &[u16], a: usize) -> First
 }
 
 // The set, with a if `yes`.
-fn with_if(set: u32, a: usize, yes: bool) -> u32
+pub fn with_if(set: u32, a: usize, yes: bool) -> u32
     requires { ⌜ a < maxNonterminals ⌝ }
     ensures { λ r. ⌜ r ≡ cond yes (setBit set a) set ⌝ }
 {

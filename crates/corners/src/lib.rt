@@ -6,6 +6,7 @@ mod reaching;
 
 pub use ending::all_end;
 pub use firsts::nullable;
+pub use firsts::with_if;
 pub use moves::corners;
 pub use moves::store;
 pub use reaching::reach;

@@ -86,7 +86,7 @@ fn same(a: Positions, b: Positions) -> bool
 }
 
 // The lowest bit of x from k on; WORD_BITS if there is none.
-fn from_bit(x: u32, k: usize) -> usize
+pub fn from_bit(x: u32, k: usize) -> usize
     requires { ⌜ k < wordBits ⌝ }
     ensures { λ r. ⌜ FromBit x k r ⌝ }
 {

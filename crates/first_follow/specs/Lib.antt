@@ -1,0 +1,3 @@
+-- FIRST and FOLLOW.
+pub mod FirstFollow
+pub mod inside

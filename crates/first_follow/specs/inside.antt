@@ -1,0 +1,4 @@
+-- What the proofs of the code rest on, step by step: none of it has to be believed.
+pub mod Masks
+pub mod Words
+pub mod Steps

@@ -1,0 +1,6 @@
+-- What the proofs of the code rest on, step by step: none of it has to be believed.
+pub mod Words
+pub mod Searching
+pub mod Ways
+pub mod Walks
+pub mod Trials
