@@ -1,8 +1,3 @@
--- Laws of the quick reading's choices, one subject a file.
-pub mod RestLaws
-pub mod AskLaws
-pub mod ServeLaws
-pub mod SettleLaws
-pub mod FloorLaws
-pub mod TableLaws
+-- Laws of the quick reading's choices: what there is to choose by when a frame is pushed (DecideStage), and the choice (DecideLaws).
+pub mod DecideStage
 pub mod DecideLaws

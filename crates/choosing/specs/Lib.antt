@@ -1,2 +1,2 @@
--- How the quick reading chooses: the frames' sets, made right when they are first needed, and what a choice leaves.
+-- How the quick reading chooses, and what a choice leaves.
 pub mod inside

@@ -1,3 +1,2 @@
 -- What the proofs of the code rest on, step by step: none of it has to be believed.
-pub mod Sets
 pub mod Deciding

@@ -21,28 +21,31 @@ use Rattle.gate.specs.declared.passing.Gate.{Gate}
 use Rattle.gate.specs.declared.passing.Gate.the-variants.{Passed, Shut}
 use Rattle.gate.proofs.PassingLaws.{at-shut, at-passed}
 use Rattle.cells.proofs.Spots.{lent-kept}
-use Rattle.reach.specs.inside.Passes.{Given}
 use Rattle.machine.specs.inside.Ending.{outcomeIn}
 use Rattle.machine.proofs.EndingLaws.{outcome-length}
 use Rattle.quick.specs.declared.running.Stop.{Stop}
-use Rattle.quick.specs.inside.Run.{QuickRan, Stopped, CellsRight}
+use Rattle.quick.specs.inside.Run.{QuickRan, Stopped}
 use Rattle.quick.specs.inside.Replied.{replied, noteReply, LongEnough, overStanding}
 
 -- ---- the machine, and what follows from it
-pub stopped : (t w row ws c : List ℕ) {r : Stop} {row′ ws′ c′ : List ℕ} → Admitted t w (length ws) → QuickRan t w row ws c r row′ ws′ c′
-    → Stopped t w row′ ws′ r
+pub stopped : (t w row ws c : List ℕ) {r : Stop} {row′ ms′ tally′ ws′ c′ : List ℕ} → Admitted t w (length ws)
+    → QuickRan t w row ws c r row′ ms′ tally′ ws′ c′ → Stopped t w row′ ms′ tally′ ws′ r
 stopped t w row ws c h x =
     record {
-      ready = h .ready;
-      lent = lent-kept {ws = ws} (x .ran .space-kept) (record { short = h .short; room = h .room });
-      charted = x .charted;
+      judge = record {
+        told = record {
+          ready = h .ready;
+          tokens = h .tokens;
+          lent = lent-kept {ws = ws} (x .ran .space-kept) (record { short = h .short; room = h .room });
+          tallied = x .tallied;
+        };
+        stage = x .stage;
+        far = x .far;
+      };
       within = x .ran .within;
     }
 
-pub stopped-given : (t w row ws : List ℕ) {r : Stop} {after : List ℕ} → Stopped t w row ws r → CellsRight t w ws after → Given t w after
-stopped-given t w row ws x y = record { ready = x .ready; lent = lent-kept (y .kept) (x .lent); charted = y .charted }
-
-pub read-is : (t w row ws c : List ℕ) {r : Stop} {row′ ws′ c′ : List ℕ} {x : Answer} → QuickRan t w row ws c r row′ ws′ c′
+pub read-is : (t w row ws c : List ℕ) {r : Stop} {row′ ms′ tally′ ws′ c′ : List ℕ} {x : Answer} → QuickRan t w row ws c r row′ ms′ tally′ ws′ c′
     → x ≡ onConclusion (grammarIn t) w row′ (outcomeIn (r .outcome) row′) → reply x c′ ≡ noteReply (grammarIn t) w row c
 unfolding quickNote
 read-is t w row ws c {r} {row′} {c′ = c′} y e =

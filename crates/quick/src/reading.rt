@@ -3,33 +3,77 @@ use crate::running::Stop;
 use gate::Gate;
 use gate::Reading;
 use machine::Conclusion;
+use serving::Judged;
 use words::Standing;
 ghost use mathlib.Core.Path.{_≡_};
 ghost use Prim.Native.Nat.{_≤_, _<_};
 ghost use lib.ListN.{length};
 ghost use Rattle.grammar.specs.inside.Tables.{grammarIn};
-ghost use Rattle.derivation.specs.Plain.{onConclusion};
+ghost use Rattle.derivation.specs.Plain.{clear, onConclusion};
 ghost use Rattle.words.specs.Layout.{minWords};
 ghost use Rattle.gate.specs.Reading.{readingNumber, readingPlace, readingCount, answered};
 ghost use Rattle.gate.specs.inside.Passing.{Admitted};
 ghost use Rattle.machine.specs.inside.Ending.{outcomeIn};
-ghost use Rattle.quick.specs.inside.Run.{Stopped, CellsWanted, CellsRight};
+ghost use Rattle.serving.specs.inside.Judging.{MayJudge};
+ghost use Rattle.quick.specs.inside.Run.{Stopped, stopOf};
 ghost use Rattle.quick.specs.inside.Replied.{replied, noteReply, LongEnough, overStanding};
 ghost use Rattle.quick.specs.Contract.{QuickDid};
 
-// The cells, if there are none yet.
-fn table(tables: &[u16], note: &[u16], ws: &mut [u32], known: usize)
-    requires { ⌜ CellsWanted (now tables) (now note) (now ws) known ⌝ }
-    ensures { λ _. ⌜ CellsRight (now (tables .entry)) (now (note .entry)) (now (ws .entry)) (now (ws .exit)) ⌝ }
+// No sentence: zeros, and the place where the note goes wrong.
+fn wrong(row: &mut [u16], place: usize) -> Reading
+    ensures { λ r. ⌜ answered r (now (row .exit)) ≡ clear 10 place (now (row .entry)) ⌝ }
 {
-    if known == 0 {
-        chart::fill(tables, note, ws);
+    base::clear_from(row, 0);
+    Reading::NoSentence(place)
+}
+
+// The machine stopped before the note was accepted: the note as a whole decides between 10 and 14 and tells the place.
+fn refuse(
+    tables: &[u16],
+    note: &[u16],
+    row: &mut [u16],
+    masks: &mut [u32],
+    tally: &mut [u32],
+    ws: &mut [u32],
+    known: usize,
+    full: bool,
+) -> Reading
+    requires { ⌜ MayJudge (now tables) (now note) (now masks) (now tally) (now ws) known ⌝ }
+    ensures { λ r. ⌜ answered r (now (row .exit))
+        ≡ onConclusion (grammarIn (now (tables .entry))) (now (note .entry)) (now (row .entry)) (stopOf full) ⌝ }
+{
+    let stand = serving::standing(tally, known);
+    let judged = serving::judge(tables, note, masks, tally, ws);
+    match judged {
+        Judged::Wrong(place) => wrong(row, place),
+        Judged::Sentence(place) => {
+            if full {
+                base::clear_from(row, 0);
+                return Reading::ShortRow;
+            }
+            wrong(row, place)
+        }
+        Judged::Out => {
+            serving::fill_cells(tables, note, ws, stand);
+            if full {
+                return machine::finish(tables, note, row, ws, Conclusion::Full);
+            }
+            machine::finish(tables, note, row, ws, Conclusion::Stuck)
+        }
     }
 }
 
-// What follows from how the machine stopped: where the note is not accepted, the cells decide between 10 and 14 and name the place.
-fn finish(tables: &[u16], note: &[u16], row: &mut [u16], ws: &mut [u32], stop: Stop) -> Reading
-    requires { ⌜ Stopped (now tables) (now note) (now row) (now ws) stop ⌝ }
+// What follows from how the machine stopped.
+fn finish(
+    tables: &[u16],
+    note: &[u16],
+    row: &mut [u16],
+    masks: &mut [u32],
+    tally: &mut [u32],
+    ws: &mut [u32],
+    stop: Stop,
+) -> Reading
+    requires { ⌜ Stopped (now tables) (now note) (now row) (now masks) (now tally) (now ws) stop ⌝ }
     ensures { λ r. ⌜ answered r (now (row .exit))
         ≡ onConclusion (grammarIn (now (tables .entry))) (now (note .entry)) (now (row .entry)) (outcomeIn (stop .outcome) (now (row .entry))) ⌝ }
 {
@@ -39,14 +83,8 @@ fn finish(tables: &[u16], note: &[u16], row: &mut [u16], ws: &mut [u32], stop: S
             base::clear_from(row, entries);
             Reading::Accepted(entries)
         }
-        Conclusion::Stuck => {
-            table(tables, note, ws, stop.known);
-            machine::finish(tables, note, row, ws, Conclusion::Stuck)
-        }
-        Conclusion::Full => {
-            table(tables, note, ws, stop.known);
-            machine::finish(tables, note, row, ws, Conclusion::Full)
-        }
+        Conclusion::Stuck => refuse(tables, note, row, masks, tally, ws, stop.known, false),
+        Conclusion::Full => refuse(tables, note, row, masks, tally, ws, stop.known, true),
     }
 }
 
@@ -56,8 +94,10 @@ fn read(tables: &[u16], note: &[u16], row: &mut [u16], cache: &mut [u32], ws: &m
     ensures { λ r. ⌜ replied r (now (row .exit)) (now (cache .exit))
         ≡ noteReply (grammarIn (now (tables .entry))) (now (note .entry)) (now (row .entry)) (now (cache .entry)) ⌝ }
 {
-    let stop = crate::running::run(tables, note, row, cache, ws);
-    finish(tables, note, row, ws, stop)
+    let mut masks = [0u32; first_follow::MASK_WORDS];
+    let mut tally = [0u32; serving::TALLY];
+    let stop = crate::running::run(tables, note, row, &mut masks, &mut tally, cache, ws);
+    finish(tables, note, row, &mut masks, &mut tally, ws, stop)
 }
 
 // A note that passed the gate, over a cache that stands so to the grammar: 12, 13, or the reading.

@@ -6,19 +6,28 @@ ghost use Prim.Native.Nat.{_≤_};
 ghost use lib.ListN.{length};
 ghost use Rattle.words.specs.Layout.{minWords};
 ghost use Rattle.gate.specs.inside.Passing.{Admitted};
+ghost use Rattle.serving.specs.inside.Aids.{Unbegun};
 ghost use Rattle.quick.specs.inside.Run.{QuickRan};
 
-// How the machine stopped, and of how many open frames the sets stood: 0 where no cell was worked out.
+// How the machine stopped, and of how many open frames marks or sets stood.
 pub struct Stop {
     pub outcome: Conclusion,
     pub known: usize,
 }
 
 // From nonterminal 0 over the end place on: at each nonterminal what is predicted, and where that is FULL the lowest alternative that serves.
-pub fn run(tables: &[u16], note: &[u16], row: &mut [u16], cache: &mut [u32], ws: &mut [u32]) -> Stop
-    requires { ⌜ Admitted (now tables) (now note) (length (now ws)) × (minWords ≤ length (now cache)) ⌝ }
+pub fn run(
+    tables: &[u16],
+    note: &[u16],
+    row: &mut [u16],
+    masks: &mut [u32],
+    tally: &mut [u32],
+    cache: &mut [u32],
+    ws: &mut [u32],
+) -> Stop
+    requires { ⌜ Admitted (now tables) (now note) (length (now ws)) × (minWords ≤ length (now cache)) × Unbegun (now masks) (now tally) ⌝ }
     ensures { λ r. ⌜ QuickRan (now (tables .entry)) (now (note .entry)) (now (row .entry)) (now (ws .entry)) (now (cache .entry))
-        r (now (row .exit)) (now (ws .exit)) (now (cache .exit)) ⌝ }
+        r (now (row .exit)) (now (masks .exit)) (now (tally .exit)) (now (ws .exit)) (now (cache .exit)) ⌝ }
 {
     let space = machine::space_of(tables, note);
     let mut count = 0;
@@ -36,7 +45,7 @@ pub fn run(tables: &[u16], note: &[u16], row: &mut [u16], cache: &mut [u32], ws:
                 known: known,
             };
         }
-        let pick = choosing::decide(tables, note, cache, ws, space, known, at, a);
+        let pick = choosing::decide(tables, note, masks, tally, cache, ws, space, known, at, a);
         known = pick.known;
         let b = pick.alternative;
         if b == 0 {

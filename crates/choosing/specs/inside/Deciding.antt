@@ -1,66 +1,37 @@
 -- A choice of the quick reading where a nonterminal waits: what it rests on, and what it leaves.
 use mathlib.Core.Path.{_≡_}
 use mathlib.Core.Option.{none, some}
-use mathlib.Core.List.{List, [], _∷_}
-use Prim.Native.Nat.{ℕ, suc, _≤_, _<_}
+use mathlib.Core.List.{List}
+use Prim.Native.Nat.{ℕ, _≤_}
 use lib.ListN.{length}
-use Rattle.grammar.specs.Limits.{endPlace}
-use Rattle.grammar.specs.Grammar.{first}
 use Rattle.grammar.specs.inside.Tables.{grammarIn}
 use Rattle.derivation.specs.Runs.{marked}
-use Rattle.derivation.specs.Machine.{Choice, lowest}
-use Rattle.derivation.specs.inside.Frames.{returnsOf}
-use Rattle.derivation.specs.inside.Ready.{Ready}
-use Rattle.derivation.specs.Demand2.{Known}
-use Rattle.derivation.specs.inside.Entries.{FramesOpen}
+use Rattle.derivation.specs.Machine.{Choice}
 use Rattle.words.specs.Layout.{minWords}
 use Rattle.adaptive.specs.Chooser.{adaptively}
-use Rattle.cells.specs.inside.Chart.{Lent, Charted}
-use Rattle.machine.specs.inside.Frames.{EveryFrame, FramesBelow, Good}
-use Rattle.machine.specs.inside.Choice.{orZero}
-use Rattle.machine.specs.inside.Space.{Named, ground, opened, Spaced}
-use Rattle.machine.specs.inside.Waits.{Waits}
+use Rattle.machine.specs.inside.Space.{Named, opened}
 use Rattle.machine.specs.declared.steps.At.{At}
 use Rattle.machine.specs.declared.steps.Space.{Space}
+use Rattle.serving.specs.inside.Serving.{Entering}
+use Rattle.serving.specs.inside.Aids.{MayServe, Stage, SetsStand, Far, Tallied}
 
--- nonterminal a waits at `at`: the sets of the lowest `known` frames stand, and the cells are right if any does
-pub record Waiting (t w ws : List ℕ) (s : Space) (known : ℕ) (at : At) (a : ℕ) : Type 0 where
-  pub ready : Ready t
-  pub spaced : Spaced t w s
-  pub lent : Lent (grammarIn t .size) (length w) ws
-  pub charted : 0 < known → Charted t w ws
-  pub waits : Waits t w ws (FramesBelow known) (at .depth) (at .place) a (at .position)
-
--- and it can be predicted, over the cache's words c
-pub record Deciding (t w c ws : List ℕ) (s : Space) (known : ℕ) (at : At) (a : ℕ) : Type 0 where
-  pub waiting : Waiting t w ws s known at a
+-- nonterminal a waits at `at`, and it can be predicted, over the cache's words c
+pub record Deciding (t w ms tally c ws : List ℕ) (s : Space) (known : ℕ) (at : At) (a : ℕ) : Type 0 where
+  pub serve : MayServe t w ms tally ws s known at a
   pub long : minWords ≤ length c
-  pub tokens : Known (grammarIn t .kinds) w
-
--- alternative r of a is entered from words ws: its return place q is the topmost frame, and over it from the alternative's first place on those sets are
--- right of which K speaks
-pub record Entering (t w ws after : List ℕ) (K : ℕ → Type 0) (d q a i r : ℕ) : Type 0 where
-  pub kept : length after ≡ length ws
-  pub returns : ¬ (r ≡ 0) → returnsOf after (ground t w) (suc d) ≡ opened t w ws d q
-  pub held : (f : ℕ) → first (grammarIn t) a r ≡ some f → FramesOpen (grammarIn t) (endPlace ∷ []) (length w) after (ground t w) (suc d) f i
-  pub good : (f : ℕ) → first (grammarIn t) a r ≡ some f → Good (grammarIn t) (marked w) after (ground t w) K (suc d) f i
-
--- r is the plain chooser's alternative, 0 for none
-pub record Found (t w ws after : List ℕ) (d q a i r : ℕ) : Type 0 where
-  pub chosen : r ≡ orZero (lowest (grammarIn t) (marked w) (opened t w ws d q) a i)
-  pub charted : Charted t w after
-  pub entering : Entering t w ws after EveryFrame d q a i r
 
 -- what the quick reading's chooser answers over the stack that stays open
 abbrev pub choiceAt : List ℕ → List ℕ → List ℕ → List ℕ → ℕ → ℕ → ℕ → ℕ → Choice (List ℕ)
 choiceAt t w ws c d q a i = adaptively (grammarIn t) (marked w) c (opened t w ws d q) a i
 
--- r is its alternative, 0 for none, and c′ its state: the cache's words after it
-pub record Chose (t w ws after c c′ : List ℕ) (d q a i known r : ℕ) : Type 0 where
+-- r is its alternative, 0 for none, and c′ its state: the cache's words after it; what there is to choose by stands for `known` frames
+pub record Chose (t w ms tally ws ms′ tally′ after c c′ : List ℕ) (d q a i known r : ℕ) : Type 0 where
   pub nothing : r ≡ 0 → (choiceAt t w ws c d q a i) .alternative ≡ none
   pub taken : ¬ (r ≡ 0) → (choiceAt t w ws c d q a i) .alternative ≡ some r
   pub named : ¬ (r ≡ 0) → Named t a r
   pub words : c′ ≡ (choiceAt t w ws c d q a i) .state
   pub long : length c′ ≡ length c
-  pub charted : 0 < known → Charted t w after
-  pub entering : Entering t w ws after (FramesBelow known) d q a i r
+  pub tallied : Tallied tally′
+  pub stage : Stage t w ms′ tally′ after known
+  pub far : Far t w ms tally ws → Far t w ms′ tally′ after
+  pub entering : Entering t w ws after (SetsStand tally′ known) d q a i r

@@ -1,22 +1,23 @@
--- `choosing::deciding::decide` meets its contract: a single production, the predicted alternative and the plain choice are the three ways of the
+-- `choosing::deciding::decide` meets its contract: a single production, the predicted alternative and the lowest that serves are the three ways of the
 -- definition's chooser.
 use native.Mathlib.Omega.{arith}
-use Rattle.machine.proofs.WaitLaws.{waits-small, waits-frames}
-use Rattle.choosing.proofs.DecideLaws.{waiting-named, waiting-room, decide-single, decide-named, decide-full, deciding-predicts}
+use Rattle.machine.proofs.WaitLaws.{waits-small}
+use Rattle.choosing.proofs.DecideStage.{serve-named, serve-room}
+use Rattle.choosing.proofs.DecideLaws.{decide-single, decide-named, decide-full, deciding-predicts}
 use borrow.Author.Needs.{needs}
 use Rattle.choosing.proofs.deciding.decide.Statement.{statement}
 use Rattle.choosing.proofs.deciding.decide.Tie as tie
 
 alternatives-requires : tie.Need-alternatives-requires
 alternatives-requires c κs =
-    let at-entry = c .before .before .before .before in
-    (at-entry .pre .waiting .ready, waiting-named _ _ _ (at-entry .pre .waiting))
+    let at-entry = c .before .before .before .before .before .before in
+    (at-entry .pre .serve .told .ready, serve-named _ _ _ _ _ (at-entry .pre .serve))
 
 push-requires : tie.Need-push-requires
 push-requires c κs =
-    let at-entry = c .before .before .before .before .before .before .before in (
-      waiting-room _ _ _ (at-entry .pre .waiting) (at-entry .pre .waiting .spaced .base),
-      omega (arith, waits-small _ (at-entry .pre .waiting .ready) _ (at-entry .pre .waiting .waits)),
+    let at-entry = c .before .before .before .before .before .before .before .before .before in (
+      serve-room _ _ _ _ _ (at-entry .pre .serve),
+      omega (arith, waits-small _ (at-entry .pre .serve .told .ready) _ (at-entry .pre .serve .waits)),
     )
 
 same-length : tie.Need-same-length
@@ -27,37 +28,32 @@ returns c =
     let at-push = c .before .before in
     let at-if1 = at-push .before .before in
     let at-alternatives = at-if1 .before in
-    let at-entry = at-alternatives .before .before .before .before .before in
-    decide-single _ _ _ (at-entry .pre .waiting) (at-entry .pre .waiting .spaced .base) (at-push .push .ensures .0) (at-push .push .ensures .1) _
+    let at-entry = at-alternatives .before .before .before .before .before .before .before in
+    decide-single _ _ _ _ _ (at-entry .pre .serve) (at-push .push .ensures .0) (at-push .push .ensures .1) _
     (at-alternatives .alternatives .ensures) (at-if1 .if1 .taken)
 
 predict-requires : tie.Need-predict-requires
 predict-requires c κs =
-    let at-entry = c .before .before .before .before .before .before .before in
-    deciding-predicts _ _ _ _ (at-entry .pre)
+    let at-entry = c .before .before .before .before .before .before .before .before .before in
+    deciding-predicts _ _ _ _ _ _ (at-entry .pre)
 
 enum-known-forecast : tie.Need-enum-known-forecast
 enum-known-forecast c = search needs
 
 push-requires-2 : tie.Need-push-requires-2
 push-requires-2 c κs =
-    let at-entry = c .before .before .before .before .before .before .before .before .before .before .before .before .before .before in (
-      waiting-room _ _ _ (at-entry .pre .waiting) (at-entry .pre .waiting .spaced .base),
-      omega (arith, waits-small _ (at-entry .pre .waiting .ready) _ (at-entry .pre .waiting .waits)),
+    let at-entry = c .before .before .before .before .before .before .before .before .before .before .before .before .before .before .before .before in (
+      serve-room _ _ _ _ _ (at-entry .pre .serve),
+      omega (arith, waits-small _ (at-entry .pre .serve .told .ready) _ (at-entry .pre .serve .waits)),
     )
 
 enum-told : tie.Need-enum-told
 enum-told c = search needs
 
-full-requires : tie.Need-full-requires
-full-requires c κs =
-    let at-entry = c .before .before .before .before .before .before .before .before .before .before .before .before .before in
-    at-entry .pre .waiting
-
-add-t26 : tie.Need-add-t26
-add-t26 c =
+serve-requires : tie.Need-serve-requires
+serve-requires c κs =
     let at-entry = c .before .before .before .before .before .before .before .before .before .before .before .before .before .before .before .before .before in
-    omega (arith, waits-frames _ (at-entry .pre .waiting .ready) _ (at-entry .pre .waiting .lent) (at-entry .pre .waiting .waits))
+    at-entry .pre .serve
 
 same-length-2 : tie.Need-same-length-2
 same-length-2 c = search needs
@@ -71,8 +67,8 @@ returns-2 c =
     let at-forecast = at-push2 .before .before .before in
     let at-predict = at-forecast .before .before .before .before in
     let at-alternatives = at-predict .before .before .before in
-    let at-entry = at-alternatives .before .before .before .before .before in
-    decide-named _ _ _ (at-entry .pre .waiting) (at-entry .pre .waiting .spaced .base) (at-push2 .push2 .ensures .0) (at-push2 .push2 .ensures .1) _
+    let at-entry = at-alternatives .before .before .before .before .before .before .before in
+    decide-named _ _ _ _ _ (at-entry .pre .serve) (at-push2 .push2 .ensures .0) (at-push2 .push2 .ensures .1) _
     (at-alternatives .alternatives .ensures) (omega arith) (at-predict .predict .ensures) (at-forecast .forecast .given .1)
 
 same-length-4 : tie.Need-same-length-4
@@ -81,33 +77,22 @@ same-length-4 c = search needs
 same-length-5 : tie.Need-same-length-5
 same-length-5 c = search needs
 
+same-length-6 : tie.Need-same-length-6
+same-length-6 c = search needs
+
+same-length-7 : tie.Need-same-length-7
+same-length-7 c = search needs
+
 returns-3 : tie.Need-returns-3
 returns-3 c =
-    let at-full = c .before .before .before in
-    let at-enum-told = at-full .before .before in
+    let at-serve = c .before .before .before .before .before .before in
+    let at-enum-told = at-serve .before .before .before .before in
     let at-predict = at-enum-told .before .before .before .before in
     let at-alternatives = at-predict .before .before .before in
-    let at-entry = at-alternatives .before .before .before .before .before in
-    decide-full _ _ _ (at-entry .pre .waiting) _ (at-alternatives .alternatives .ensures) (omega arith) (at-predict .predict .ensures)
-    (at-enum-told .enum-told .given .1) (at-full .full .ensures)
+    let at-entry = at-alternatives .before .before .before .before .before .before .before in
+    decide-full _ _ _ _ _ (at-entry .pre .serve) _ (at-alternatives .alternatives .ensures) (omega arith) (at-predict .predict .ensures)
+    (at-enum-told .enum-told .given .1) (at-serve .serve .ensures)
 
 pub decide-spec : {M : Type 1} → statement M
-decide-spec =
-    tie.close
-    (tie.spec
-    alternatives-requires
-    push-requires
-    same-length
-    returns
-    predict-requires
-    enum-known-forecast
-    push-requires-2
-    enum-told
-    full-requires
-    add-t26
-    same-length-2
-    same-length-3
-    returns-2
-    same-length-4
-    same-length-5
-    returns-3)
+decide-spec = tie.close (tie.spec alternatives-requires push-requires same-length returns predict-requires enum-known-forecast push-requires-2 enum-told
+    serve-requires same-length-2 same-length-3 returns-2 same-length-4 same-length-5 same-length-6 same-length-7 returns-3)

@@ -1,16 +1,29 @@
--- `quick::reading::read` meets its contract: the machine stops as the definition's reading ends, and the answer follows from that.
+-- `quick::reading::read` meets its contract: the machine stops as the definition's reading ends, and the answer follows from that. It begins with masks and
+-- a tally of zeros.
 use Rattle.quick.proofs.ReadingLaws.{stopped, read-is}
 use borrow.Author.Needs.{needs}
 use Rattle.quick.proofs.reading.read.Statement.{statement}
 use Rattle.quick.proofs.reading.read.Tie as tie
 
+slice-aggregate-run : tie.Need-slice-aggregate-run
+slice-aggregate-run c = search needs
+
+slice-aggregate-run-2 : tie.Need-slice-aggregate-run-2
+slice-aggregate-run-2 c = search needs
+
 run-requires : tie.Need-run-requires
 run-requires c κs = search needs
 
+slice-aggregate-finish : tie.Need-slice-aggregate-finish
+slice-aggregate-finish c = search needs
+
+slice-aggregate-finish-2 : tie.Need-slice-aggregate-finish-2
+slice-aggregate-finish-2 c = search needs
+
 finish-requires : tie.Need-finish-requires
 finish-requires c κs =
-    let at-run = c .before .before .before .before .before .before .before .before in
-    let at-entry = at-run .before .before .before .before .before .before .before .before .before in
+    let at-run = c .before .before .before .before .before .before .before .before .before .before .before .before in
+    let at-entry = at-run .before .before .before .before .before .before .before .before .before .before .before in
     stopped _ _ _ _ _ (at-entry .pre .0) (at-run .run .ensures)
 
 same-length : tie.Need-same-length
@@ -24,9 +37,10 @@ same-length-3 c = search needs
 
 returns : tie.Need-returns
 returns c =
-    let at-finish = c .before .before .before .before in
-    let at-run = at-finish .before .before .before .before .before .before .before .before .before in
+    let at-finish = c .before .before .before .before .before .before in
+    let at-run = at-finish .before .before .before .before .before .before .before .before .before .before .before .before .before in
     read-is _ _ _ _ _ (at-run .run .ensures) (at-finish .finish .ensures)
 
 pub read-spec : {M : Type 1} → statement M
-read-spec = tie.close (tie.spec run-requires finish-requires same-length same-length-2 same-length-3 returns)
+read-spec = tie.close (tie.spec slice-aggregate-run slice-aggregate-run-2 run-requires slice-aggregate-finish slice-aggregate-finish-2 finish-requires
+    same-length same-length-2 same-length-3 returns)
