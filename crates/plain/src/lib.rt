@@ -1,4 +1,4 @@
-// The plain reading: each alternative is chosen by the derivation cells.
+// The plain reading: each alternative is the lowest that serves.
 pub mod reading;
 
 pub use gate::Reading;

@@ -1,4 +1,4 @@
-// The plain reading: the gate, the cells, the machine, and what follows from how it stops.
+// The plain reading: the gate, the note as a whole, the machine, and what follows from how it stops.
 use gate::Gate;
 use gate::Reading;
 use machine::At;

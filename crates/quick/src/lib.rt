@@ -1,4 +1,4 @@
-// The quick reading: alternatives are predicted by what the lookahead cache has learned; derivation cells are worked out only where that says nothing.
+// The quick reading: alternatives are predicted by what the lookahead cache has learned; the lowest that serves is asked for only where that says nothing.
 mod reading;
 mod running;
 

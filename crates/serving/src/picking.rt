@@ -25,8 +25,8 @@ fn by_cells(
     a: usize,
 ) -> Pick
     requires { ⌜ Waiting (now tables) (now note) (now ws) space known at a ⌝ }
-    ensures { λ r. ⌜ Found (now (tables .entry)) (now (note .entry)) (now (ws .entry)) (now (ws .exit)) (at .depth) (at .place) a (at .position) (r .alternative)
-        × (r .known ≡ at .depth + 1) ⌝ }
+    ensures { λ r. ⌜ Found (now (tables .entry)) (now (note .entry)) (now (ws .entry)) (now (ws .exit)) (at .depth) (at .place) a (at .position)
+        (r .alternative) × (r .known ≡ at .depth + 1) ⌝ }
 {
     let lowest = crate::tabling::full(tables, note, ws, space, known, at, a);
     Pick {
