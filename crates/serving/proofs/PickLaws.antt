@@ -27,7 +27,7 @@ use Rattle.search.specs.declared.words.Meter.{Meter}
 use Rattle.opening.specs.inside.Marks.{Marks}
 use Rattle.opening.specs.inside.Choice.{MayChoose, Chosen}
 use Rattle.opening.specs.declared.choice.Found as search
-use Rattle.opening.proofs.OpenKept.{returns-kept, searching-on}
+use Rattle.opening.proofs.KeptLaws.{returns-kept, searching-on}
 use Rattle.serving.specs.inside.Serving.{Waiting, Entering, Found}
 use Rattle.serving.specs.inside.Aids.{tallyOf, budgetIn, highIn, Stage, SetsStand, Far, Tallied}
 use Rattle.serving.specs.inside.Aids.{MayServe, Served, ServedFar}

@@ -25,7 +25,7 @@ use Rattle.search.specs.inside.Searching.{Searching}
 use Rattle.search.specs.inside.Trials.{CameSoFar}
 use Rattle.search.proofs.WordLaws.{Agree, waits-end, holds-same, covered-same}
 use Rattle.opening.specs.inside.Marks.{Marks}
-use Rattle.opening.proofs.OpenKept.{searching-on}
+use Rattle.opening.proofs.KeptLaws.{searching-on}
 use Rattle.serving.specs.inside.Aids.{budgetIn, Fits, Stage, nothing, search, table}
 
 -- ---- what each stage says

@@ -1,6 +1,6 @@
 -- `opening::choice::asked` meets its contract: a pair that is worked out is left as it is, and any other one is worked out now.
 use borrow.Author.Needs.{needs}
-use Rattle.opening.proofs.OpenDirect.{asked-before, asked-now}
+use Rattle.opening.proofs.DirectLaws.{asked-before, asked-now}
 use Rattle.opening.proofs.choice.asked.Statement.{statement}
 use Rattle.opening.proofs.choice.asked.Tie as tie
 

@@ -2,8 +2,8 @@
 use native.Mathlib.Omega.{arith}
 use borrow.Author.Needs.{needs}
 use Rattle.search.proofs.ReplyLaws.{pair-asked, masks-asked}
-use Rattle.opening.proofs.OpenKept.{asks-on}
-use Rattle.opening.proofs.OpenDirect.{taken-only, taken-empty, taken-none, taken-single}
+use Rattle.opening.proofs.KeptLaws.{asks-on}
+use Rattle.opening.proofs.DirectLaws.{taken-only, taken-empty, taken-none, taken-single}
 use Rattle.opening.proofs.choice.direct.Statement.{statement}
 use Rattle.opening.proofs.choice.direct.Tie as tie
 

@@ -4,7 +4,7 @@ use Prim.Native.Nat.{_-_}
 use native.Mathlib.Omega.{arith}
 use borrow.Author.Needs.{needs}
 use Rattle.derivation.proofs.FirstLaws.{rule-within}
-use Rattle.opening.proofs.OpenChoice.{Trying, trying-begins, trying-descends, trying-out, trying-found, trying-on, trying-ends}
+use Rattle.opening.proofs.ChoiceLaws.{Trying, trying-begins, trying-descends, trying-out, trying-found, trying-on, trying-ends}
 use Rattle.opening.proofs.choice.lowest.Statement.{statement}
 use Rattle.opening.proofs.choice.lowest.Tie as tie
 

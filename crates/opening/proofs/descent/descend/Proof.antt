@@ -4,8 +4,8 @@ use mathlib.Core.Path.{refl}
 use native.Mathlib.Omega.{arith}
 use borrow.Author.Needs.{needs}
 use Rattle.base.proofs.Booleans.{true→T}
-use Rattle.opening.proofs.OpenDescent.{Downwards, down-begins, down-go, down-kept, down-led, down-nowhere, down-set, spread-may, spread-did}
-use Rattle.opening.proofs.OpenDescent.{down-some, down-room, frame-kept, frame-met, frame-lowest, frame-next, down-out}
+use Rattle.opening.proofs.DescentLaws.{Downwards, down-begins, down-go, down-kept, down-led, down-nowhere, down-set, spread-may, spread-did}
+use Rattle.opening.proofs.DescentLaws.{down-some, down-room, frame-kept, frame-met, frame-lowest, frame-next, down-out}
 use Rattle.opening.proofs.descent.descend.Statement.{statement}
 use Rattle.opening.proofs.descent.descend.Tie as tie
 

@@ -4,8 +4,8 @@ use mathlib.Core.Path.{refl}
 use native.Mathlib.Omega.{arith}
 use borrow.Author.Needs.{needs}
 use Rattle.base.proofs.Booleans.{true→T}
-use Rattle.opening.proofs.OpenScatter.{Spreading, spread-begins, spread-some, spread-walk, spread-kept, spread-room, spread-met, spread-lowest}
-use Rattle.opening.proofs.OpenScatter.{spread-next, spread-out}
+use Rattle.opening.proofs.ScatterLaws.{Spreading, spread-begins, spread-some, spread-walk, spread-kept, spread-room, spread-met, spread-lowest}
+use Rattle.opening.proofs.ScatterLaws.{spread-next, spread-out}
 use Rattle.opening.proofs.descent.spread.Statement.{statement}
 use Rattle.opening.proofs.descent.spread.Tie as tie
 

@@ -3,7 +3,7 @@ use Prim.Native.Nat.{_-_, _≤_}
 use native.Mathlib.Omega.{arith}
 use borrow.Author.Needs.{needs}
 use Rattle.derivation.proofs.FirstLaws.{rule-within}
-use Rattle.opening.proofs.OpenEmpty.{Looking, empty-begins, empty-found, empty-on, empty-ends}
+use Rattle.opening.proofs.EmptyLaws.{Looking, empty-begins, empty-found, empty-on, empty-ends}
 use Rattle.opening.proofs.empties.empty.Statement.{statement}
 use Rattle.opening.proofs.empties.empty.Tie as tie
 

@@ -5,7 +5,7 @@ use Rattle.base.proofs.Booleans.{clash}
 use Rattle.grammar.specs.inside.Tables.{grammarIn}
 use Rattle.derivation.specs.Runs.{marked}
 use Rattle.derivation.specs.inside.Reach.{Reach}
-use Rattle.opening.proofs.OpenLeads.{Turned, turned-none, turned-worked, turned-settled, may-go, may-lack, lacks-called, led-there, led-out}
+use Rattle.opening.proofs.LeadLaws.{Turned, turned-none, turned-worked, turned-settled, may-go, may-lack, lacks-called, led-there, led-out}
 use Rattle.opening.proofs.leading.lead.Statement.{statement}
 use Rattle.opening.proofs.leading.lead.Tie as tie
 

@@ -8,8 +8,8 @@ use Rattle.grammar.specs.inside.Tables.{grammarIn}
 use Rattle.positions.specs.inside.Positions.{member}
 use Rattle.derivation.specs.Runs.{marked}
 use Rattle.derivation.specs.inside.Reach.{Reach}
-use Rattle.opening.proofs.OpenLeads.{Turned, turned-none, turned-worked, turned-settled, turned-walked, may-walk, may-want, wants-called}
-use Rattle.opening.proofs.OpenLeads.{worked-out, scattered-there, scattered-out}
+use Rattle.opening.proofs.LeadLaws.{Turned, turned-none, turned-worked, turned-settled, turned-walked, may-walk, may-want, wants-called}
+use Rattle.opening.proofs.LeadLaws.{worked-out, scattered-there, scattered-out}
 use Rattle.opening.proofs.leading.spread.Statement.{statement}
 use Rattle.opening.proofs.leading.spread.Tie as tie
 

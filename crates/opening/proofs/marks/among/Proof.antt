@@ -1,7 +1,7 @@
 -- `opening::marks::among` meets its contract: a mark is looked up only of a frame that has one, and only if it is a position.
 use native.Mathlib.Omega.{arith}
 use borrow.Author.Needs.{needs}
-use Rattle.opening.proofs.OpenMarks.{among-none, among-far, among-has}
+use Rattle.opening.proofs.MarkLaws.{among-none, among-far, among-has}
 use Rattle.opening.proofs.marks.among.Statement.{statement}
 use Rattle.opening.proofs.marks.among.Tie as tie
 

@@ -1,7 +1,7 @@
 -- `opening::marks::meets` meets its contract: a mark that stands is compared, and one that does not is written.
 use native.Mathlib.Omega.{arith}
 use borrow.Author.Needs.{needs}
-use Rattle.opening.proofs.OpenMarks.{meets-known, meets-new}
+use Rattle.opening.proofs.MarkLaws.{meets-known, meets-new}
 use Rattle.opening.proofs.marks.meets.Statement.{statement}
 use Rattle.opening.proofs.marks.meets.Tie as tie
 

@@ -39,7 +39,7 @@ use Rattle.filtering.proofs.SingleLaws.{serves-by}
 use Rattle.machine.specs.inside.Choice.{orZero}
 use Rattle.machine.proofs.AlternativeLaws.{some-of}
 use Rattle.opening.specs.inside.Choice.{vanishesIn, emptyOf}
-use Rattle.opening.proofs.OpenSeek.{Seeking, seeking-begins, seeking-found, seeking-on, seeking-ends}
+use Rattle.opening.proofs.SeekLaws.{Seeking, seeking-begins, seeking-found, seeking-on, seeking-ends}
 
 -- ---- the loop
 module _ (t : List ℕ) (set a : ℕ) where

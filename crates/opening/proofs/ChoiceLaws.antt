@@ -27,8 +27,8 @@ use Rattle.opening.specs.inside.Marks.{Marks}
 use Rattle.opening.specs.inside.Stacks.{StackKept}
 use Rattle.opening.specs.inside.Descent.{MayDescend, Descended}
 use Rattle.opening.specs.inside.Choice.{MayChoose, Chosen}
-use Rattle.opening.proofs.OpenKept.{returns-kept, stack-begins, stack-then, stack-on}
-use Rattle.opening.proofs.OpenSeek.{Seeking, seeking-begins, seeking-found, seeking-on, seeking-ends}
+use Rattle.opening.proofs.KeptLaws.{returns-kept, stack-begins, stack-then, stack-on}
+use Rattle.opening.proofs.SeekLaws.{Seeking, seeking-begins, seeking-found, seeking-on, seeking-ends}
 
 module _ (t w ms ws : List ℕ) (base d known a i : ℕ) (m : Meter) where
   -- the first place of every alternative is reached, over the stack

@@ -22,7 +22,7 @@ use Rattle.search.specs.declared.words.Meter.{Meter}
 use Rattle.search.specs.declared.ways.Way.the-variants.{Needs}
 use Rattle.opening.specs.declared.leading.Course.{Course}
 use Rattle.opening.specs.declared.leading.Scatter.{Scatter}
-use Rattle.opening.proofs.OpenKept.{same-words, searching-on}
+use Rattle.opening.proofs.KeptLaws.{same-words, searching-on}
 
 -- after some turns from words ws₀ and meter m: pairs were worked out, and where R holds, that came so far as the meter says
 pub record Turned (t w ms ws₀ : List ℕ) (R : Type 0) (m : Meter) (ws : List ℕ) (at : Meter) : Type 0 where

@@ -25,10 +25,10 @@ use Rattle.search.specs.declared.words.Size.{Size}
 use Rattle.search.specs.declared.words.Meter.{Meter}
 use Rattle.opening.specs.declared.leading.Scatter.{Scatter}
 use Rattle.opening.specs.declared.descent.Descent.{Descent}
-use Rattle.opening.proofs.OpenKept.{returns-kept}
-use Rattle.opening.proofs.OpenMarks.{holds-T, kept-worked}
-use Rattle.opening.proofs.OpenFrames.{open-some, returns-top, opens-lowest, next-place, reached-below, reached-top}
-use Rattle.opening.proofs.OpenDescent.{Going, going-none, going-worked, going-searching, stack-order, stack-closed}
+use Rattle.opening.proofs.KeptLaws.{returns-kept}
+use Rattle.opening.proofs.MarkLaws.{holds-T, kept-worked}
+use Rattle.opening.proofs.FrameLaws.{open-some, returns-top, opens-lowest, next-place, reached-below, reached-top}
+use Rattle.opening.proofs.DescentLaws.{Going, going-none, going-worked, going-searching, stack-order, stack-closed}
 
 -- the stack S opens from some member of x, and is reached at all of them
 abbrev pub OpensAmong : List ℕ → List ℕ → List ℕ → List ℕ → Type 0

@@ -36,10 +36,10 @@ use Rattle.search.specs.declared.words.Size.{Size}
 use Rattle.search.specs.declared.words.Meter.{Meter}
 use Rattle.opening.specs.declared.leading.Course.{Course}
 use Rattle.opening.specs.declared.descent.Descent.{Descent}
-use Rattle.opening.proofs.OpenKept.{searching-on, returns-kept, stack-begins, stack-then, stack-on}
-use Rattle.opening.proofs.OpenMarks.{meets-T, mark-there, mark-other, mark-known, kept-worked, kept-mark, came-mark}
-use Rattle.opening.proofs.OpenFrames.{open-some, returns-top, opens-lowest, next-place, opens-single, walks-owner}
-use Rattle.opening.proofs.OpenFrames.{reached-on, reached-below, reached-top}
+use Rattle.opening.proofs.KeptLaws.{searching-on, returns-kept, stack-begins, stack-then, stack-on}
+use Rattle.opening.proofs.MarkLaws.{meets-T, mark-there, mark-other, mark-known, kept-worked, kept-mark, came-mark}
+use Rattle.opening.proofs.FrameLaws.{open-some, returns-top, opens-lowest, next-place, opens-single, walks-owner}
+use Rattle.opening.proofs.FrameLaws.{reached-on, reached-below, reached-top}
 
 -- ---- what every way down keeps
 -- from words ws₀ and meter m: the frames, and where R holds, the search came so far as the meter says

@@ -37,8 +37,8 @@ use Rattle.search.specs.inside.Searching.{stateOf, MayAsk}
 use Rattle.search.specs.inside.Trials.{Settled}
 use Rattle.opening.specs.inside.Choice.{emptyOf, AskedFor, Taken}
 use Rattle.search.proofs.WordLaws.{done-here}
-use Rattle.opening.proofs.OpenKept.{same-words}
-use Rattle.opening.proofs.OpenEmpty.{empty-lowest}
+use Rattle.opening.proofs.KeptLaws.{same-words}
+use Rattle.opening.proofs.EmptyLaws.{empty-lowest}
 
 -- ---- the only alternative
 pub only-lowest : (t : List ℕ) → Ready t → (w S : List ℕ) (a i : ℕ) → length (alternatives (grammarIn t) a) < 2 → (b : ℕ) → Serves (grammarIn t) w S a i b

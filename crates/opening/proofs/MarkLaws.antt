@@ -19,7 +19,7 @@ use Rattle.search.specs.inside.Trials.{CameSoFar}
 use Rattle.opening.specs.inside.Marks.{markAt, meetsOf, markIfNew, holdsOf}
 use Rattle.opening.specs.inside.Stacks.{StackKept}
 use Rattle.search.proofs.WordLaws.{Agree, waits-end, holds-same, covered-same}
-use Rattle.opening.proofs.OpenKept.{returns-kept}
+use Rattle.opening.proofs.KeptLaws.{returns-kept}
 
 module _ (ws : List ℕ) (base known k : ℕ) where
   -- ---- as the code reads them
