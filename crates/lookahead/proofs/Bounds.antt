@@ -2,22 +2,20 @@
 use mathlib.Core.Path.{_≡_}
 use mathlib.Core.Logic.{_⊎_, inl, inr}
 use mathlib.Core.Option.{some}
-use mathlib.Core.List.{List, [], _∷_}
-use Prim.Native.Nat.{ℕ, zero, suc, _+_, _≤_, _<_}
+use Prim.Native.Nat.{ℕ, suc, _≤_, _<_}
 use native.Mathlib.Omega.{arith}
 use lib.Dec.{T}
-use lib.ListN.{length, getD}
+use lib.ListN.{length}
 use Rattle.base.proofs.Booleans.{clash}
 use Rattle.grammar.specs.declared.Symbol.{Symbol}
 use Rattle.grammar.specs.declared.Symbol.the-variants.{Token, Nonterminal, End}
 use Rattle.grammar.specs.Limits.{maxProductions, maxPlaces, endPlace, endMark, nobody}
-use Rattle.base.specs.Lists.{AllOf}
-use Rattle.grammar.specs.Decode.{Rules, Alternatives, Legal}
-use Rattle.grammar.specs.Grammar.{Grammar, facing, owner, admits, alternatives, first, sizeEach, sizeAll, startsAll, compile, Limited}
+use Rattle.grammar.specs.Decode.{Rules, Legal}
+use Rattle.grammar.specs.Grammar.{Grammar, facing, owner, admits, alternatives, first, sizeAll, compile, Limited}
 use Rattle.grammar.proofs.OrderedLaws.{compile-ordered}
 use Rattle.grammar.proofs.PlaceLaws.{Faces, compile-faces, compile-within, compile-end-only}
 use Rattle.grammar.proofs.OwnerLaws.{compile-unowned, compile-first, compile-next}
-use Rattle.derivation.proofs.CountLaws.{length-startsEach}
+use Rattle.derivation.proofs.CountLaws.{compile-few}
 
 pub record Bounded (g : Grammar) : Type 0 where
   pub small : g .size ≤ maxPlaces
@@ -32,13 +30,6 @@ pub record Bounded (g : Grammar) : Type 0 where
   pub few : (a : ℕ) → length (alternatives g a) ≤ maxProductions
 
 -- ---- compiled rules
-starts-few : (t n o : ℕ) (l : List (List (List Symbol))) → AllOf (Alternatives t n) l → (a : ℕ)
-    → length (getD (startsAll o l) a []) ≤ maxProductions
-unfolding startsAll
-starts-few t n o [] h a = omega arith
-starts-few t n o (x ∷ l) h zero = let z = h .0 .1 in omega (arith, length-startsEach o x)
-starts-few t n o (x ∷ l) h (suc a) = starts-few t n (o + sizeEach x) l (h .1) a
-
 module _ (r : Rules) (limits : Limited r) where
   compile-named : (p a : ℕ) → facing (compile r) p ≡ Nonterminal a → a < nobody
   compile-named p a e = go (compile-faces r limits p) e
@@ -57,10 +48,6 @@ module _ (r : Rules) (limits : Limited r) where
       go (Faces.mark l q) e = inr l
       go (Faces.legal l q) e = inl l
 
-  compile-few : (a : ℕ) → length (alternatives (compile r) a) ≤ maxProductions
-  unfolding alternatives compile
-  compile-few a = starts-few (r .kinds) (length (r .productions)) 0 (r .productions) (limits .each) a
-
   -- every grammar that is read from bytes
   pub compile-bounded : Bounded (compile r)
   unfolding compile
@@ -74,5 +61,5 @@ module _ (r : Rules) (limits : Limited r) where
     end-only = compile-end-only r limits;
     past = compile-ordered r limits .end-past;
     unowned = compile-unowned r limits;
-    few = compile-few;
+    few = compile-few r limits;
   }

@@ -1,17 +1,11 @@
 -- A pair is tried: alternatives are few, so their ends may be added; and one that goes on from the several ends of a pair. The loop is in AttemptLaws.
 use mathlib.Core.Path.{_≡_, sym, subst}
-use mathlib.Core.List.{List, [], _∷_}
-use Prim.Native.Nat.{ℕ, zero, suc, _+_, _-_, _≤_, _<_}
+use mathlib.Core.List.{List}
+use Prim.Native.Nat.{ℕ, _+_, _-_, _<_}
 use native.Mathlib.Omega.{arith}
-use lib.ListN.{length, getD}
-use Rattle.base.specs.Lists.{AllOf}
-use Rattle.grammar.specs.declared.Symbol.{Symbol}
-use Rattle.grammar.specs.Limits.{maxProductions}
-use Rattle.grammar.specs.Decode.{Alternatives}
-use Rattle.grammar.specs.Grammar.{alternatives, startsAll, sizeEach, compile}
 use Rattle.grammar.specs.inside.Tables.{grammarIn, nonterminalsIn, ruleAt}
 use Rattle.derivation.specs.inside.Ready.{Ready}
-use Rattle.derivation.proofs.CountLaws.{length-startsEach, count-is}
+use Rattle.derivation.proofs.CountLaws.{alternatives-few, count-is}
 use Rattle.search.specs.inside.Searching.{Given, Searching, Sized, setOf}
 use Rattle.search.specs.inside.Ways.{GoesOn, Went}
 use Rattle.search.specs.inside.Walks.{MayWalk, DidWalk, WalkedTo, EndsIn}
@@ -27,18 +21,7 @@ use Rattle.search.specs.declared.trying.Tried.the-variants as tried
 use Rattle.search.proofs.ReplyLaws.{token-few}
 
 -- ---- alternatives are few
-starts-few : (t n o : ℕ) (l : List (List (List Symbol))) → AllOf (Alternatives t n) l → (a : ℕ) → length (getD (startsAll o l) a []) ≤ maxProductions
-unfolding startsAll
-starts-few t n o [] h a = omega arith
-starts-few t n o (x ∷ l) h zero = let z = h .0 .1 in omega (arith, length-startsEach o x)
-starts-few t n o (x ∷ l) h (suc a) = starts-few t n (o + sizeEach x) l (h .1) a
-
-pub alternatives-few : (t : List ℕ) → Ready t → (a : ℕ) → length (alternatives (grammarIn t) a) ≤ maxProductions
-unfolding alternatives compile
-alternatives-few t h a =
-    rw (h .says) (starts-few (h .rules .kinds) (length (h .rules .productions)) 0 (h .rules .productions) (h .limited .each) a)
-
--- the number of an alternative, counted from 1
+-- the number of one, counted from 1
 pub number-small : {t : List ℕ} {a s e k : ℕ} → Ready t → a < nonterminalsIn t → s ≡ ruleAt t a → e ≡ ruleAt t (a + 1) → k < e → k + 1 - s < 32
 number-small {t} {a} h l p q m = omega (arith, alternatives-few t h a, count-is t h a l p q)
 
