@@ -2,7 +2,7 @@
 use mathlib.Core.Path.{_≡_, refl, sym}
 use mathlib.Core.Logic.{_⊎_, inl, inr}
 use mathlib.Core.Option.{some}
-use mathlib.Core.List.{List, [], _∷_, _++_}
+use mathlib.Core.List.{List, [], _∷_}
 use Prim.Native.Nat.{ℕ, suc, _≤_, _<_}
 use native.Mathlib.Omega.{arith}
 use lib.Dec.{T}
@@ -35,7 +35,8 @@ pub get-note : (w : List ℕ) (i : ℕ) → i < length w → getElem? (marked w)
 get-note w i l = get-append w (endMark ∷ []) i l
 
 module _ (t : List ℕ) (h : Ready t) (w : List ℕ) where
-  token-inside : (p k i : ℕ) {u : ℕ} → p < grammarIn t .size → facing (grammarIn t) p ≡ Token k → getElem? (marked w) i ≡ some u
+  -- a token that a production reads stands in the note
+  pub token-inside : (p k i : ℕ) {u : ℕ} → p < grammarIn t .size → facing (grammarIn t) p ≡ Token k → getElem? (marked w) i ≡ some u
       → T (admits (grammarIn t) k u)
       → i < length w
   token-inside p k i {u} l e d a = go (marked-get w i u d)

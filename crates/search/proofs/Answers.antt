@@ -20,7 +20,7 @@ use Rattle.positions.specs.inside.Positions.{positionCount, setWords, emptySet,
 use Rattle.positions.proofs.SetLaws.{member-empty, member-with, member-union, length-union}
 use Rattle.derivation.specs.Runs.{marked}
 use Rattle.derivation.specs.inside.Ready.{Ready}
-use Rattle.derivation.proofs.MarkedCells.{length-marked, get-note}
+use Rattle.derivation.proofs.MarkedCells.{length-marked, get-note, token-inside}
 use Rattle.derivation.proofs.ReadyLaws.{ready-ordered}
 use Rattle.first_follow.specs.inside.Masks.{Masks}
 use Rattle.first_follow.specs.inside.Words.{masksIn}
@@ -28,7 +28,6 @@ use Rattle.filtering.specs.inside.Beginnings.{tokenAt}
 use Rattle.filtering.specs.inside.Filtered.{PairEnds}
 use Rattle.filtering.specs.inside.Cover.{Asked}
 use Rattle.filtering.specs.inside.Known as known
-use Rattle.filtering.proofs.InsideLaws.{token-inside}
 use Rattle.filtering.proofs.KnownLaws.{known-right}
 use Rattle.filtering.proofs.StartLaws.{admits-at}
 use Rattle.cells.specs.inside.Matches.{matchesAt}
@@ -107,8 +106,8 @@ module _ {t : List ℕ} (h : Ready t) (w : List ℕ) (p k i : ℕ) (place : p < 
 
   pub token-other : {b : Bool} → b ≡ matchesAt (grammarIn t) w i k → b ≡ false → ¬ T (admits (grammarIn t) k (tokenAt (marked w) i))
   token-other q x a =
-      let m = token-inside t h w p k i place e l a in
       let d = get-getD (marked w) i endMark (omega (arith, length-marked w)) in
+      let m = token-inside t h w p k i place e d a in
       false→¬T (matchesAt (grammarIn t) w i k) (sym q ∙ x) (matches-in (grammarIn t) w i k (sym (get-note w i m) ∙ d) a)
 
 -- ---- sets of five words

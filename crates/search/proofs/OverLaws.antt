@@ -19,7 +19,7 @@ use Rattle.positions.specs.inside.Positions.{positionCount, setWords, emptySet,
 use Rattle.positions.specs.inside.Words.{setAt}
 use Rattle.positions.proofs.SetLaws.{length-with, length-union}
 use Rattle.derivation.specs.Runs.{marked}
-use Rattle.derivation.proofs.MarkedCells.{length-marked}
+use Rattle.derivation.proofs.MarkedCells.{length-marked, token-inside}
 use Rattle.derivation.proofs.ReadyLaws.{ready-ordered}
 use Rattle.first_follow.specs.inside.Words.{masksIn}
 use Rattle.filtering.specs.inside.Beginnings.{tokenAt}
@@ -27,9 +27,8 @@ use Rattle.filtering.specs.inside.Filtered.{PairEnds, Over, LeadsBelow, Leads}
 use Rattle.filtering.specs.inside.Cover.{here, on, Asked, Covered}
 use Rattle.filtering.proofs.AloneLaws.{alone}
 use Rattle.filtering.proofs.EndLaws.{over-token}
-use Rattle.filtering.proofs.InsideLaws.{token-inside, pair-inside}
+use Rattle.filtering.proofs.InsideLaws.{pair-inside}
 use Rattle.filtering.proofs.LeadLaws.{leads-token, leads-other, leads-call, leads-begin, leads-pass, leads-add, leads-end}
-use Rattle.filtering.proofs.StartLaws.{admits-at}
 use Rattle.filtering.proofs.WalkLaws.{ends-high}
 use Rattle.cells.specs.inside.Matches.{matchesAt}
 use Rattle.cells.proofs.ThroughLaws.{next-behind}
@@ -120,8 +119,7 @@ module _ {t w ms : List ℕ} {p : ℕ} {x : List ℕ} {m : ℕ} {y : List ℕ} (
 -- where a symbol of the grammar leads lies within the note
 pub over-inside : {t w ms ws : List ℕ} (s : Searching t w ms ws) (p j : ℕ) {m : ℕ} → p < grammarIn t .size → j ≤ length w
     → Over (grammarIn t) (masksIn ms) (marked w) p j m → m ≤ length w
-over-inside {t} {w} s p j l i (Over.token {k = k} e d a) =
-    let h = token-inside t (s .given .ready) w p k j l e i (admits-at (grammarIn t) (marked w) j k d a) in omega arith
+over-inside {t} {w} s p j l i (Over.token {k = k} e d a) = let h = token-inside t (s .given .ready) w p k j l e d a in omega arith
 over-inside {t} {w} s p j l i (Over.call {a = a} {m = m} e h) = pair-inside t (s .given .ready) w a j m i h
 
 -- a note is shorter than what a set can hold
