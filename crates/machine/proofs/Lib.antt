@@ -2,7 +2,8 @@
 pub mod GoodLaws
 pub mod PushLaws
 pub mod ServingLaws
-pub mod ChoiceLoops
+pub mod KeepLaws
+pub mod SeekLaws
 pub mod AlternativeLaws
 pub mod MoveLaws
 pub mod AdvanceLaws

@@ -1,6 +1,6 @@
 -- The lowest alternative that serves, by going down the stack for each: the alternatives before the next one don't serve, and whatever was worked out for
 -- them left the stack as it was.
-use mathlib.Core.Path.{_≡_, refl, ap}
+use mathlib.Core.Path.{_≡_, refl}
 use mathlib.Core.Bool.{Bool, true, false, cond}
 use mathlib.Core.Option.{some}
 use mathlib.Core.List.{List, _∷_}
@@ -18,7 +18,6 @@ use Rattle.derivation.proofs.FirstLaws.{first-at, first-in}
 use Rattle.derivation.proofs.ReadyLaws.{ready-ordered}
 use Rattle.filtering.specs.inside.OpenStacks.{Reached}
 use Rattle.filtering.proofs.OpensLaws.{opens-is}
-use Rattle.machine.specs.inside.Choice.{orZero}
 use Rattle.search.specs.declared.words.Meter.{Meter}
 use Rattle.search.specs.declared.words.Size.{Size}
 use Rattle.opening.specs.declared.descent.Descent.{Descent}
@@ -28,7 +27,7 @@ use Rattle.opening.specs.inside.Stacks.{StackKept}
 use Rattle.opening.specs.inside.Descent.{MayDescend, Descended}
 use Rattle.opening.specs.inside.Choice.{MayChoose, Chosen}
 use Rattle.opening.proofs.KeptLaws.{returns-kept, stack-begins, stack-then, stack-on}
-use Rattle.opening.proofs.SeekLaws.{Seeking, seeking-begins, seeking-found, seeking-on, seeking-ends}
+use Rattle.machine.proofs.SeekLaws.{Seeking, seeking-begins, seeking-found, seeking-on, seeking-ends}
 
 module _ (t w ms ws : List ℕ) (base d known a i : ℕ) (m : Meter) where
   -- the first place of every alternative is reached, over the stack
@@ -105,9 +104,9 @@ module _ (t w ms ws : List ℕ) (base d known a i : ℕ) (m : Meter) where
               record {
                 kept = later;
                 spent = omega (arith, x .spent, y .spent);
-                chosen = λ _. ap orZero
-                    (seeking-found t a (serves? (grammarIn t) (marked w) (returnsOf ws base d) i) (h .stacked .searching .given .ready) (h .pair .0) p q k
-                    (x .seeking) (x .up) l e told z);
+                chosen = λ _.
+                    seeking-found t a (serves? (grammarIn t) (marked w) (returnsOf ws base d) i) (h .stacked .searching .given .ready) (h .pair .0) p q k
+                    (x .seeking) (x .up) l e told z;
                 few = rw c (few (r .single));
                 marks = λ _. rw c (marks (r .single) (λ v. y .all-marked o (true→T (r .yes) z) v));
                 far = λ _. came;
@@ -141,7 +140,7 @@ module _ (t w ms ws : List ℕ) (base d known a i : ℕ) (m : Meter) where
         record {
           kept = x .kept;
           spent = x .spent;
-          chosen = λ _. ap orZero (seeking-ends t a (serves? (grammarIn t) (marked w) (returnsOf ws base d) i) from to k (x .seeking) l);
+          chosen = λ _. seeking-ends t a (serves? (grammarIn t) (marked w) (returnsOf ws base d) i) from to k (x .seeking) l;
           few = h .few;
           marks = λ _. x .kept .marks;
           far = λ _. x .far;

@@ -39,7 +39,7 @@ use Rattle.filtering.proofs.SingleLaws.{serves-by}
 use Rattle.machine.specs.inside.Choice.{orZero}
 use Rattle.machine.proofs.AlternativeLaws.{some-of}
 use Rattle.opening.specs.inside.Choice.{vanishesIn, emptyOf}
-use Rattle.opening.proofs.SeekLaws.{Seeking, seeking-begins, seeking-found, seeking-on, seeking-ends}
+use Rattle.machine.proofs.SeekLaws.{Seeking, seeking-begins, seeking-found, seeking-on, seeking-ends}
 
 -- ---- the loop
 module _ (t : List ℕ) (set a : ℕ) where
@@ -56,7 +56,7 @@ module _ (t : List ℕ) (set a : ℕ) where
         (e : b ≡ passes false (testBit set) (suffix (grammarIn t) f)) where
       pub empty-found : b ≡ true → k + 1 - from ≡ emptyOf (grammarIn t) set a
       unfolding Looking vanishesIn emptyOf
-      empty-found y = ap orZero (seeking-found t a (vanishesIn (grammarIn t) set) h named p q k x l m d e y)
+      empty-found y = seeking-found t a (vanishesIn (grammarIn t) set) h named p q k x l m d e y
 
       pub empty-on : b ≡ false → Looking from to (k + 1)
       unfolding Looking vanishesIn
@@ -64,7 +64,7 @@ module _ (t : List ℕ) (set a : ℕ) where
 
   pub empty-ends : (from to k : ℕ) → Looking from to k → to ≤ k → 0 ≡ emptyOf (grammarIn t) set a
   unfolding Looking emptyOf
-  empty-ends from to k x l = ap orZero (seeking-ends t a (vanishesIn (grammarIn t) set) from to k x l)
+  empty-ends from to k x l = seeking-ends t a (vanishesIn (grammarIn t) set) from to k x l
 
 -- ---- what derives the empty row
 -- two sets that agree let the same lists pass

@@ -1,16 +1,19 @@
 -- `machine::choice::lowest` meets its contract: the alternatives are tried from the first on, and the search goes on as long as none can end in s.
+use mathlib.Core.Path.{refl}
 use Prim.Native.Nat.{_-_, _≤_}
 use native.Mathlib.Omega.{arith}
 use borrow.Author.Needs.{needs}
+use Rattle.grammar.specs.inside.Tables.{grammarIn}
 use Rattle.cells.proofs.Spots.{spot-in}
 use Rattle.derivation.proofs.FirstLaws.{rule-within, first-in}
+use Rattle.machine.specs.inside.Choice.{endsIn, lowestIn}
 use Rattle.machine.proofs.CallLaws.{lent-of}
-use Rattle.machine.proofs.ChoiceLoops.{Seeking, seeking-begins, seeking-found, seeking-on, seeking-ends, sized}
+use Rattle.machine.proofs.SeekLaws.{Seeking, seeking-begins, seeking-found, seeking-on, seeking-ends, cell-ends}
 use Rattle.machine.proofs.choice.lowest.Statement.{statement}
 use Rattle.machine.proofs.choice.lowest.Tie as tie
 
 abbrev Inv-loop : tie.InvT-loop
-Inv-loop tables ws a i s places start end k₀ k = (start ≤ k) × Seeking tables ws a i (s .words) start end k
+Inv-loop tables ws a i s places start end k₀ k = (start ≤ k) × Seeking tables a (endsIn (grammarIn tables .size) ws i (s .words)) start end k
 
 abbrev μ-loop : tie.MeasureT-loop
 μ-loop tables ws a i s places start end k₀ k = end - k
@@ -28,11 +31,12 @@ rule-at-requires-2 : tie.Need-rule-at-requires-2 Inv-loop μ-loop
 rule-at-requires-2 c κs = search needs
 
 loop-holds : tie.Need-loop-holds Inv-loop μ-loop
+unfolding endsIn
 loop-holds c =
     let at-entry = c .before .before .before .before .before in
     let at-rule-at = c .before in (
       omega arith,
-      seeking-begins _ _ _ _ _ (at-entry .pre .ready) (at-entry .pre .named) (at-rule-at .rule-at .ensures) (c .rule-at2 .ensures),
+      seeking-begins _ _ _ (at-entry .pre .ready) (at-entry .pre .named) (at-rule-at .rule-at .ensures) (c .rule-at2 .ensures) refl,
     )
 
 first-place-requires : tie.Need-first-place-requires Inv-loop μ-loop
@@ -75,6 +79,7 @@ sub-result : tie.Need-sub-result Inv-loop μ-loop
 sub-result c = search needs
 
 returns : tie.Need-returns Inv-loop μ-loop
+unfolding lowestIn
 returns c =
     let at-entry = c .before .before .before .before .before .before .before .before .before .before .before in
     let at-rule-at = c .before .before .before .before .before .before .before in
@@ -84,9 +89,9 @@ returns c =
     let at-size = c .before .before .before .before .before .before .before .before in
     let at-cell = c .before .before in
     let at-meets = c .before in
-    seeking-found _ _ _ _ _ (at-entry .pre .ready) (at-entry .pre .named) (at-rule-at .rule-at .ensures) (at-rule-at2 .rule-at2 .ensures) _
+    seeking-found _ _ _ (at-entry .pre .ready) (at-entry .pre .named) (at-rule-at .rule-at .ensures) (at-rule-at2 .rule-at2 .ensures) _
     (at-loop .loop .inv .1) (at-loop .loop .inv .0) (omega arith) (at-first-place .first-place .ensures)
-    (sized (at-size .size .ensures) _ _ _ (at-cell .cell .ensures)) (at-meets .meets .ensures) (c .if1 .taken)
+    (cell-ends (at-size .size .ensures) _ _ _ _ (at-cell .cell .ensures) (at-meets .meets .ensures)) (c .if1 .taken)
 
 add-k : tie.Need-add-k Inv-loop μ-loop
 add-k c = search needs
@@ -105,15 +110,16 @@ loop-again c =
     let at-cell = c .before .before in
     let at-meets = c .before in (
       omega (arith, at-loop .loop .inv .0),
-      seeking-on _ _ _ _ _ (at-entry .pre .ready) (at-entry .pre .named) (at-rule-at .rule-at .ensures) (at-rule-at2 .rule-at2 .ensures) _
+      seeking-on _ _ _ (at-entry .pre .ready) (at-entry .pre .named) (at-rule-at .rule-at .ensures) (at-rule-at2 .rule-at2 .ensures) _
           (at-loop .loop .inv .1) (at-loop .loop .inv .0) (omega arith) (at-first-place .first-place .ensures)
-          (sized (at-size .size .ensures) _ _ _ (at-cell .cell .ensures)) (at-meets .meets .ensures) (c .if1 .left),
+          (cell-ends (at-size .size .ensures) _ _ _ _ (at-cell .cell .ensures) (at-meets .meets .ensures)) (c .if1 .left),
     )
 
 returns-2 : tie.Need-returns-2 Inv-loop μ-loop
+unfolding lowestIn
 returns-2 c =
     let at-loop = c .before in
-    seeking-ends _ _ _ _ _ _ _ _ (at-loop .loop .inv .1) (omega arith)
+    seeking-ends _ _ _ _ _ _ (at-loop .loop .inv .1) (omega arith)
 
 pub lowest-spec : {M : Type 1} → statement M
 lowest-spec =

@@ -5,7 +5,7 @@ use Prim.Native.Nat.{_-_}
 use native.Mathlib.Omega.{arith}
 use borrow.Author.Needs.{needs}
 use Rattle.cells.proofs.Spots.{spot-in}
-use Rattle.machine.proofs.ChoiceLoops.{Keeping, keeping-begins, keeping-with, keeping-same, keeping-ends}
+use Rattle.machine.proofs.KeepLaws.{Keeping, keeping-begins, keeping-with, keeping-same, keeping-ends}
 use Rattle.machine.proofs.choice.serving.Statement.{statement}
 use Rattle.machine.proofs.choice.serving.Tie as tie
 

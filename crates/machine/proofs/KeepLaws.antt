@@ -1,31 +1,23 @@
--- The two loops of a choice: over the members of a set, and over the alternatives of a nonterminal.
+-- The loop over the members of a set that keeps those from which a place leads into another set.
 use mathlib.Core.Path.{_≡_, refl, sym, ap, _∙_}
 use mathlib.Core.Bool.{Bool, true, false, _&&_, _||_}
 use mathlib.Core.Logic.{inl, inr}
-use mathlib.Core.Option.{none}
 use mathlib.Core.List.{List}
-use Prim.Native.Nat.{ℕ, suc, _+_, _-_, _≤_, _<_}
+use Prim.Native.Nat.{ℕ, _+_, _≤_, _<_}
 use native.Mathlib.Omega.{arith}
 use native.Mathlib.Decide.{decLt}
 use lib.Dec.{eqb}
-use lib.ListN.{length, getD}
-use lib.Seq.{length-slice}
+use lib.ListN.{length}
 use borrow.Author.Tests.{eq-eqb, ne-eqb}
-use Rattle.base.specs.Search.{lowestFrom}
 use Rattle.base.proofs.Bits.{same?}
 use Rattle.base.proofs.Booleans.{or-none, or-true}
-use Rattle.base.proofs.Lowest.{lowest-none, lowest-hit, lowest-miss}
-use Rattle.grammar.specs.Grammar.{alternatives, first}
-use Rattle.grammar.specs.inside.Tables.{grammarIn, nonterminalsIn, ruleAt}
 use Rattle.positions.specs.inside.Positions.{positionCount, emptySet, member, withOf, meetsOf, NextOf}
 use Rattle.positions.specs.inside.Words.{setAt}
 use Rattle.positions.proofs.SetLaws.{member-empty, member-with, length-with}
-use Rattle.derivation.specs.inside.Ready.{Ready}
 use Rattle.cells.specs.inside.Chart.{spot}
-use Rattle.derivation.proofs.FirstLaws.{rule-within, rules-are, first-at}
-use Rattle.machine.specs.inside.Choice.{Leading, endsIn, orZero, lowestIn}
+use Rattle.machine.specs.inside.Choice.{Leading}
 
--- ---- over the members of `ends`: m is the next one, r what was kept before it
+-- m is the next member of `ends`, r what was kept before it
 module _ (P : ℕ) (ws : List ℕ) (n : ℕ) (ends : List ℕ) (q : ℕ) (rest : List ℕ) where
   pub record Keeping (m : ℕ) (r : List ℕ) : Type 0 where
     pub below : (k : ℕ) → k ≤ n → k < m → member r k ≡ (member ends k && meetsOf (setAt ws (spot P q k)) rest)
@@ -88,47 +80,3 @@ module _ (P : ℕ) (ws : List ℕ) (n : ℕ) (ends : List ℕ) (q : ℕ) (rest :
 
     pub keeping-same : b ≡ false → Keeping m′ r
     keeping-same t = next r (x .long) (λ k i z. refl) (x .none m (omega arith) l ∙ sym t)
-
--- ---- over the alternatives: k is the next one, of those between `from` and `to` in the tables, and the search goes on there
-module _ (t ws : List ℕ) (a i : ℕ) (s : List ℕ) where
-  abbrev test : ℕ → Bool
-  test b = endsIn (grammarIn t .size) ws i s (first (grammarIn t) a b)
-
-  pub Seeking : ℕ → ℕ → ℕ → Type 0
-  Seeking from to k = lowestFrom test (suc (k - from)) (to - k) ≡ lowestFrom test 0 (suc (length (alternatives (grammarIn t) a)))
-
-  module _ (h : Ready t) (named : a < nonterminalsIn t) {from to : ℕ} (p : from ≡ ruleAt t a) (q : to ≡ ruleAt t (a + 1)) where
-    pub seeking-begins : Seeking from to from
-    unfolding Seeking endsIn lowestFrom
-    seeking-begins =
-        let n : length (alternatives (grammarIn t) a) ≡ to - from
-        = ap length (rules-are t h a named p q) ∙ length-slice from to t (rule-within t h a named p q) in
-        let z : from - from ≡ 0 = omega arith in
-        rw (n, z)
-
-    module _ (k : ℕ) {f : ℕ} {u : List ℕ} {b : Bool} (x : Seeking from to k) (l : from ≤ k) (m : k < to) (d : f ≡ getD t k 0)
-        (c : u ≡ setAt ws (spot (grammarIn t .size) f i)) (e : b ≡ meetsOf u s) where
-      tested : b ≡ test (suc (k - from))
-      unfolding endsIn
-      tested = rw (first-at t h a named p q k l m d, ← c) e
-
-      pub seeking-found : b ≡ true → k + 1 - from ≡ lowestIn t ws a i s
-      unfolding Seeking lowestIn
-      seeking-found y =
-          let z : k + 1 - from ≡ suc (k - from) = omega arith in
-          z ∙ ap orZero (lowest-hit test (suc (k - from)) (to - k) x (omega arith) (sym tested ∙ y))
-
-      pub seeking-on : b ≡ false → Seeking from to (k + 1)
-      unfolding Seeking
-      seeking-on y =
-          let z : suc (k - from) + 1 ≡ suc (k + 1 - from) = omega arith in
-          let n : to - k - 1 ≡ to - (k + 1) = omega arith in
-          rw (z, n) at (lowest-miss test (suc (k - from)) (to - k) x (omega arith) (sym tested ∙ y))
-
-  pub seeking-ends : (from to k : ℕ) → Seeking from to k → to ≤ k → 0 ≡ lowestIn t ws a i s
-  unfolding Seeking lowestIn
-  seeking-ends from to k x l = ap orZero (lowest-none test (suc (k - from)) (to - k) x (omega arith))
-
--- a cell by another name of the number of places
-pub sized : {P Q : ℕ} → P ≡ Q → {s : List ℕ} (ws : List ℕ) (p i : ℕ) → s ≡ setAt ws (spot P p i) → s ≡ setAt ws (spot Q p i)
-sized e ws p i h = rw (sym e) h
