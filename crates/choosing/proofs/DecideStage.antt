@@ -6,7 +6,6 @@ use Prim.Native.Nat.{ℕ, suc, _+_, _*_, _≤_, _<_, min}
 use native.Mathlib.Omega.{arith}
 use native.Mathlib.Decide.{ℕ-discrete}
 use lib.ListN.{length, getD, set}
-use lib.Seq.{getD-set-other}
 use Rattle.grammar.specs.inside.Tables.{grammarIn, nonterminalsIn}
 use Rattle.derivation.specs.Runs.{marked}
 use Rattle.derivation.specs.inside.Frames.{frameWords}
@@ -16,13 +15,13 @@ use Rattle.machine.specs.inside.Space.{Named, ground}
 use Rattle.machine.specs.declared.steps.At.{At}
 use Rattle.machine.specs.declared.steps.Space.{Space}
 use Rattle.machine.proofs.GoodLaws.{good-fewer}
-use Rattle.machine.proofs.PushLaws.{low-charted}
+use Rattle.machine.proofs.PushLaws.{low-charted, put-below}
 use Rattle.machine.proofs.WaitLaws.{waits-fewer}
 use Rattle.serving.specs.inside.Serving.{Waiting, Entering}
 use Rattle.serving.specs.inside.Aids.{budgetIn, Stage, nothing, search, table, SetsStand, Far, setsOf, MayServe}
 use Rattle.serving.proofs.AidLaws.{sets-stand, sets-none}
 use Rattle.serving.proofs.StageLaws.{stage-table, search-behind, searching-same, came-same, marks-same}
-use Rattle.serving.proofs.WaitingLaws.{waiting-named, one, waiting-room, taken-entering}
+use Rattle.serving.proofs.WaitingLaws.{waiting-named, one, taken-entering}
 
 -- ---- sets stand only where the budget is out, and the cells are right then
 module _ (tally : List ℕ) (known : ℕ) where
@@ -75,23 +74,18 @@ module _ (t w ms tally ws : List ℕ) {s : Space} {known : ℕ} {at : At} {a : �
   pub serve-one : Named t a 1
   serve-one = one t w ws waiting
 
-  -- and room for a frame
-  pub serve-room : s .base + frameWords * suc (at .depth) ≤ length ws
-  serve-room = waiting-room t w ws waiting (x .spaced .base)
-
   -- ---- an alternative is taken without a set or a mark: its frame is a return place alone
   module _ {after : List ℕ} (put : after ≡ set ws (s .base + frameWords * (at .depth)) (at .place)) {known′ : ℕ} (fewer : known′ ≡ min known (at .depth)) where
-    word : (j : ℕ) → j < ground t w + frameWords * (at .depth) → getD after j 0 ≡ getD ws j 0
-    word j l = rw (put, x .spaced .base) (getD-set-other ws (ground t w + frameWords * (at .depth)) j (at .place) 0 (λ y. omega arith))
-
     entered : (b : ℕ) → Entering t w ws after (FramesBelow (min (setsOf tally known) (at .depth))) (at .depth) (at .place) a (at .position) b
     entered b = taken-entering t w ws waiting (x .spaced .base) put refl b
 
     pub pushed-stage : Stage t w ms tally after known′
-    pushed-stage = low-stage t w ms tally ws after (at .depth) (entered 1 .kept) word (omega arith) (omega arith) (x .stage)
+    pushed-stage =
+        low-stage t w ms tally ws after (at .depth) (entered 1 .kept) (put-below ws (at .depth) (at .place) (x .spaced .base) put) (omega arith) (omega arith)
+        (x .stage)
 
     pub pushed-far : Far t w ms tally ws → Far t w ms tally after
-    pushed-far = low-far t w ms tally ws after (at .depth) (entered 1 .kept) word (x .stage)
+    pushed-far = low-far t w ms tally ws after (at .depth) (entered 1 .kept) (put-below ws (at .depth) (at .place) (x .spaced .base) put) (x .stage)
 
     pub pushed-entering : (b : ℕ) → Entering t w ws after (SetsStand tally known′) (at .depth) (at .place) a (at .position) b
     pushed-entering b =

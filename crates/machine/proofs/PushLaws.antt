@@ -1,5 +1,5 @@
 -- A frame that is pushed: its return place and its set stand there, and everything below stays, the cells too.
-use mathlib.Core.Path.{_≡_, ap, _∙_}
+use mathlib.Core.Path.{_≡_, refl, ap, _∙_}
 use mathlib.Core.Logic.{inl}
 use mathlib.Core.List.{List}
 use Prim.Native.Nat.{ℕ, suc, _+_, _*_, _/_, _%_, _≤_, _<_}
@@ -24,6 +24,11 @@ low-charted t w ws vs same h p i j l m n o =
     let z = spot-below (grammarIn t .size) (length w) p i l n in
     ap (λ (x : ℕ). testBit x (j % 32)) (same (spot (grammarIn t .size) p i + j / 32) (omega arith)) ∙ h p i j l m n o
 
+-- words below a frame stay where its return place alone is written
+pub put-below : (ws : List ℕ) (k q : ℕ) {after : List ℕ} {base bottom : ℕ} → base ≡ bottom → after ≡ set ws (base + frameWords * k) q
+    → (j : ℕ) → j < bottom + frameWords * k → getD after j 0 ≡ getD ws j 0
+put-below ws k q {bottom = bottom} e put j l = rw (put, e) (getD-set-other ws (bottom + frameWords * k) j q 0 (λ z. omega arith))
+
 module _ (ws : List ℕ) (base k q : ℕ) (s : List ℕ) where
   pub push-is : {v : ℕ} {after : List ℕ} → v ≡ q → after ≡ putAt (set ws (base + frameWords * k) v) (base + frameWords * k + 1) s → after
       ≡ pushOf ws base k q s
@@ -38,8 +43,7 @@ module _ (ws : List ℕ) (base k q : ℕ) (s : List ℕ) where
   push-word : (j : ℕ) → (j < base + frameWords * k) → getD (pushOf ws base k q s) j 0 ≡ getD ws j 0
   unfolding pushOf
   push-word j l =
-      put-word (set ws (base + frameWords * k) q) (base + frameWords * k + 1) j s (inl (omega arith))
-      ∙ getD-set-other ws (base + frameWords * k) j q 0 (λ e. omega arith)
+      put-word (set ws (base + frameWords * k) q) (base + frameWords * k + 1) j s (inl (omega arith)) ∙ put-below ws k q refl refl j l
 
   module _ (room : base + frameWords * suc k ≤ length ws) where
     pub push-pushed : Pushed ws (pushOf ws base k q s) base k q

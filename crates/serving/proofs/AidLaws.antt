@@ -18,10 +18,11 @@ use Rattle.filtering.specs.inside.Settling.{Sure}
 use Rattle.filtering.proofs.SettleLaws.{sure-none}
 use Rattle.cells.specs.inside.Chart.{Lent}
 use Rattle.machine.specs.inside.Space.{ground}
-use Rattle.search.specs.inside.Words.{searchWords, doneIn, Kept}
+use Rattle.search.specs.inside.Words.{doneIn, Kept}
 use Rattle.search.specs.inside.Searching.{stateOf, Given, Roomy, Searching, Sized}
 use Rattle.search.specs.declared.words.Size.{Size}
 use Rattle.serving.specs.inside.Aids.{tallyWords, budgetIn, tallyOf, unitsOf, Fits, Stage, setsOf, Told, MayBegin, Begun}
+use Rattle.serving.proofs.StageLaws.{search-behind}
 
 -- ---- the tally
 pub units-small : (P n : ℕ) → P ≤ 255 → n ≤ 128 → (8 + P / 4) * (n + 1) ≤ 9159
@@ -49,21 +50,15 @@ module _ (tally : List ℕ) (known : ℕ) where
   unfolding setsOf
   sets-none n = rw (ne-eqb (budgetIn tally) 1 n)
 
--- ---- the words of the search
--- are among those of the cells
-pub search-room : (t w : List ℕ) → Fits t → searchWords (nonterminalsIn t) (length w) ≤ ground t w
-search-room t w l =
-    let m : suc (7 * nonterminalsIn t) * suc (length w) ≤ (setWords * grammarIn t .size) * suc (length w) = mul-le-mul l (omega arith) in
-    omega (arith, mul-comm (suc (7 * nonterminalsIn t)) (suc (length w)), mul-comm (suc (length w)) (grammarIn t .size))
-
+-- ---- the words of the search are among those of the cells
 pub search-lent : (t w : List ℕ) {ws : List ℕ} → Fits t → Lent (grammarIn t .size) (length w) ws → Roomy t w ws
-search-lent t w f l = omega (arith, search-room t w f, l .room, mul-comm (grammarIn t .size) (suc (length w)))
+search-lent t w f l = omega (arith, search-behind t w f, l .room, mul-comm (grammarIn t .size) (suc (length w)))
 
 -- the sets of nonterminals that are cleared are among them
 marks-room : (t w : List ℕ) → Fits t → suc (length w) ≤ ground t w
 marks-room t w f =
     let m : suc (length w) * 1 ≤ suc (length w) * suc (7 * nonterminalsIn t) = mul-le-mul (omega arith) (omega arith) in
-    omega (arith, search-room t w f)
+    omega (arith, search-behind t w f)
 
 -- ---- a search begins
 -- whatever was worked out, it may

@@ -1,30 +1,27 @@
 -- The note as a whole, by ends on demand: the start symbol is asked from the note's beginning on, and what is known of it then tells.
 use mathlib.Core.Path.{_≡_, refl, sym, ap, _∙_}
-use mathlib.Core.Logic.{inl, inr}
+use mathlib.Core.Logic.{inl}
 use mathlib.Core.Bool.{Bool, true, false}
-use mathlib.Core.List.{List, [], _∷_}
+use mathlib.Core.List.{List}
 use Prim.Native.Nat.{ℕ, suc, _+_, _-_, _≤_, _<_, min}
 use native.Mathlib.Omega.{arith}
 use lib.Dec.{eqb}
-use lib.ListN.{length, length-append}
+use lib.ListN.{length}
 use Rattle.base.proofs.Booleans.{clash}
-use Rattle.grammar.specs.Limits.{endMark, maxNonterminals}
+use Rattle.grammar.specs.Limits.{maxNonterminals}
 use Rattle.grammar.specs.Grammar.{Grammar}
 use Rattle.grammar.specs.inside.Tables.{grammarIn}
 use Rattle.positions.specs.inside.Positions.{member}
 use Rattle.positions.specs.inside.Words.{setAt}
-use Rattle.derivation.specs.Runs.{marked}
 use Rattle.derivation.specs.Plain.{sentence?}
 use Rattle.derivation.specs.ReachRounds.{wrongPlace}
 use Rattle.derivation.specs.Space.{maxTokens}
 use Rattle.derivation.specs.inside.Ready.{Ready}
 use Rattle.derivation.proofs.CountLaws.{one-at-least, first-within}
-use Rattle.derivation.proofs.ReachLaws.{reach-in}
 use Rattle.derivation.proofs.ReadyLaws.{ready-ordered}
 use Rattle.first_follow.specs.inside.Masks.{Masks}
 use Rattle.filtering.specs.inside.Cover.{Asked, begins}
 use Rattle.filtering.specs.inside.Known as known
-use Rattle.filtering.specs.inside.Settling.{Came}
 use Rattle.filtering.proofs.KnownLaws.{known-right}
 use Rattle.filtering.proofs.SentenceLaws.{sentence-told}
 use Rattle.filtering.proofs.WrongLaws.{place-right}
@@ -40,16 +37,7 @@ use Rattle.serving.specs.inside.Aids.{budgetIn, highIn, tallyOf, Fits, S
 use Rattle.serving.specs.inside.Judging.{MayJudge, MayStart, Started, JudgedAs, Judges, tellsEnd}
 use Rattle.serving.specs.declared.judging.Judged.{Judged}
 use Rattle.serving.specs.declared.judging.Judged.the-variants.{Sentence, Wrong, Out}
-
--- ---- how far a note comes
--- not behind its end mark
-came-in : {g : Grammar} {w : List ℕ} {h : ℕ} → Came g w h → h ≤ length w
-came-in (inl e) = omega arith
-came-in (inr (p, x)) = reach-in x
-
--- so that what is kept of it is all
-pub came-kept : {g : Grammar} (w : List ℕ) {h : ℕ} → Came g (marked w) h → min h (length w + 1) ≡ h
-came-kept w x = let l = came-in x in omega (arith, length-append w (endMark ∷ []))
+use Rattle.serving.proofs.StageLaws.{came-kept}
 
 -- ---- a pair that was asked
 asked-known : {g : Grammar} {M : Masks} {w : List ℕ} {done : ℕ → ℕ → Bool} {a i : ℕ} {r : known.Reply} → known.Replied g M w done a i r

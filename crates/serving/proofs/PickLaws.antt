@@ -4,8 +4,7 @@ use mathlib.Core.Path.{_≡_, refl, ap, _∙_}
 use mathlib.Core.List.{List, _∷_}
 use Prim.Native.Nat.{ℕ, suc, _+_, _-_, _*_, _≤_, _<_, min}
 use native.Mathlib.Omega.{arith}
-use lib.ListN.{length, getD, set}
-use lib.Seq.{getD-set-other}
+use lib.ListN.{length, set}
 use Rattle.grammar.specs.inside.Tables.{grammarIn, nonterminalsIn}
 use Rattle.derivation.specs.Runs.{marked}
 use Rattle.derivation.specs.Machine.{lowest}
@@ -18,6 +17,7 @@ use Rattle.machine.specs.inside.Space.{ground, opened}
 use Rattle.machine.specs.declared.steps.At.{At}
 use Rattle.machine.specs.declared.steps.Space.{Space}
 use Rattle.machine.proofs.GoodLaws.{good-fewer}
+use Rattle.machine.proofs.PushLaws.{put-below}
 use Rattle.machine.proofs.WaitLaws.{waits-fewer, waits-small, waits-named, waits-position}
 use Rattle.search.specs.inside.Words.{searchWords, Kept}
 use Rattle.search.specs.inside.Searching.{Searching, Sized, Holds, Pair, MayAsk}
@@ -34,7 +34,7 @@ use Rattle.serving.specs.inside.Aids.{MayServe, Served, ServedFar}
 use Rattle.serving.proofs.WaitingLaws.{waiting-room, taken-entering}
 use Rattle.serving.proofs.UprightLaws.{upright-open, upright-reached, upright-on}
 use Rattle.serving.proofs.StageLaws.{stage-search, stage-table, good-none, waits-bare, search-behind, searching-same, came-same}
-use Rattle.serving.proofs.StageLaws.{came-least, marks-same}
+use Rattle.serving.proofs.StageLaws.{came-kept, marks-same}
 
 -- ---- words with the same return places
 chosen-from : (t w ws us : List ℕ) (d q a i : ℕ) → returnsOf us (ground t w) d ≡ returnsOf ws (ground t w) d → {r : ℕ}
@@ -142,9 +142,6 @@ module _ (t w : List ℕ) {ms tally ws : List ℕ} {s : Space} {known : ℕ} {at
 
     -- ---- the return place becomes the topmost frame
     module _ {mid : List ℕ} (put : mid ≡ set ws (s .base + frameWords * (at .depth)) (at .place)) {known′ : ℕ} (fewer : known′ ≡ min known (at .depth)) where
-      word : (j : ℕ) → j < ground t w + frameWords * (at .depth) → getD mid j 0 ≡ getD ws j 0
-      word j u = rw (put, x .spaced .base) (getD-set-other ws (ground t w + frameWords * (at .depth)) j (at .place) 0 (λ y. omega arith))
-
       pushed-entering : (b : ℕ) → Entering t w ws mid (FramesBelow 0) (at .depth) (at .place) a (at .position) b
       pushed-entering b = taken-entering t w ws (serve-bare refl refl) (x .spaced .base) put (omega arith) b
 
@@ -155,14 +152,17 @@ module _ (t w : List ℕ) {ms tally ws : List ℕ} {s : Space} {known : ℕ} {at
       pushed-returns = pushed-entering 1 .returns (λ e. omega arith)
 
       pushed-bare : returnsOf mid (ground t w) (at .depth) ≡ returnsOf ws (ground t w) (at .depth)
-      pushed-bare = returns-same ws mid (ground t w) (at .depth) (λ j m n. word j n)
+      pushed-bare = returns-same ws mid (ground t w) (at .depth) (λ j m n. put-below ws (at .depth) (at .place) (x .spaced .base) put j n)
 
       pushed-searching : Searching t w ms mid
-      pushed-searching = searching-same t w ws mid (λ j u. word j (omega (arith, behind))) pushed-long (stage-search l (x .stage) .1)
+      pushed-searching =
+          searching-same t w ws mid (λ j u. put-below ws (at .depth) (at .place) (x .spaced .base) put j (omega (arith, behind))) pushed-long
+          (stage-search l (x .stage) .1)
 
       pushed-marks : Marks (grammarIn t) (marked w) mid (ground t w) known′
       pushed-marks =
-          marks-same (grammarIn t) (marked w) ws mid (ground t w) known′ (λ j u v. word j (omega arith)) (λ k u. stage-search l (x .stage) .2 k (omega arith))
+          marks-same (grammarIn t) (marked w) ws mid (ground t w) known′ (λ j u v. put-below ws (at .depth) (at .place) (x .spaced .base) put j (omega arith))
+          (λ k u. stage-search l (x .stage) .2 k (omega arith))
 
       -- frames that are entered so, whatever else was written into words that keep the return places
       entered : {us : List ℕ} (K : ℕ → Type 0) (r : ℕ) → ((k : ℕ) → ¬ K k) → length us ≡ length mid
@@ -247,11 +247,11 @@ module _ (t w : List ℕ) {ms tally ws : List ℕ} {s : Space} {known : ℕ} {at
           far : Far t w ms tally ws → CameSoFar t w ms us (r .meter .high)
           far f =
               gone .far left (λ b f c. rw pushed-returns (upright-reached t w ws (x .upright) b f c))
-              (rw high (came-same t w ws mid (λ j u. word j (omega (arith, behind))) (f l)))
+              (rw high (came-same t w ws mid (λ j u. put-below ws (at .depth) (at .place) (x .spaced .base) put j (omega (arith, behind))) (f l)))
 
           pub search-served : ServedFar t w ms tally ws ms tally′ us (at .depth) (at .place) a (at .position) (r .known) (r .alternative)
           search-served =
-              record { served = searched; far = λ f k. rw (t′, came-least t w ms us (r .meter .high) (far f)) (far f) }
+              record { served = searched; far = λ f k. rw (t′, came-kept w (far f .came)) (far f) }
 
         -- none is: the cells answer
         pub out-waiting : Waiting t w us s 0 at a

@@ -75,13 +75,10 @@ module _ (t w ws us : List ℕ) (same : (j : ℕ) → j < searchWords (nontermin
   pub came-same : {ms : List ℕ} {high : ℕ} → CameSoFar t w ms ws high → CameSoFar t w ms us high
   came-same {ms} h = record { cover = covered-same t w ms agree (h .cover); came = h .came }
 
--- no position behind the end mark is come to
-pub came-least : (t w ms ws : List ℕ) (high : ℕ) → CameSoFar t w ms ws high → min high (length w + 1) ≡ high
-came-least t w ms ws high h = go (h .came)
-  where
-    go : Came (grammarIn t) (marked w) high → min high (length w + 1) ≡ high
-    go (inl e) = omega arith
-    go (inr (p, r)) = omega (arith, reach-in r, length-marked w)
+-- no position behind the end mark is come to, so that what is kept of how far is all
+pub came-kept : {g : Grammar} (w : List ℕ) {high : ℕ} → Came g (marked w) high → min high (length w + 1) ≡ high
+came-kept w (inl e) = omega arith
+came-kept w (inr (p, x)) = omega (arith, reach-in x, length-marked w)
 
 -- ---- marks stay where the words of their frames do
 pub marks-same : (g : Grammar) (w ws us : List ℕ) (base known : ℕ)

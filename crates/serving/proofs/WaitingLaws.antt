@@ -5,8 +5,8 @@ use mathlib.Core.Option.{some}
 use mathlib.Core.List.{List, [], _∷_}
 use Prim.Native.Nat.{ℕ, zero, suc, _+_, _-_, _*_, _≤_, _<_, min}
 use native.Mathlib.Omega.{arith}
-use lib.ListN.{length, getD, set, length-set}
-use lib.Seq.{getD-set-same, getD-set-other}
+use lib.ListN.{length, set, length-set}
+use lib.Seq.{getD-set-same}
 use Rattle.base.proofs.Booleans.{clash}
 use Rattle.grammar.specs.Limits.{endPlace}
 use Rattle.grammar.specs.Grammar.{first}
@@ -26,7 +26,7 @@ use Rattle.machine.specs.inside.Space.{ground}
 use Rattle.machine.specs.inside.Waits.{Waits, begins, called, Calling, Called}
 use Rattle.machine.specs.declared.steps.At.{At}
 use Rattle.machine.specs.declared.steps.Space.{Space}
-use Rattle.machine.proofs.PushLaws.{low-charted}
+use Rattle.machine.proofs.PushLaws.{put-below}
 use Rattle.machine.proofs.WaitLaws.{waits-fewer, waits-position, waits-named, waits-first, waits-frames, waits-room, waits-held, waits-good}
 use Rattle.serving.specs.inside.Sets.{Standing, Tabled, SetsSettled}
 use Rattle.serving.proofs.FloorLaws.{held-floored}
@@ -60,18 +60,12 @@ module _ (t w ws : List ℕ) {s : Space} {known : ℕ} {at : At} {a : ℕ} (x : 
   -- ---- an alternative is taken without a set: its frame is a return place alone
   module _ {base : ℕ} (z : base ≡ ground t w) {after : List ℕ} (put : after ≡ set ws (base + frameWords * (at .depth)) (at .place)) {known′ : ℕ}
       (fewer : known′ ≡ min known (at .depth)) where
-    word : (j : ℕ) → j < ground t w + frameWords * d → getD after j 0 ≡ getD ws j 0
-    word j l = rw (put, z) (getD-set-other ws (ground t w + frameWords * d) j q 0 (λ y. omega arith))
-
     pushed : Pushed ws after (ground t w) d q
     pushed =
         record {
           top = rw (put, z) (getD-set-same ws (ground t w + frameWords * d) q 0 (omega (arith, waiting-room refl)));
-          rest = λ j l m. word j m;
+          rest = λ j l m. put-below ws d q z put j m;
         }
-
-    pub taken-charted : 0 < known′ → Charted t w after
-    taken-charted n = low-charted t w ws after (λ j l. word j (omega arith)) (x .charted (omega arith))
 
     pub taken-entering : (b : ℕ) → Entering t w ws after (FramesBelow known′) d q a i b
     taken-entering b =

@@ -2,7 +2,8 @@
 -- definition's chooser.
 use native.Mathlib.Omega.{arith}
 use Rattle.machine.proofs.WaitLaws.{waits-small}
-use Rattle.choosing.proofs.DecideStage.{serve-named, serve-room}
+use Rattle.serving.proofs.PickLaws.{serve-room}
+use Rattle.choosing.proofs.DecideStage.{serve-named}
 use Rattle.choosing.proofs.DecideLaws.{decide-single, decide-named, decide-full, deciding-predicts}
 use borrow.Author.Needs.{needs}
 use Rattle.choosing.proofs.deciding.decide.Statement.{statement}
@@ -16,7 +17,7 @@ alternatives-requires c κs =
 push-requires : tie.Need-push-requires
 push-requires c κs =
     let at-entry = c .before .before .before .before .before .before .before .before .before in (
-      serve-room _ _ _ _ _ (at-entry .pre .serve),
+      serve-room _ _ (at-entry .pre .serve),
       omega (arith, waits-small _ (at-entry .pre .serve .told .ready) _ (at-entry .pre .serve .waits)),
     )
 
@@ -43,7 +44,7 @@ enum-known-forecast c = search needs
 push-requires-2 : tie.Need-push-requires-2
 push-requires-2 c κs =
     let at-entry = c .before .before .before .before .before .before .before .before .before .before .before .before .before .before .before .before in (
-      serve-room _ _ _ _ _ (at-entry .pre .serve),
+      serve-room _ _ (at-entry .pre .serve),
       omega (arith, waits-small _ (at-entry .pre .serve .told .ready) _ (at-entry .pre .serve .waits)),
     )
 
