@@ -10,7 +10,7 @@ use Rattle.base.proofs.Lists.{get-getD}
 use Rattle.grammar.specs.declared.Symbol.the-variants.{Token, Nonterminal, End}
 use Rattle.grammar.specs.Limits.{endMark}
 use Rattle.grammar.specs.Grammar.{Grammar, facing, admits}
-use Rattle.derivation.proofs.RunLaws.{der-le, der-in}
+use Rattle.derivation.proofs.RunLaws.{der-le}
 use Rattle.first_follow.specs.inside.Masks.{Masks}
 use Rattle.filtering.specs.inside.Beginnings.{tokenAt}
 use Rattle.filtering.specs.inside.Filtered.{DerF, Ends, PairEnds, Over, token, call, EndsFrom, Leads}
@@ -38,9 +38,6 @@ module _ {g : Grammar} {M : Masks} {w : List ℕ} where
   -- ---- ends lie between where they begin and the note's end
   pub pair-le : {i m : ℕ} (a : ℕ) → PairEnds g M w a i m → i ≤ m
   pair-le a (b, (f, d, (r, x), h)) = der-le (derF-der x)
-
-  pub pair-in : {i m : ℕ} (a : ℕ) → PairEnds g M w a i m → m ≤ length w
-  pair-in a (b, (f, d, (r, x), h)) = der-in (derF-der x)
 
   -- ---- one position
   -- B1: a token that may stand here

@@ -8,7 +8,7 @@ use lib.ListN.{length}
 use Rattle.grammar.specs.declared.Symbol.the-variants.{Nonterminal}
 use Rattle.grammar.specs.Grammar.{Grammar, facing, owner}
 use Rattle.grammar.specs.inside.Ordered.{Ordered}
-use Rattle.derivation.specs.Runs.{Run, Opens}
+use Rattle.derivation.specs.Runs.{Run}
 use Rattle.derivation.specs.inside.BigSteps.{Der, Split}
 use Rattle.derivation.proofs.RunLaws.{run-split, run-token}
 use Rattle.first_follow.specs.inside.Masks.{Masks, Closed}
@@ -23,17 +23,6 @@ module _ {g : Grammar} {M : Masks} {w : List ℕ} where
   derF-der (DerF.finish e l) = Der.finish e l
   derF-der (DerF.match e d t x) = Der.match e d t (derF-der x)
   derF-der (DerF.expand e d x h y) = Der.expand e d (derF-der x) (derF-der y)
-
-  -- A3 for runs: the token there begins what the top place leaves, or that derives nothing and the rest is read from there
-  pub run-begins : {q m : ℕ} {S r : List ℕ} → Closed g M → Run g w (q ∷ S) m (length w) r → Begins g M (tokenAt w m) q ⊎ (Vanishes g q × Opens g w S m)
-  run-begins {q} {m} {S} {r} c x = go (run-split q S m (length w) r .0 x)
-    where
-      rest : (n : ℕ) → Opens g w S n → Begins g M (tokenAt w m) q ⊎ (Vanishes g q × (m ≡ n)) → Begins g M (tokenAt w m) q ⊎ (Vanishes g q × Opens g w S m)
-      rest n z (inl b) = inl b
-      rest n z (inr (v, e)) = inr (v, rw e z)
-
-      go : Split g w q S m (length w) r → Begins g M (tokenAt w m) q ⊎ (Vanishes g q × Opens g w S m)
-      go (n, r₁, r₂, y, z, e) = rest n (r₂, z) (begins c y)
 
 module _ {g : Grammar} {M : Masks} {w : List ℕ} (order : Ordered g) (c : Closed g M) where
   -- what is left behind a call derives a stretch whose end may be followed by what follows there: then the call's end may be followed too

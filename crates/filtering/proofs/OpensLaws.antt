@@ -4,17 +4,16 @@ use mathlib.Core.Logic.{_↔_}
 use mathlib.Core.Bool.{Bool, false}
 use mathlib.Core.Option.{Option, none, some}
 use mathlib.Core.List.{List, [], _∷_, _++_}
-use Prim.Native.Nat.{ℕ, suc, _<_}
+use Prim.Native.Nat.{ℕ, suc}
 use native.Mathlib.Omega.{arith}
 use lib.Dec.{T}
 use lib.ListN.{length}
 use Rattle.base.specs.Search.{lowestFrom}
 use Rattle.base.proofs.Booleans.{same}
-use Rattle.base.proofs.Lists.{get-getD}
 use Rattle.base.proofs.Lowest.{lowest-same}
-use Rattle.grammar.specs.declared.Symbol.the-variants.{Token, Nonterminal, End}
+use Rattle.grammar.specs.declared.Symbol.the-variants.{Nonterminal}
 use Rattle.grammar.specs.Limits.{endMark, endPlace}
-use Rattle.grammar.specs.Grammar.{Grammar, facing, owner, admits, alternatives, first}
+use Rattle.grammar.specs.Grammar.{Grammar, facing, owner, alternatives, first}
 use Rattle.grammar.specs.inside.Ordered.{Ordered}
 use Rattle.grammar.proofs.GrammarLaws.{admits-self}
 use Rattle.derivation.specs.Runs.{Run, Opens, marked}
@@ -24,12 +23,9 @@ use Rattle.derivation.proofs.RunLaws.{run-token, run-end, run-empty, der+run, r
 use Rattle.derivation.proofs.CellLaws.{runs-iff}
 use Rattle.derivation.proofs.MarkedCells.{length-marked, get-mark}
 use Rattle.first_follow.specs.inside.Masks.{Masks, Closed}
-use Rattle.filtering.specs.inside.Beginnings.{tokenAt}
-use Rattle.filtering.specs.inside.Filtered.{DerF, Ends, EndsBy, PairEnds, Over, token, call, EndsFrom, Leads}
+use Rattle.filtering.specs.inside.Filtered.{DerF, Ends, EndsBy, PairEnds, Over, token, call, EndsFrom}
 use Rattle.filtering.specs.inside.OpenStacks.{Open, frame}
-use Rattle.filtering.proofs.StartLaws.{admits-at}
 use Rattle.filtering.proofs.FilterLaws.{derF-der, run-filter, follow-right}
-use Rattle.filtering.proofs.EndLaws.{over-to}
 
 -- ---- the bottom: the end mark stands behind the note
 module _ (g : Grammar) (order : Ordered g) (w : List ℕ) where
@@ -50,27 +46,10 @@ module _ (g : Grammar) (order : Ordered g) (w : List ℕ) where
 
 -- ---- symbol by symbol
 module _ {g : Grammar} {w : List ℕ} where
-  pub opens-end : {p i : ℕ} {S : List ℕ} → facing g p ≡ End → Opens g w (p ∷ S) i ↔ Opens g w S i
-  opens-end e = (λ x. (x .0, run-end (x .1) e), λ x. (x .0, Run.finish e (x .1)))
-
-  pub opens-token : {p k i : ℕ} {S : List ℕ} → facing g p ≡ Token k → i < length w → T (admits g k (tokenAt w i))
-      → Opens g w (p ∷ S) i ↔ Opens g w (suc p ∷ S) (suc i)
-  opens-token {p} {k} {i} {S} e l q = (to, λ x. (x .0, Run.match e (get-getD w i endMark l) q (x .1)))
-    where
-      to : Opens g w (p ∷ S) i → Opens g w (suc p ∷ S) (suc i)
-      to (r, x) = let (t, d, a, y) = run-token x e in (r, y)
-
-  pub opens-other : {p k i : ℕ} {S : List ℕ} → facing g p ≡ Token k → ¬ T (admits g k (tokenAt w i)) → ¬ Opens g w (p ∷ S) i
-  opens-other {k = k} {i = i} e n (r, x) = let (t, d, a, y) = run-token x e in n (admits-at g w i k d a)
-
   -- over any symbol and on
   pub over-opens : {M : Masks} {p i m : ℕ} {S : List ℕ} → Over g M w p i m → Opens g w (suc p ∷ S) m → Opens g w (p ∷ S) i
   over-opens (token e d t) (s, y) = (s, Run.match e d t y)
   over-opens (call e (b, (f, d, (r, x), h))) (s, y) = (b ∷ (r ++ s), Run.expand e d (der+run (derF-der x) y))
-
-  -- from a set of positions at the end of a production
-  pub opens-stop : {p : ℕ} {S : List ℕ} (X : ℕ → Type 0) → facing g p ≡ End → ((i : ℕ) × X i × Opens g w (p ∷ S) i) ↔ ((i : ℕ) × X i × Opens g w S i)
-  opens-stop X e = (λ x. (x .0, x .1, opens-end e .0 (x .2)), λ x. (x .0, x .1, opens-end e .1 (x .2)))
 
 module _ {g : Grammar} {M : Masks} {w : List ℕ} (order : Ordered g) (c : Closed g M) where
   -- ---- a place at once
@@ -93,18 +72,6 @@ module _ {g : Grammar} {M : Masks} {w : List ℕ} (order : Ordered g) (c : Close
 
       from : (m : ℕ) × EndsFrom g M w X q m × Opens g w S m → (i : ℕ) × X i × Opens g w (q ∷ S) i
       from (m, (i, x, e), z) = (i, x, opens-place o .1 (m, e, z))
-
-  -- from a set of positions over one symbol: Y is where the symbol leads from X
-  pub opens-over : {p : ℕ} {S : List ℕ} (X Y : ℕ → Type 0) → Open g (owner g p) S → ¬ (facing g p ≡ End) → Leads g M w p X Y
-      → ((i : ℕ) × X i × Opens g w (p ∷ S) i) ↔ ((m : ℕ) × Y m × Opens g w (suc p ∷ S) m)
-  opens-over {p} {S} X Y o n h = (to, from)
-    where
-      to : (i : ℕ) × X i × Opens g w (p ∷ S) i → (m : ℕ) × Y m × Opens g w (suc p ∷ S) m
-      to (i, x, y) =
-          let (j, e, (s, z)) = opens-place o .0 y in let (m, v, (r, u)) = over-to n e in (m, h m .1 (i, x, v), (r ++ s, der+run (derF-der u) z))
-
-      from : (m : ℕ) × Y m × Opens g w (suc p ∷ S) m → (i : ℕ) × X i × Opens g w (p ∷ S) i
-      from (m, y, z) = let (i, x, v) = h m .0 y in (i, x, over-opens v z)
 
   -- ---- a nonterminal
   -- an alternative that serves, by one of its ends
@@ -133,23 +100,6 @@ module _ {g : Grammar} {M : Masks} {w : List ℕ} (order : Ordered g) (c : Close
 
       from : (m : ℕ) × PairEnds g M w a i m × Opens g w (suc p ∷ S) m → Opens g w (p ∷ S) i
       from (m, x, y) = over-opens (call e x) y
-
-  -- no end, one end, several ends
-  pub opens-none : {p i : ℕ} {S : List ℕ} (a : ℕ) → Open g (owner g p) S → facing g p ≡ Nonterminal a → ((m : ℕ) → ¬ PairEnds g M w a i m)
-      → ¬ Opens g w (p ∷ S) i
-  opens-none a o e n x = let (m, y, z) = opens-call a o e .0 x in n m y
-
-  pub opens-one : {p i n : ℕ} {S : List ℕ} (a : ℕ) → Open g (owner g p) S → facing g p ≡ Nonterminal a → ((m : ℕ) → PairEnds g M w a i m ↔ (m ≡ n))
-      → Opens g w (p ∷ S) i ↔ Opens g w (suc p ∷ S) n
-  opens-one {p} {i} {n} {S} a o e h = (λ x. to (opens-call a o e .0 x), λ x. opens-call a o e .1 (n, h n .1 refl, x))
-    where
-      to : (m : ℕ) × PairEnds g M w a i m × Opens g w (suc p ∷ S) m → Opens g w (suc p ∷ S) n
-      to (m, y, z) = rw (h m .0 y) at z
-
-  pub opens-several : {p i : ℕ} {S : List ℕ} (a : ℕ) (X : ℕ → Type 0) → Open g (owner g p) S → facing g p ≡ Nonterminal a
-      → ((m : ℕ) → PairEnds g M w a i m ↔ X m) → Opens g w (p ∷ S) i ↔ ((m : ℕ) × X m × Opens g w (suc p ∷ S) m)
-  opens-several a X o e h =
-      (λ x. let (m, y, z) = opens-call a o e .0 x in (m, h m .0 y, z), λ x. let (m, y, z) = x in opens-call a o e .1 (m, h m .1 y, z))
 
 -- ---- as Booleans
 -- C1: whatever decides whether a stack opens is `runs?`

@@ -14,10 +14,8 @@ use Rattle.derivation.proofs.ReachLaws.{reach-in}
 use Rattle.first_follow.specs.inside.Masks.{Masks}
 use Rattle.filtering.specs.inside.Filtered.{Ends}
 use Rattle.filtering.specs.inside.OpenStacks.{Open, bottom, frame, Stands, Reached}
-use Rattle.filtering.specs.inside.Cover.{Walks, Called}
 use Rattle.filtering.proofs.FilterLaws.{derF-der}
 use Rattle.filtering.proofs.StackLaws.{calls-open}
-use Rattle.filtering.proofs.WalkLaws.{walks-reach}
 
 no-open : {g : Grammar} {a : ℕ} {S : List ℕ} → Open g a S → S ≡ [] → ⊥
 no-open bottom q = clash (cc)
@@ -54,11 +52,6 @@ module _ (g : Grammar) (w : List ℕ) where
   reached-step s x (picked {p = p} {a = a} {f = f} {i = i} {S = S} b e d) = enter p a b f i S e d (calls-open s e) x
 
   -- ---- on the way down
-  pub reached-walk : {M : Masks} {q i p j a : ℕ} (r : ℕ) (S : List ℕ) → Reached g w (q ∷ r ∷ S) i → Walks g M w q i p j → facing g p ≡ Nonterminal a
-      → Called g w a j
-  unfolding Reached
-  reached-walk r S (x, h) v e = Called.behind (walks-reach x v) e
-
   pub reached-down : {M : Masks} {q i m : ℕ} (r : ℕ) (S : List ℕ) → Reached g w (q ∷ r ∷ S) i → Ends g M w q i m → Reached g w (r ∷ S) m
   unfolding Reached
   reached-down r S (x, h) (s, y) = h _ (s, derF-der y)

@@ -1,38 +1,25 @@
--- A pair is worked out, alternative by alternative, and stored: what is known stays right, covered and reached. Then it is known where a note goes wrong.
+-- A pair is worked out, alternative by alternative, and stored: what is known stays right, covered and reached.
 use mathlib.Core.Path.{_≡_, refl}
 use mathlib.Core.Logic.{_⊎_, inl, inr}
 use mathlib.Core.Option.{some}
 use mathlib.Core.Bool.{Bool}
 use mathlib.Core.List.{List}
-use Prim.Native.Nat.{ℕ, zero, suc, _≤_, min, max}
+use Prim.Native.Nat.{ℕ, zero, suc, _≤_, max}
 use native.Mathlib.Omega.{arith}
 use native.Mathlib.Decide.{decLe}
 use lib.Dec.{T}
 use lib.ListN.{length}
 use Rattle.base.proofs.Booleans.{clash}
 use Rattle.grammar.specs.Grammar.{Grammar, alternatives, first}
-use Rattle.grammar.specs.inside.Ordered.{Ordered}
-use Rattle.derivation.specs.Runs.{marked}
-use Rattle.derivation.specs.ReachRounds.{wrongPlace}
 use Rattle.derivation.proofs.LowestLaws.{first-lt}
-use Rattle.derivation.proofs.ReachLaws.{reach-in}
-use Rattle.first_follow.specs.inside.Masks.{Masks, Closed}
+use Rattle.first_follow.specs.inside.Masks.{Masks}
 use Rattle.filtering.specs.inside.Tags.{Tag, Tagged}
-use Rattle.filtering.specs.inside.Cover.{Walks, Asked, CoveredFrom, CoveredTo, Covered, Called}
+use Rattle.filtering.specs.inside.Cover.{Walks, CoveredFrom, CoveredTo, Covered, Called}
 use Rattle.filtering.specs.inside.Known.{State, Holds}
 use Rattle.filtering.specs.inside.Settling.{Stored, Came, Sure}
 use Rattle.filtering.proofs.WalkLaws.{called-first, walks-reach, covered-more}
-use Rattle.filtering.proofs.WrongLaws.{place-right}
 
--- ---- called pairs
-pub called-in : {g : Grammar} {w : List ℕ} {a i : ℕ} → Called g w a i → i ≤ length w
-called-in Called.begins = omega arith
-called-in (Called.behind x e) = reach-in x
-
-pub called-came : {g : Grammar} {w : List ℕ} {a i : ℕ} → Called g w a i → Came g w i
-called-came Called.begins = inl refl
-called-came (Called.behind {p = p} x e) = inr (p, x)
-
+-- ---- how far the note comes
 -- wherever a walk of a called pair comes, the note comes
 pub walks-came : {g : Grammar} {M : Masks} {w : List ℕ} {a i f q k : ℕ} (b : ℕ) → Called g w a i → first g a b ≡ some f → Walks g M w f i q k → Came g w k
 walks-came {q = q} b x d v = inr (q, walks-reach (called-first b x d) v)
@@ -81,16 +68,6 @@ module _ {g : Grammar} {M : Masks} {w : List ℕ} {s after : State} {t : Tag} (a
       go (inl (p, q)) = rw q (covered-more (st .keeps) (omega arith) (mine k f (rw p at d)))
       go (inr (u, q)) = covered-more (st .keeps) l (cover b j k f u d)
 
-  -- all at once
-  pub stored-sure : {high high′ : ℕ} → high ≤ high′ → Sure g M w s high → Tagged g M w a i t
-      → ((b f : ℕ) → first g a b ≡ some f → CoveredFrom g M w (s .done) high′ f i) → Came g w high′ → Sure g M w after high′
-  stored-sure l x tag mine far = record { holds = stored-holds (x .holds) tag; cover = stored-covered l (x .cover) mine; came = far }
-
 -- nothing is worked out yet
 pub sure-none : {g : Grammar} {M : Masks} {w : List ℕ} (s : State) → ((a i : ℕ) → ¬ T (s .done a i)) → Sure g M w s 0
 sure-none s n = record { holds = λ a i t. absurd (n a i t); cover = λ a i b f t d. absurd (n a i t); came = inl refl }
-
--- ---- the place where a note that is no sentence goes wrong, once the start symbol was asked at 0
-pub sure-place : {g : Grammar} {M : Masks} (w : List ℕ) (order : Ordered g) (c : Closed g M) (s : State) (high : ℕ) → Sure g M (marked w) s high
-    → Asked M (marked w) (s .done) 0 0 → (b : ℕ) {f : ℕ} → first g 0 b ≡ some f → wrongPlace g w ≡ min high (length w)
-sure-place w order c s high x asked b e = place-right w order c (s .done) high (x .cover) asked (x .came) b e

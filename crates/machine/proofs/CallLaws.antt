@@ -1,7 +1,7 @@
 -- A choice by the cells where a nonterminal waits: the set that the code makes is right, and so is what its choice leaves.
 use mathlib.Core.Path.{_≡_, refl, ap, _∙_}
 use mathlib.Core.List.{List}
-use Prim.Native.Nat.{ℕ, zero, suc, _+_, _-_, _*_, _≤_, _<_}
+use Prim.Native.Nat.{ℕ, zero, suc, _+_, _-_, _*_, _≤_}
 use native.Mathlib.Omega.{arith}
 use lib.ListN.{length}
 use Rattle.base.proofs.Booleans.{clash}
@@ -12,19 +12,18 @@ use Rattle.positions.proofs.SetLaws.{Fit}
 use Rattle.derivation.specs.Runs.{marked}
 use Rattle.derivation.specs.Machine.{lowest}
 use Rattle.derivation.specs.inside.Frames.{frameWords, returnsOf}
-use Rattle.derivation.specs.inside.Ready.{Ready}
 use Rattle.derivation.proofs.ReadyLaws.{ready-first}
 use Rattle.derivation.proofs.MarkedCells.{derives-inside}
 use Rattle.cells.specs.inside.Chart.{Lent, LentAt, EndsOf}
 use Rattle.machine.specs.inside.Frames.{EveryFrame, Serving, pushOf}
 use Rattle.machine.specs.inside.Choice.{Leading, orZero, lowestIn}
-use Rattle.machine.specs.inside.Space.{Named, pushIf, ground, opened}
+use Rattle.machine.specs.inside.Space.{pushIf, ground, opened}
 use Rattle.machine.specs.inside.Waits.{Waits, begins, called, Calling, Choosing, Called}
 use Rattle.machine.specs.declared.steps.At.{At}
 use Rattle.machine.specs.declared.steps.Space.{Space}
 use Rattle.machine.proofs.ServingLaws.{lowest-is, serving-end, serving-over}
 use Rattle.machine.proofs.PushLaws.{length-push, push-pushed, push-has, push-charted}
-use Rattle.machine.proofs.AlternativeLaws.{lowest-named, named-of, named-small}
+use Rattle.machine.proofs.AlternativeLaws.{lowest-named}
 use Rattle.machine.proofs.WaitLaws.{waits-position, waits-first, waits-named, waits-roomy, waits-small}
 
 -- ---- as the code has it: its own names for the number of places
@@ -127,12 +126,3 @@ module _ (t w ws : List ℕ) (fit : Fit ws) (space : Space) (at : At) (a : ℕ) 
             → Called t w ws after (at .depth) (at .place) a (at .position) r
         go zero u z = called-none u (rw u at z)
         go (suc b) u z = called-some (λ v. omega arith) (rw u at z)
-
--- ---- what a call found
-module _ (t w ws : List ℕ) (d q a i : ℕ) {after : List ℕ} {r : ℕ} (c : Called t w ws after d q a i r) (n : r ≡ 0 → ⊥) where
-  pub called-named : Named t a r
-  called-named = named-of t w (opened t w ws d q) a i (c .chosen) n
-
-  -- an alternative fits a row entry
-  pub called-small : Ready t → r < 65536
-  called-small h = named-small t h a r called-named

@@ -12,7 +12,7 @@ use Rattle.base.proofs.Lists.{anyOf-T, T-anyOf, upFrom-get}
 use Rattle.base.proofs.Lowest.{lowest-same}
 use Rattle.grammar.specs.declared.Symbol.the-variants.{Nonterminal}
 use Rattle.grammar.specs.Limits.{endPlace, endMark}
-use Rattle.grammar.specs.Grammar.{Grammar, facing, alternatives, first}
+use Rattle.grammar.specs.Grammar.{facing, alternatives, first}
 use Rattle.grammar.specs.inside.Tables.{grammarIn}
 use Rattle.grammar.proofs.GrammarLaws.{first-pos, admits-self}
 use Rattle.positions.specs.inside.Positions.{member, emptySet, withOf, meetsOf}
@@ -65,9 +65,6 @@ module _ (t : List ℕ) (h : Ready t) (w : List ℕ) (short : length w ≤ maxTo
       from x = let z = ends-there m (runs-iff (grammarIn t) (marked w) (endPlace ∷ []) m .0 x .1) in rw z (eqb-refl (length w))
 
 module _ (t : List ℕ) (h : Ready t) (w ws : List ℕ) (charted : Charted t w ws) (short : length w ≤ maxTokens) (fit : Fit ws) where
-  abbrev g : Grammar
-  g = grammarIn t
-
   -- ---- a cell as the definitions have it, over the note with its mark
   cell-is : (p i j : ℕ) → p < grammarIn t .size → i ≤ length w → j ≤ length w
       → member (setAt ws (spot (grammarIn t .size) p i)) j ≡ derives? (grammarIn t) (marked w) p i j

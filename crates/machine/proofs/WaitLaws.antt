@@ -25,10 +25,9 @@ use Rattle.derivation.proofs.MarkedCells.{length-marked}
 use Rattle.cells.specs.inside.Chart.{Lent}
 use Rattle.machine.specs.inside.Frames.{frameHas, Good}
 use Rattle.machine.specs.inside.Space.{Roomy, ground, opened}
-use Rattle.machine.specs.inside.Moves.{ToCall}
 use Rattle.machine.specs.inside.Waits.{Waits, begins, called}
 use Rattle.machine.proofs.GoodLaws.{good-fewer, good-push}
-use Rattle.machine.proofs.MoveLaws.{moves-good, moves-held, open-calls, reads, quiet, frames-in, frame-room}
+use Rattle.machine.proofs.MoveLaws.{open-calls, reads, quiet, frames-in, frame-room}
 
 -- there is a nonterminal 0
 pub some-named : (t : List ℕ) → Ready t → 0 < nonterminalsIn t
@@ -107,12 +106,3 @@ module _ (t : List ℕ) (h : Ready t) (w : List ℕ) {ws : List ℕ} {K : ℕ �
     waits-good lent sets (called p y c held good) =
         good-push (grammarIn t) (marked w) (ground t w) ws vs K d p i b (omega (arith, length-marked w, lent .short)) c e (rw y at pushed)
         (rw y at sets) good
-
-    -- so it waits again where the moves from the first place on lead to a call
-    pub waits-again : {q′ d′ i′ a′ : ℕ} → Lent (grammarIn t .size) (length w) ws
-        → (K d → (m : ℕ) → T (derives? (grammarIn t) (marked w) f i m) → frameHas vs (ground t w) d m
-        ≡ runs? (grammarIn t) (marked w) (opened t w ws d q) m)
-        → Waits t w ws K d q a i → ToCall (grammarIn t) (marked w) vs (ground t w) f (suc d) i q′ d′ i′ a′ → Waits t w vs K d′ q′ a′ i′
-    waits-again lent sets x to =
-        called (to .place) (to .behind) (to .faces) (moves-held t h w (to .moves) (waits-held x))
-        (moves-good K (to .moves) (omega (arith, length-marked w, waits-position x)) (waits-good lent sets x))

@@ -24,8 +24,7 @@ use Rattle.filtering.specs.inside.Turns.{Rest}
 use Rattle.filtering.proofs.EndLaws.{ends-token, ends-other, ends-end, ends-none, ends-one, ends-several, over-token, pair-le}
 use Rattle.filtering.proofs.InsideLaws.{pair-inside}
 use Rattle.filtering.proofs.LeadLaws.{leads-call}
-use Rattle.filtering.proofs.TurnLaws.{rest-begin, rest-token, rest-call, rest-end, rest-other, rest-none}
-use Rattle.filtering.proofs.SetTurnLaws.{rest-several}
+use Rattle.filtering.proofs.TurnLaws.{rest-begin, rest-token, rest-call, rest-end, rest-other, rest-none, rest-several}
 use Rattle.cells.specs.inside.Matches.{matchesAt}
 use Rattle.search.specs.inside.Searching.{Searching, stateOf, setOf, KnownIs}
 use Rattle.search.specs.inside.Ways.{CameTo, EndsAt, EndsNowhere, Lacks, GoesOn}

@@ -120,11 +120,6 @@ module _ (N n : ℕ) {ws us : List ℕ} (h : Agree N n ws us) where
 pub waits-agree : (N n k x : ℕ) (ws : List ℕ) → Agree N n ws (set ws (waitsAt N n + k) x)
 waits-agree N n k x ws = record { word = λ j l. getD-set-other ws (waitsAt N n + k) j x 0 (λ e. omega arith) }
 
-module _ (N n k x : ℕ) (ws : List ℕ) where
-  pub waits-kept : ((a i : ℕ) → doneIn N n (set ws (waitsAt N n + k) x) a i ≡ doneIn N n ws a i)
-      × ((a i : ℕ) → a < N → i ≤ n → tagIn N n (set ws (waitsAt N n + k) x) a i ≡ tagIn N n ws a i)
-  waits-kept = (done-same N n (waits-agree N n k x ws), tag-same N n (waits-agree N n k x ws))
-
 module _ (t w ms : List ℕ) {ws us : List ℕ} (h : Agree (nonterminalsIn t) (length w) ws us) where
   pub holds-same : Holds t w ms ws → Holds t w ms us
   holds-same x a i d =

@@ -2,7 +2,7 @@
 use mathlib.Core.Path.{_≡_}
 use mathlib.Core.Logic.{_↔_, _⊎_}
 use mathlib.Core.Bool.{Bool, false, cond, _||_, not}
-use mathlib.Core.List.{List, [], _∷_}
+use mathlib.Core.List.{List}
 use Prim.Native.Nat.{ℕ, suc, _≤_}
 use lib.Dec.{T, eqb}
 use Rattle.grammar.specs.Grammar.{Grammar}
@@ -21,12 +21,6 @@ unfoldable pub add : Tag → ℕ → ℕ → Tag
 add no-end k j = one-end j k false
 add (one-end m b more) k j = cond (eqb m j) (one-end m b (more || not (eqb b k))) (ends (λ x. eqb x m || eqb x j))
 add (ends s) k j = ends (λ x. s x || eqb x j)
-
--- some ends more, all by alternative k
-unfoldable pub addAll : Tag → ℕ → List ℕ → Tag
-unfolding add
-addAll t k [] = t
-addAll t k (j ∷ l) = addAll (add t k j) k l
 
 -- ---- what a tag says
 -- the tag tells which ends there are, P b m saying that alternative b gives end m

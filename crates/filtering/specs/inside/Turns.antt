@@ -7,17 +7,13 @@ use lib.Dec.{T}
 use Rattle.grammar.specs.Grammar.{Grammar}
 use Rattle.first_follow.specs.inside.Masks.{Masks}
 use Rattle.filtering.specs.inside.Beginnings.{tokenAt}
-use Rattle.filtering.specs.inside.Filtered.{Ends, EndsBy, EndsFrom}
+use Rattle.filtering.specs.inside.Filtered.{Ends, EndsBy}
 use Rattle.filtering.specs.inside.Cover.{CoveredFrom}
 
 -- ---- ends
 -- the ends of alternative b of (a, i) are those of place p from j whose token may follow a
 abbrev pub Turn : Grammar → Masks → List ℕ → ℕ → ℕ → ℕ → ℕ → ℕ → Type 0
 Turn g M w a i b p j = (m : ℕ) → EndsBy g M w a i b m ↔ (Ends g M w p j m × T (M .follows (tokenAt w m) a))
-
--- they are those of place p from members of X whose token may follow a
-abbrev pub TurnFrom : Grammar → Masks → List ℕ → ℕ → ℕ → ℕ → (ℕ → Type 0) → ℕ → Type 0
-TurnFrom g M w a i b X p = (m : ℕ) → EndsBy g M w a i b m ↔ (EndsFrom g M w X p m × T (M .follows (tokenAt w m) a))
 
 -- ---- coverage
 -- whatever covers what is left at place p from j covers the alternative from its first place f at i
