@@ -1,7 +1,6 @@
 -- What the gate says: it is passed exactly if the bytes are a sound grammar, the note has at most 128 tokens and only known ones, and the working space
 -- is long enough; and a law for each of its refusals.
-use mathlib.Core.Path.{_≡_, refl, sym, ap, _∙_}
-use mathlib.Core.Logic.{_⊎_, inl, inr}
+use mathlib.Core.Path.{_≡_, refl, ap, _∙_}
 use mathlib.Core.Bool.{Bool, true, false, not}
 use mathlib.Core.Option.{Option, none, some}
 use mathlib.Core.List.{List}
@@ -15,12 +14,12 @@ use Rattle.base.proofs.Booleans.{clash, and-T, true→T}
 use Rattle.base.proofs.Lowest.{lowest-is}
 use Rattle.number.specs.declared.Refusal.{Refusal}
 use Rattle.number.specs.declared.Refusal.the-variants.{Unfinished, Malformed, OverLimit, UnknownSymbol, Trailing, Unproductive, LeftRecursive}
-use Rattle.number.specs.Refusals.{refusalNumber, refusalPlace}
+use Rattle.number.specs.Refusals.{refusalNumber}
 use Rattle.grammar.specs.Decode.{Rules, Mark, Parsed, got, refused, decode}
 use Rattle.grammar.specs.Grammar.{Grammar, compile}
 use Rattle.soundness.specs.declared.judgement.Verdict.{Verdict}
 use Rattle.soundness.specs.declared.judgement.Verdict.the-variants.{Sound, Refused}
-use Rattle.soundness.specs.Check.{judgeOf, onDecoded, checkOf}
+use Rattle.soundness.specs.Check.{judgeOf, checkOf}
 use Rattle.derivation.specs.Space.{maxTokens, spaceWords}
 use Rattle.derivation.specs.Gate.{Gate, shut, passed, atGate, shutBy, onVerdict, onRules, soundGate, known?, firstUnknown, noteGate, gate}
 use Rattle.derivation.specs.Demand2.{Known}

@@ -16,7 +16,7 @@ use Rattle.derivation.specs.Machine.{Chooser, stuck, Action, onCall, ste
 use Rattle.derivation.specs.Runs.{Serves}
 use Rattle.derivation.specs.inside.Choosers.{names, Served, Ground, Reliable}
 use Rattle.derivation.proofs.RunLaws.{run-empty, run-end, run-token, run-call}
-use Rattle.derivation.proofs.MachineLaws.{Names, Called, no-room, unnamed, absent, taken, call-seen, prefix-stuck, call-state, step-state}
+use Rattle.derivation.proofs.MachineLaws.{Called, no-room, unnamed, absent, taken, call-seen, prefix-stuck, call-state, step-state}
 use Rattle.derivation.proofs.MachineLaws.{Halted, over, past, other, unchosen, missing, Seen, ended, halted, crammed, popped, matched, picked, see}
 
 -- ---- alternatives that serve

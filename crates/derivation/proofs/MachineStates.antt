@@ -5,7 +5,7 @@ use Prim.Native.Nat.{ℕ, zero, suc, pred}
 use Rattle.grammar.specs.declared.Symbol.{Symbol}
 use Rattle.grammar.specs.declared.Symbol.the-variants.{Token, Nonterminal, End}
 use Rattle.grammar.specs.Grammar.{Grammar, facing}
-use Rattle.derivation.specs.Machine.{Chooser, Action, halt, move, pick, Moved, moved, ended, chosen, onCall, onSymbol, step, prefixed, followStep, follow}
+use Rattle.derivation.specs.Machine.{Chooser, Action, halt, move, pick, moved, ended, chosen, onCall, onSymbol, step, prefixed, followStep, follow}
 use Rattle.derivation.specs.Machine.{run, runCall}
 use Rattle.derivation.specs.inside.Choosers.{thence, Later, Repeats}
 use Rattle.derivation.proofs.MachineLaws.{call-state, step-state}

@@ -4,13 +4,12 @@ use mathlib.Core.Option.{some}
 use mathlib.Core.List.{List}
 use Prim.Native.Nat.{ℕ, suc, _≤_, _<_}
 use native.Mathlib.Omega.{arith}
-use lib.ListN.{length}
 use Rattle.base.proofs.Booleans.{clash}
 use Rattle.grammar.specs.declared.Symbol.the-variants.{Token, Nonterminal, End}
 use Rattle.grammar.specs.Limits.{maxPlaces, maxNonterminals}
 use Rattle.grammar.specs.Decode.{Rules, Mark, Parsed, got, refused, decode}
 use Rattle.grammar.specs.Grammar.{Grammar, facing, first, sizeAll, compile}
-use Rattle.grammar.specs.inside.Tables.{grammarIn, nonterminalsIn}
+use Rattle.grammar.specs.inside.Tables.{grammarIn}
 use Rattle.grammar.specs.inside.Ordered.{Ordered}
 use Rattle.grammar.proofs.OrderedLaws.{compile-ordered}
 use Rattle.grammar.proofs.OwnerLaws.{compile-first, compile-next, compile-kind}

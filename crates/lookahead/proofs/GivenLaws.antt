@@ -6,7 +6,7 @@ use Prim.Native.Nat.{ℕ}
 use Rattle.grammar.specs.Grammar.{Grammar}
 use Rattle.lookahead.specs.Configs.{Config, In, Closes, from, move}
 use Rattle.lookahead.specs.Outcomes.{Outcome}
-use Rattle.lookahead.specs.Rules.{MoreThan, Over, deep, many, Keeps, TooLarge, closed-over, kept-many, Nothing, Agreed, Rival, Conflict, Kept, Gives}
+use Rattle.lookahead.specs.Rules.{MoreThan, Over, deep, many, Keeps, TooLarge, closed-over, kept-many, Nothing, Agreed, Rival, Conflict, Gives}
 use Rattle.lookahead.specs.Rules.{rule1, rule2, rule3, rule4, rule5}
 use Rattle.lookahead.specs.Given.{Lists, Learns}
 use Rattle.lookahead.proofs.RuleLaws.{gives-one}

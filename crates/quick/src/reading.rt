@@ -6,7 +6,7 @@ use machine::Conclusion;
 use serving::Judged;
 use words::Standing;
 ghost use mathlib.Core.Path.{_≡_};
-ghost use Prim.Native.Nat.{_≤_, _<_};
+ghost use Prim.Native.Nat.{_≤_};
 ghost use lib.ListN.{length};
 ghost use Rattle.grammar.specs.inside.Tables.{grammarIn};
 ghost use Rattle.derivation.specs.Plain.{clear, onConclusion};

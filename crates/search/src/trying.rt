@@ -1,6 +1,5 @@
 // A pair is tried: the ends of all its alternatives, if all pairs that they ask are worked out.
 use crate::adding::Ends;
-use crate::walking::Passage;
 use crate::walking::Walked;
 use crate::ways::Way;
 use crate::words::Meter;

@@ -5,7 +5,7 @@ use mathlib.Core.List.{List, _∷_}
 use Prim.Native.Nat.{ℕ, suc}
 use Rattle.grammar.specs.declared.Symbol.the-variants.{Token, Nonterminal, End}
 use Rattle.grammar.specs.Grammar.{Grammar, facing, first}
-use Rattle.derivation.specs.Machine.{Choice, choice, Chooser}
+use Rattle.derivation.specs.Machine.{choice, Chooser}
 use Rattle.derivation.specs.Runs.{Serves}
 
 -- the alternative that a chooser names from state c

@@ -17,7 +17,7 @@ use Rattle.derivation.specs.inside.Frames.{returnsOf}
 use Rattle.filtering.specs.inside.OpenStacks.{Open, Reached}
 use Rattle.machine.specs.inside.Choice.{orZero}
 use Rattle.search.specs.inside.Words.{searchWords, Kept}
-use Rattle.search.specs.inside.Searching.{Pair, Holds, stateOf, MayAsk}
+use Rattle.search.specs.inside.Searching.{Pair, Holds, stateOf}
 use Rattle.search.specs.inside.Trials.{CameSoFar}
 use Rattle.search.specs.declared.words.Meter.{Meter}
 use Rattle.search.specs.declared.words.Size.{Size}

@@ -1,10 +1,9 @@
 -- Marks of open frames in words.
-use mathlib.Core.Path.{_≡_}
-use mathlib.Core.Bool.{Bool, false, _&&_, cond}
+use mathlib.Core.Bool.{Bool, _&&_, cond}
 use mathlib.Core.List.{List}
 use Prim.Native.Nat.{ℕ, suc, _+_, _*_, _<_}
 use lib.Dec.{eqb, ltb}
-use lib.ListN.{length, getD, set}
+use lib.ListN.{getD, set}
 use Rattle.grammar.specs.Grammar.{Grammar}
 use Rattle.positions.specs.inside.Positions.{positionCount, member}
 use Rattle.derivation.specs.Runs.{Opens}

@@ -1,5 +1,4 @@
 -- What the machine's loop leaves when each alternative is chosen by the quick reading's chooser, and what follows from that.
-use mathlib.Core.Path.{_≡_}
 use mathlib.Core.Bool.{Bool, true, false}
 use mathlib.Core.List.{List}
 use Prim.Native.Nat.{ℕ}

@@ -1,6 +1,6 @@
 -- Where a nonterminal waits: what the lowest alternative that serves rests on, and what entering it leaves.
 use mathlib.Core.Path.{_≡_}
-use mathlib.Core.Option.{none, some}
+use mathlib.Core.Option.{some}
 use mathlib.Core.List.{List, [], _∷_}
 use Prim.Native.Nat.{ℕ, suc, _<_}
 use lib.ListN.{length}

@@ -1,7 +1,7 @@
 -- `serving::sets::ask_down` meets its contract: each turn the next frame down gets the positions at which it is asked, and from those positions its return
 -- place says at which the frame below is.
 use mathlib.Core.Path.{_≡_, refl}
-use Prim.Native.Nat.{_≤_, _-_}
+use Prim.Native.Nat.{_≤_}
 use native.Mathlib.Omega.{arith}
 use lib.ListN.{length}
 use borrow.Author.Needs.{needs}
