@@ -56,14 +56,14 @@ module _ {g : Grammar} where
           → (b : ℕ) × (f : ℕ) × (first g a b ≡ some f) × DerivesBy g w f k k
       go {s} (f, d, p) x = (b, f, d, empty-der {r = s} f w k l (rw p x))
 
-  pub nullable-der : (a : ℕ) (w : List ℕ) (k : ℕ) → k ≤ length w → T (nullable? g a)
+  nullable-der : (a : ℕ) (w : List ℕ) (k : ℕ) → k ≤ length w → T (nullable? g a)
       → (b : ℕ) × (f : ℕ) × (first g a b ≡ some f) × DerivesBy g w f k k
   nullable-der a w k l t = let (r, x) = nullable-iff g a .0 t in call-der a w k l x refl refl
 
 -- ---- B5
 module _ {g : Grammar} {M : Masks} {w : List ℕ} (order : Ordered g) (c : Closed g M) where
   -- a pair that ends where it begins
-  pub ends-empty : (a i : ℕ) → i ≤ length w → PairEnds g M w a i i ↔ T (M .empty (tokenAt w i) a)
+  ends-empty : (a i : ℕ) → i ≤ length w → PairEnds g M w a i i ↔ T (M .empty (tokenAt w i) a)
   ends-empty a i l = (to, λ t. from (and-T (M .follows (tokenAt w i) a) (nullable? g a) (rw (c .empty-is (tokenAt w i) a) at t)))
     where
       to : PairEnds g M w a i i → T (M .empty (tokenAt w i) a)
@@ -75,7 +75,7 @@ module _ {g : Grammar} {M : Masks} {w : List ℕ} (order : Ordered g) (c : Close
           let (b, f, d, (r, x)) = nullable-der a w i l n in (b, (f, d, (r, der-filter order c x (rw (order .owns a b f d) h)), h))
 
   -- a pair that ends further on starts with the token there
-  pub ends-start : (a : ℕ) {i m : ℕ} → i < m → PairEnds g M w a i m → T (M .starts (tokenAt w i) a)
+  ends-start : (a : ℕ) {i m : ℕ} → i < m → PairEnds g M w a i m → T (M .starts (tokenAt w i) a)
   ends-start a l (b, (f, d, (r, x), h)) = start-right a b c d (derF-der x) l
 
   -- so a pair that does not start with it has no end but its own position

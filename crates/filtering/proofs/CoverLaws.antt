@@ -24,11 +24,11 @@ use Rattle.filtering.proofs.StartLaws.{admits-at, der-null, der-begins,
 use Rattle.filtering.proofs.FilterLaws.{der-filter}
 
 -- some walk of a pair that is worked out comes to place q at k
-abbrev pub Live : Grammar → Masks → List ℕ → (ℕ → ℕ → Bool) → ℕ → ℕ → Type 0
+abbrev Live : Grammar → Masks → List ℕ → (ℕ → ℕ → Bool) → ℕ → ℕ → Type 0
 Live g M w done q k = (a : ℕ) × (i : ℕ) × (b : ℕ) × (f : ℕ) × T (done a i) × (first g a b ≡ some f) × Walks g M w f i q k
 
 -- nothing that place q leaves begins with the token at k
-abbrev pub Dead : Grammar → Masks → List ℕ → ℕ → ℕ → Type 0
+abbrev Dead : Grammar → Masks → List ℕ → ℕ → ℕ → Type 0
 Dead g M w q k = ¬ Begins g M (tokenAt w k) q
 
 module _ {g : Grammar} {M : Masks} {w : List ℕ} (order : Ordered g) (c : Closed g M) (done : ℕ → ℕ → Bool) (high : ℕ)
@@ -69,7 +69,7 @@ module _ {g : Grammar} {M : Masks} {w : List ℕ} (order : Ordered g) (c : Close
   start-stays a b n d x = dead-stays (λ s. n (begins-start a b c d s)) x
 
   -- ---- a derivation from a walked point does not come behind
-  pub live-der : {p i j : ℕ} {r : List ℕ} → Der g w p i j r → Live g M w done p i → j ≤ high
+  live-der : {p i j : ℕ} {r : List ℕ} → Der g w p i j r → Live g M w done p i → j ≤ high
   live-der (Der.finish e l) v = live-in v
   live-der (Der.match e d t x) v = live-der x (live-over v (Over.token e d t))
   live-der (Der.expand {p = p} {a = a} {b = b} {f = f} {i = i} {m = m} {j = j} e d x y) v =

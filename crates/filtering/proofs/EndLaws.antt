@@ -65,7 +65,7 @@ module _ {g : Grammar} {M : Masks} {w : List ℕ} where
       to (r, x) = derF-end x e
 
   -- B4: a nonterminal
-  pub ends-call : {p a i j : ℕ} → facing g p ≡ Nonterminal a → Ends g M w p i j ↔ ((m : ℕ) × PairEnds g M w a i m × Ends g M w (suc p) m j)
+  ends-call : {p a i j : ℕ} → facing g p ≡ Nonterminal a → Ends g M w p i j ↔ ((m : ℕ) × PairEnds g M w a i m × Ends g M w (suc p) m j)
   ends-call {p} {a} {i} {j} e = (to, from)
     where
       to : Ends g M w p i j → (m : ℕ) × PairEnds g M w a i m × Ends g M w (suc p) m j
@@ -94,12 +94,12 @@ module _ {g : Grammar} {M : Masks} {w : List ℕ} where
   pub over-token : {p k i : ℕ} → facing g p ≡ Token k → i < length w → T (admits g k (tokenAt w i)) → Over g M w p i (suc i)
   over-token {i = i} e l q = token e (get-getD w i endMark l) q
 
-  pub over-to : {p i j : ℕ} → ¬ (facing g p ≡ End) → Ends g M w p i j → (m : ℕ) × Over g M w p i m × Ends g M w (suc p) m j
+  over-to : {p i j : ℕ} → ¬ (facing g p ≡ End) → Ends g M w p i j → (m : ℕ) × Over g M w p i m × Ends g M w (suc p) m j
   over-to n (r, DerF.finish e l) = absurd (n e)
   over-to {i = i} n (r, DerF.match e d t x) = (suc i, token e d t, (r, x))
   over-to n (r, DerF.expand {b = b} {f = f} {m = m} {r = r₁} {s = r₂} e d x t y) = (m, call e (b, (f, d, (r₁, x), t)), (r₂, y))
 
-  pub over-from : {p i m j : ℕ} → Over g M w p i m → Ends g M w (suc p) m j → Ends g M w p i j
+  over-from : {p i m j : ℕ} → Over g M w p i m → Ends g M w (suc p) m j → Ends g M w p i j
   over-from (token e d t) (r, x) = (r, DerF.match e d t x)
   over-from (call e (b, (f, d, (r, x), t))) (s, y) = (_, DerF.expand {b = b} e d x t y)
 

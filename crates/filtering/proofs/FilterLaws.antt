@@ -26,7 +26,7 @@ module _ {g : Grammar} {M : Masks} {w : List ℕ} where
 
 module _ {g : Grammar} {M : Masks} {w : List ℕ} (order : Ordered g) (c : Closed g M) where
   -- what is left behind a call derives a stretch whose end may be followed by what follows there: then the call's end may be followed too
-  pub behind-call : {p a m j : ℕ} {r : List ℕ} → facing g p ≡ Nonterminal a → Der g w (suc p) m j r → T (M .follows (tokenAt w j) (owner g p))
+  behind-call : {p a m j : ℕ} {r : List ℕ} → facing g p ≡ Nonterminal a → Der g w (suc p) m j r → T (M .follows (tokenAt w j) (owner g p))
       → T (M .follows (tokenAt w m) a)
   behind-call {p} {a} {m} {j} e y h = go (begins c y)
     where

@@ -13,7 +13,7 @@ use Rattle.filtering.specs.inside.Filtered.{Ends, PairEnds}
 use Rattle.filtering.proofs.FilterLaws.{derF-der}
 
 module _ (t : List ℕ) (h : Ready t) (w : List ℕ) where
-  pub ends-inside : {M : Masks} (p i m : ℕ) → p < grammarIn t .size → i ≤ length w → Ends (grammarIn t) M (marked w) p i m → m ≤ length w
+  ends-inside : {M : Masks} (p i m : ℕ) → p < grammarIn t .size → i ≤ length w → Ends (grammarIn t) M (marked w) p i m → m ≤ length w
   ends-inside p i m l z (r, x) = derives-inside t h w p i m l z (derives-complete (grammarIn t) (marked w) (derF-der x))
 
   pub pair-inside : {M : Masks} (a i m : ℕ) → i ≤ length w → PairEnds (grammarIn t) M (marked w) a i m → m ≤ length w

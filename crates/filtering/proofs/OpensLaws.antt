@@ -47,7 +47,7 @@ module _ (g : Grammar) (order : Ordered g) (w : List ℕ) where
 -- ---- symbol by symbol
 module _ {g : Grammar} {w : List ℕ} where
   -- over any symbol and on
-  pub over-opens : {M : Masks} {p i m : ℕ} {S : List ℕ} → Over g M w p i m → Opens g w (suc p ∷ S) m → Opens g w (p ∷ S) i
+  over-opens : {M : Masks} {p i m : ℕ} {S : List ℕ} → Over g M w p i m → Opens g w (suc p ∷ S) m → Opens g w (p ∷ S) i
   over-opens (token e d t) (s, y) = (s, Run.match e d t y)
   over-opens (call e (b, (f, d, (r, x), h))) (s, y) = (b ∷ (r ++ s), Run.expand e d (der+run (derF-der x) y))
 

@@ -21,7 +21,7 @@ module _ (g : Grammar) (M : Masks) (w : List ℕ) (a i k : ℕ) where
 
   -- ---- any X
   -- none of its ends yet
-  pub part-begin : (X : ℕ → Type 0) (t : Tag) → ((m : ℕ) → Next m → ¬ X m) → TaggedTo g M w a i k t → TaggedPart g M w a i k X t
+  part-begin : (X : ℕ → Type 0) (t : Tag) → ((m : ℕ) → Next m → ¬ X m) → TaggedTo g M w a i k t → TaggedPart g M w a i k X t
   part-begin X t n x = says-same (λ b m. (λ s. inl s, from b m)) x
     where
       from : (b m : ℕ) → Part X b m → (b ≤ k) × EndsBy g M w a i b m
@@ -29,7 +29,7 @@ module _ (g : Grammar) (M : Masks) (w : List ℕ) (a i k : ℕ) where
       from b m (inr (q, e, y)) = absurd (n m e y)
 
   -- the same of its ends
-  pub part-same : (X Y : ℕ → Type 0) (t : Tag) → ((m : ℕ) → Next m → X m ↔ Y m) → TaggedPart g M w a i k X t → TaggedPart g M w a i k Y t
+  part-same : (X Y : ℕ → Type 0) (t : Tag) → ((m : ℕ) → Next m → X m ↔ Y m) → TaggedPart g M w a i k X t → TaggedPart g M w a i k Y t
   part-same X Y t h x = says-same (λ b m. (to b m, from b m)) x
     where
       to : (b m : ℕ) → Part X b m → Part Y b m
@@ -41,7 +41,7 @@ module _ (g : Grammar) (M : Masks) (w : List ℕ) (a i k : ℕ) where
       from b m (inr (q, e, y)) = inr (q, e, h m e .1 y)
 
   -- one more of its ends, j
-  pub part-add : (X Y : ℕ → Type 0) (t : Tag) (j : ℕ) → Next j → ((m : ℕ) → Next m → Y m ↔ (X m ⊎ (m ≡ j))) → TaggedPart g M w a i k X t
+  part-add : (X Y : ℕ → Type 0) (t : Tag) (j : ℕ) → Next j → ((m : ℕ) → Next m → Y m ↔ (X m ⊎ (m ≡ j))) → TaggedPart g M w a i k X t
       → TaggedPart g M w a i k Y (add t (suc k) j)
   part-add X Y t j e h x = says-same (λ b m. (to b m, from b m)) (says-add (suc k) j high t x)
     where
@@ -63,7 +63,7 @@ module _ (g : Grammar) (M : Masks) (w : List ℕ) (a i k : ℕ) where
       from b m (inr (q, s, y)) = one b m q s (h m s .0 y)
 
   -- all of its ends
-  pub part-end : (X : ℕ → Type 0) (t : Tag) → ((m : ℕ) → Next m → X m) → TaggedPart g M w a i k X t → TaggedTo g M w a i (suc k) t
+  part-end : (X : ℕ → Type 0) (t : Tag) → ((m : ℕ) → Next m → X m) → TaggedPart g M w a i k X t → TaggedTo g M w a i (suc k) t
   part-end X t h x = says-same (λ b m. (to b m, λ s. from b m (decLe b k) s)) x
     where
       to : (b m : ℕ) → Part X b m → (b ≤ suc k) × EndsBy g M w a i b m

@@ -23,7 +23,7 @@ use Rattle.filtering.proofs.KnownLaws.{known-right, tells-right}
 use Rattle.filtering.proofs.OpensLaws.{opens-bottom, opens-by}
 
 module _ {g : Grammar} {M : Masks} (order : Ordered g) (c : Closed g M) (w : List ℕ) where
-  pub sentence-ends : Sentence (ofPlaces g) w ↔ PairEnds g M (marked w) 0 0 (length w)
+  sentence-ends : Sentence (ofPlaces g) w ↔ PairEnds g M (marked w) 0 0 (length w)
   sentence-ends = (to, from)
     where
       at-end : (b m : ℕ) → EndsBy g M (marked w) 0 0 b m → m ≡ length w → PairEnds g M (marked w) 0 0 (length w)
@@ -41,7 +41,7 @@ module _ {g : Grammar} {M : Masks} (order : Ordered g) (c : Closed g M) (w : Lis
           whole-sentence g (order .end-mark) (order .end-past) 0 w .0 (b, r, (f, d, y))
 
   -- the same of the test
-  pub sentence-test : T (sentence? g w) ↔ PairEnds g M (marked w) 0 0 (length w)
+  sentence-test : T (sentence? g w) ↔ PairEnds g M (marked w) 0 0 (length w)
   sentence-test =
       let h = sentence-iff g (order .end-mark) (order .end-past) w in
       (λ t. sentence-ends .0 (h .0 t), λ x. h .1 (sentence-ends .1 x))

@@ -34,7 +34,7 @@ module _ {g : Grammar} {M : Masks} {w : List ℕ} (order : Ordered g) (c : Close
       from (m, (f, d, x, h), y) = (f, d, opens-by order c a b f o d .1 (m, (f, d, x, h), y))
 
   -- a stretch of a production that leads to a reading is an end
-  pub ends-of : (b f n : ℕ) → first g a b ≡ some f → T (derives? g w f i n) → Opens g w S n → EndsBy g M w a i b n
+  ends-of : (b f n : ℕ) → first g a b ≡ some f → T (derives? g w f i n) → Opens g w S n → EndsBy g M w a i b n
   ends-of b f n d t (s, y) =
       let (r, x) = derives-sound g w t in
       let h = follow-right order c o y in
@@ -57,20 +57,20 @@ module _ {g : Grammar} {M : Masks} {w : List ℕ} (order : Ordered g) (c : Close
     least k s = let (n, x, y) = serves-by k .0 s in only k n x .1
 
     -- the rest is read from that end: this alternative serves, and it is the lowest that does
-    pub single-serves : Opens g w S m → Serves g w S a i b
+    single-serves : Opens g w S m → Serves g w S a i b
     single-serves y = serves-by b .1 (m, gives, y)
 
     pub single-lowest : Opens g w S m → lowest g w S a i ≡ some b
     single-lowest y = lowest-one (lowest-serves g w S a i) (this b (single-serves y) least)
 
     -- from any end of the production the rest is read exactly if it is the single end
-    pub single-set : (k f n : ℕ) → first g a k ≡ some f → T (derives? g w f i n) → Opens g w S m → eqb n m ≡ runs? g w S n
+    single-set : (k f n : ℕ) → first g a k ≡ some f → T (derives? g w f i n) → Opens g w S m → eqb n m ≡ runs? g w S n
     single-set k f n d t y =
         same (eqb n m) (runs? g w S n) (λ q. rw (eqb→eq n m q) (runs-iff g w S m .1 y))
         (λ q. rw (only k n (ends-of k f n d t (runs-iff g w S n .0 q)) .0) (eqb-refl m))
 
 -- the stack under a calling place opens, and the pair has a single end: the rest is read from it
-pub single-opens : {g : Grammar} {M : Masks} {w : List ℕ} (order : Ordered g) (c : Closed g M) (p a i m b : ℕ) (more : Bool) {S : List ℕ}
+single-opens : {g : Grammar} {M : Masks} {w : List ℕ} (order : Ordered g) (c : Closed g M) (p a i m b : ℕ) (more : Bool) {S : List ℕ}
     → Open g (owner g p) S → facing g p ≡ Nonterminal a → Tagged g M w a i (one-end m b more) → Opens g w (p ∷ S) i → Opens g w (suc p ∷ S) m
 single-opens {g} {M} {w} order c p a i m b more {S} o e (one x u h) y = go (opens-call order c a o e .0 y)
   where

@@ -20,17 +20,17 @@ calls-open (quiet (Quiet.token f q)) e = clash (cc)
 
 -- ---- places that go on in the same production, or begin one
 module _ {g : Grammar} (order : Ordered g) where
-  pub open-first : {S : List ℕ} (a b f : ℕ) → first g a b ≡ some f → Open g a S → Open g (owner g f) S
+  open-first : {S : List ℕ} (a b f : ℕ) → first g a b ≡ some f → Open g a S → Open g (owner g f) S
   open-first a b f d o = rw (order .owns a b f d) o
 
-  pub open-token : {S : List ℕ} (p k : ℕ) → facing g p ≡ Token k → Open g (owner g p) S → Open g (owner g (suc p)) S
+  open-token : {S : List ℕ} (p k : ℕ) → facing g p ≡ Token k → Open g (owner g p) S → Open g (owner g (suc p)) S
   open-token p k e o = rw (order .token-on p k e) o
 
   pub open-call : {S : List ℕ} (p a : ℕ) → facing g p ≡ Nonterminal a → Open g (owner g p) S → Open g (owner g (suc p)) S
   open-call p a e o = rw (order .call-on p a e) o
 
   -- the stack under a production that is at its end
-  pub open-pop : {a : ℕ} {S : List ℕ} → Open g a S → Stands g S
+  open-pop : {a : ℕ} {S : List ℕ} → Open g a S → Stands g S
   open-pop bottom = quiet (end-quiet g order)
   open-pop (frame {p = p} {a = a} e o) = inside (open-call p a e o)
 

@@ -67,12 +67,12 @@ module _ {g : Grammar} {M : Masks} {w : List ℕ} where
       go (inr (m, h, u)) = inr (m, h, on u o)
 
   -- a walk over the first symbol, and one from there on
-  pub walks-then : {p i m q k : ℕ} → Over g M w p i m → Walks g M w (suc p) m q k → Walks g M w p i q k
+  walks-then : {p i m q k : ℕ} → Over g M w p i m → Walks g M w (suc p) m q k → Walks g M w p i q k
   walks-then o here = on here o
   walks-then o (on v o′) = on (walks-then o v) o′
 
   -- an end is where a walk comes to the production's end
-  pub ends-walk : {p i j : ℕ} {r : List ℕ} → DerF g M w p i j r → (q : ℕ) × Walks g M w p i q j × (facing g q ≡ End)
+  ends-walk : {p i j : ℕ} {r : List ℕ} → DerF g M w p i j r → (q : ℕ) × Walks g M w p i q j × (facing g q ≡ End)
   ends-walk (DerF.finish {p = p} e l) = (p, here, e)
   ends-walk (DerF.match e d t x) = let (q, v, z) = ends-walk x in (q, walks-then (Over.token e d t) v, z)
   ends-walk (DerF.expand {b = b} {f = f} {r = r} e d x h y) =

@@ -27,7 +27,7 @@ use Rattle.filtering.proofs.WalkLaws.{reach-before}
 highest-least : (p : ℕ → Bool) (n k m : ℕ) → Highest p n k → Highest p n m → ¬ (k < m)
 highest-least p n k m (l, t, h) (l′, t′, h′) q = h m q l′ t′
 
-pub highest-unique : (p : ℕ → Bool) (n k m : ℕ) → Highest p n k → Highest p n m → k ≡ m
+highest-unique : (p : ℕ → Bool) (n k m : ℕ) → Highest p n k → Highest p n m → k ≡ m
 highest-unique p n k m x y = go (decLt k m) (decLt m k)
   where
     go : Dec (k < m) → Dec (m < k) → k ≡ m
@@ -40,7 +40,7 @@ module _ (g : Grammar) (w : List ℕ) where
   marked-alike : Alike w (marked w) (length w)
   marked-alike i l = sym (get-note w i l)
 
-  pub arrives-marked : (k : ℕ) → k ≤ length w → Arrives g w k ↔ Arrives g (marked w) k
+  arrives-marked : (k : ℕ) → k ≤ length w → Arrives g w k ↔ Arrives g (marked w) k
   arrives-marked k l =
       (λ h. (h .0, reach-alike (h .1) (length w) l marked-alike), λ h. (h .0, reach-alike (h .1) (length w) l (λ i m. get-note w i m)))
 

@@ -119,7 +119,7 @@ module _ {g : Grammar} (L : Lined g) where
   -- ---- the words
   module _ (R : Relations) (G : Gathered g (g .size) R) where
     -- with the end mark behind the start symbol, and the rows closed
-    abbrev pub closed : Relations
+    abbrev closed : Relations
     closed = record {
       masks = set (R .masks) 1 (setBit (getD (R .masks) 1 0) 0);
       above = reachOf n n (R .above);
@@ -246,7 +246,7 @@ module _ {g : Grammar} (L : Lined g) where
             follow-is = rw (h .kept (followAt t) (omega arith)) (join-empty (closed .last) behind behind (λ a. no-behind t a few (omega arith)));
           }
 
-      pub related : Related g ws
+      related : Related g ws
       related = record {
         start-is = λ t few a. (start-first t few ws (every-kind t few) a, λ x. first-start t few ws (every-kind t few) x);
         follow-is = λ t few a. (follow-from t few ws (every-kind t few) a, λ x. follow-in t few ws (every-kind t few) x);

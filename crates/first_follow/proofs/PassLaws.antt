@@ -25,7 +25,7 @@ use Rattle.first_follow.proofs.SkipLaws.{Vanishing, skips-le, leading-o
 
 -- ---- words as sets
 -- w′ has the members of w and those that Q tells
-abbrev pub Adds : ℕ → ℕ → (ℕ → Type 0) → Type 0
+abbrev Adds : ℕ → ℕ → (ℕ → Type 0) → Type 0
 Adds w w′ Q = SetIs w′ (λ a. T (testBit w a) ⊎ Q a)
 
 pub adds-or : (w x : ℕ) → Adds w (bitOr w x) (λ a. T (testBit x a))
@@ -126,7 +126,7 @@ module _ (ws : List ℕ) (k v u : ℕ) (long : length ws ≡ maskWords) (few : k
       at-set S (set ws (startAt k) v) (followAt k) u (followAt j) (simp length-set (omega arith)) (λ e. h (omega arith))
       (λ m. rw (getD-set-other ws (startAt k) (followAt j) v 0 (λ e. omega arith)) (n (λ e. m (omega arith))))
 
-  pub stored-long : length stored ≡ maskWords
+  stored-long : length stored ≡ maskWords
   stored-long = simp length-set (omega arith)
 
 module _ {g : Grammar} (L : Lined g) where

@@ -63,7 +63,7 @@ module _ {t w ms ws₀ : List ℕ} {base known : ℕ} {R : Type 0} {m : Meter} w
   }
 
   -- a frame was marked
-  pub going-marked : {ws : List ℕ} {at : Meter} (k j : ℕ) → searchWords (nonterminalsIn t) (length w) ≤ base
+  going-marked : {ws : List ℕ} {at : Meter} (k j : ℕ) → searchWords (nonterminalsIn t) (length w) ≤ base
       → Going t w ms ws₀ base known R m ws at → Going t w ms ws₀ base known R m (markIfNew ws base known k j) at
   going-marked {ws} k j b x = record {
     kept = kept-mark t w ms base known b ws₀ ws k j (x .kept);
@@ -75,7 +75,7 @@ module _ {t w ms ws₀ : List ℕ} {base known : ℕ} {R : Type 0} {m : Meter} w
   pub going-searching : {ws : List ℕ} {at : Meter} → Searching t w ms ws₀ → Going t w ms ws₀ base known R m ws at → Searching t w ms ws
   going-searching s x = searching-on s (x .kept .long) (x .kept .holds)
 
-  pub going-stacked : {ws : List ℕ} {at : Meter} {s : Size} {d k : ℕ} → Stacked t w ms ws₀ s base d known → Going t w ms ws₀ base known R m ws at → k ≤ d
+  going-stacked : {ws : List ℕ} {at : Meter} {s : Size} {d k : ℕ} → Stacked t w ms ws₀ s base d known → Going t w ms ws₀ base known R m ws at → k ≤ d
       → Stacked t w ms ws s base k known
   going-stacked h x l =
       let y = stack-on h (x .kept) in
@@ -187,7 +187,7 @@ module _ {t w ms ws₀ : List ℕ} {s : Size} {base d known q i : ℕ} {m : Mete
           rw (may .stacked .sized .names, may .stacked .sized .tokens)
           (y .named, y .came .within, h .given .ready .fits .few, h .given .short, h .room)
 
-      pub down-spread : MaySpread t w ms ws s base k known r (setOf t w ws b n)
+      down-spread : MaySpread t w ms ws s base k known r (setOf t w ws b n)
       down-spread = record {
         stacked = going-stacked (may .stacked) (x .down .going) (x .low);
         stack = rw same-returns goes-stack;
@@ -195,7 +195,7 @@ module _ {t w ms ws₀ : List ℕ} {s : Size} {base d known q i : ℕ} {m : Mete
         within = y .members;
       }
 
-      pub down-several : {after : List ℕ} {a : Descent} → Scattered t w ms ws after base k known r (setOf t w ws b n) at a
+      down-several : {after : List ℕ} {a : Descent} → Scattered t w ms ws after base k known r (setOf t w ws b n) at a
           → Descended t w ms ws₀ after base d known q i m a
       down-several {after} {a} z = record {
         kept = stack-then (x .down .going .kept) (z .kept);
@@ -226,7 +226,7 @@ module _ {t w ms ws₀ : List ℕ} {s : Size} {base d known q i : ℕ} {m : Mete
       down-room =
           (omega (arith, may .stacked .room, x .low, x .down .going .kept .long), omega (arith, y .came .within, may .stacked .searching .given .short))
 
-      pub down-frame : Down t w ms ws₀ base d known q i m (markIfNew ws base known l n) at (returnsOf ws₀ base (suc l)) n l
+      down-frame : Down t w ms ws₀ base d known q i m (markIfNew ws base known l n) at (returnsOf ws₀ base (suc l)) n l
       down-frame = record {
         going = going-marked l n (may .stacked .behind) (x .down .going);
         position = y .came .within;
@@ -243,7 +243,7 @@ module _ {t w ms ws₀ : List ℕ} {s : Size} {base d known q i : ℕ} {m : Mete
           mark f a b c o (yes h) = rw (h, mark-there ws base known l n (omega arith) (down-room .0)) o
           mark f a b c o (no h) = rw (mark-other ws base known l n f h) (x .down .marks f (omega arith) b c (single .1 o))
 
-      pub down-open : Open (grammarIn t) (owner (grammarIn t) p) (returnsOf ws₀ base (suc l))
+      down-open : Open (grammarIn t) (owner (grammarIn t) p) (returnsOf ws₀ base (suc l))
       down-open = rw (← e) (x .stack)
 
   -- ---- at a frame
@@ -258,7 +258,7 @@ module _ {t w ms ws₀ : List ℕ} {s : Size} {base d known q i : ℕ} {m : Mete
         go (no c) = rw (returns-kept ws₀ ws base (suc f) (x .going .kept .places)) (x .marks f (h f (omega arith)) b (omega arith) o)
 
     -- the mark of the frame says so
-    pub down-met : l < known → markAt ws base l ≡ j → Descended t w ms ws₀ ws base d known q i m (record { yes = true; single = true; meter = at })
+    down-met : l < known → markAt ws base l ≡ j → Descended t w ms ws₀ ws base d known q i m (record { yes = true; single = true; meter = at })
     down-met c e = record {
       kept = x .going .kept;
       spent = x .going .spent;
@@ -271,7 +271,7 @@ module _ {t w ms ws₀ : List ℕ} {s : Size} {base d known q i : ℕ} {m : Mete
         here = rw (returns-kept ws₀ ws base (suc l) (x .going .kept .places), e) at (x .going .kept .marks l c)
 
     -- it is the lowest, where the note's end is due
-    pub down-lowest : {a n : ℕ} → l ≡ 0 → n ≡ length w → Open (grammarIn t) a (returnsOf ws₀ base (suc l))
+    down-lowest : {a n : ℕ} → l ≡ 0 → n ≡ length w → Open (grammarIn t) a (returnsOf ws₀ base (suc l))
         → Descended t w ms ws₀ ws base d known q i m (record { yes = eqb j n; single = true; meter = at })
     down-lowest {a} {n} z h o = record {
       kept = x .going .kept;
@@ -291,7 +291,7 @@ module _ {t w ms ws₀ : List ℕ} {s : Size} {base d known q i : ℕ} {m : Mete
         there u = rw (u, h) (eqb-refl (length w))
 
     -- or the next place to go on from
-    pub down-next : {a p : ℕ} → ¬ (l ≡ 0) → suc l ≤ d → Open (grammarIn t) a (returnsOf ws₀ base (suc l)) → p ≡ getD ws (base + frameWords * l) 0
+    down-next : {a p : ℕ} → ¬ (l ≡ 0) → suc l ≤ d → Open (grammarIn t) a (returnsOf ws₀ base (suc l)) → p ≡ getD ws (base + frameWords * l) 0
         → Downwards t w ms ws₀ base d known q i m ws at p j l
     down-next {a} {p} z h o e =
         let y = next-place ws₀ base t w (may .stacked .searching .given .ready) l p (omega arith) o (e ∙ x .going .kept .places l) in

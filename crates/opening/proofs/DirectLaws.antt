@@ -41,14 +41,14 @@ use Rattle.opening.proofs.KeptLaws.{same-words}
 use Rattle.opening.proofs.EmptyLaws.{empty-lowest}
 
 -- ---- the only alternative
-pub only-lowest : (t : List ℕ) → Ready t → (w S : List ℕ) (a i : ℕ) → length (alternatives (grammarIn t) a) < 2 → (b : ℕ) → Serves (grammarIn t) w S a i b
+only-lowest : (t : List ℕ) → Ready t → (w S : List ℕ) (a i : ℕ) → length (alternatives (grammarIn t) a) < 2 → (b : ℕ) → Serves (grammarIn t) w S a i b
     → lowest (grammarIn t) w S a i ≡ some 1
 only-lowest t h w S a i l b s =
     let z : b ≡ 1 = omega (arith, first-lt (grammarIn t) w a b (s .0) (s .1), named-some t h a b (s .0, s .1)) in
     lowest-one (lowest-serves (grammarIn t) w S a i) (this 1 (rw z at s) (λ c x. named-some t h a c (x .0, x .1)))
 
 -- ---- that of a single end
-pub single-taken : {g : Grammar} {M : Masks} {w : List ℕ} (order : Ordered g) (c : Closed g M) {S : List ℕ} (a i : ℕ) → Open g a S
+single-taken : {g : Grammar} {M : Masks} {w : List ℕ} (order : Ordered g) (c : Closed g M) {S : List ℕ} (a i : ℕ) → Open g a S
     → (m b : ℕ) (more : Bool) → Tagged g M w a i (one-end m b more) → (k : ℕ) → Serves g w S a i k → lowest g w S a i ≡ some b
 single-taken order c a i o m b more (one p u e) k s =
     let (n, x, y) = serves-by order c a i o k .0 s in single-lowest order c a i o m b more (one p u e) (rw (u k n x .0) at y)

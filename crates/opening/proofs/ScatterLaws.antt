@@ -31,10 +31,10 @@ use Rattle.opening.proofs.FrameLaws.{open-some, returns-top, opens-lowe
 use Rattle.opening.proofs.DescentLaws.{Going, going-none, going-worked, going-searching, stack-order, stack-closed}
 
 -- the stack S opens from some member of x, and is reached at all of them
-abbrev pub OpensAmong : List ℕ → List ℕ → List ℕ → List ℕ → Type 0
+abbrev OpensAmong : List ℕ → List ℕ → List ℕ → List ℕ → Type 0
 OpensAmong t w x S = (j : ℕ) × T (member x j) × Opens (grammarIn t) (marked w) S j
 
-abbrev pub ReachedAmong : List ℕ → List ℕ → List ℕ → List ℕ → Type 0
+abbrev ReachedAmong : List ℕ → List ℕ → List ℕ → List ℕ → Type 0
 ReachedAmong t w x S = (j : ℕ) → T (member x j) → Reached (grammarIn t) (marked w) S j
 
 -- the stack S at the members of x stands for place q over d frames at those of x₀

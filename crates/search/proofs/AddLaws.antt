@@ -94,7 +94,7 @@ with-long s j h e = ap length e ∙ (length-with s j ∙ h)
 
 -- ---- the members of a set in rising order
 -- the alternative's ends are the members whose token may follow a
-abbrev pub EndsAre : List ℕ → List ℕ → ℕ → List ℕ → Grammar → ℕ → ℕ → Type 0
+abbrev EndsAre : List ℕ → List ℕ → ℕ → List ℕ → Grammar → ℕ → ℕ → Type 0
 EndsAre ms w a x g i k =
     (m : ℕ) → EndsBy g (masksIn ms) (marked w) a i k m ↔ (T (member x m) × T (masksIn ms .follows (tokenAt (marked w) m) a))
 

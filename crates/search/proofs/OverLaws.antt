@@ -48,7 +48,7 @@ pub record Through (t w ms : List ℕ) (p : ℕ) (x : List ℕ) (m : ℕ) (y : L
   pub leads : LeadsBelow (grammarIn t) (masksIn ms) (marked w) p (λ k. T (member x k)) m (λ k. T (member y k))
 
 module _ (t w ms : List ℕ) (p : ℕ) (x : List ℕ) where
-  pub through-begin : (m : ℕ) (y : List ℕ) → NextOf x 0 m → y ≡ emptySet → Through t w ms p x m y
+  through-begin : (m : ℕ) (y : List ℕ) → NextOf x 0 m → y ≡ emptySet → Through t w ms p x m y
   through-begin m y n e =
       record {
         most = n .most;
@@ -61,11 +61,11 @@ module _ (t w ms : List ℕ) (p : ℕ) (x : List ℕ) where
 
 module _ {t w ms : List ℕ} {p : ℕ} {x : List ℕ} {m : ℕ} {y : List ℕ} (short : length w < positionCount) (z : Through t w ms p x m y) where
   -- the next member, where the note is not gone through
-  pub through-here : m ≤ length w → T (member x m)
+  through-here : m ≤ length w → T (member x m)
   through-here l = true→T (member x m) (z .found (omega arith))
 
   -- y′ has besides y what the symbol leads to from it
-  pub through-more : (m′ : ℕ) (y′ : List ℕ) → m ≤ length w → NextOf x (m + 1) m′ → length y′ ≡ setWords
+  through-more : (m′ : ℕ) (y′ : List ℕ) → m ≤ length w → NextOf x (m + 1) m′ → length y′ ≡ setWords
       → ((k : ℕ) → T (member y′ k) ↔ (T (member y k) ⊎ Over (grammarIn t) (masksIn ms) (marked w) p m k)) → Through t w ms p x m′ y′
   through-more m′ y′ l n e h =
       record {
@@ -80,7 +80,7 @@ module _ {t w ms : List ℕ} {p : ℕ} {x : List ℕ} {m : ℕ} {y : List ℕ} (
       }
 
   -- it leads nowhere
-  pub through-same : (m′ : ℕ) → m ≤ length w → NextOf x (m + 1) m′ → ((k : ℕ) → ¬ Over (grammarIn t) (masksIn ms) (marked w) p m k)
+  through-same : (m′ : ℕ) → m ≤ length w → NextOf x (m + 1) m′ → ((k : ℕ) → ¬ Over (grammarIn t) (masksIn ms) (marked w) p m k)
       → Through t w ms p x m′ y
   through-same m′ l n h = through-more m′ y l n (z .long) (λ k. (λ u. inl u, back k))
     where
@@ -89,7 +89,7 @@ module _ {t w ms : List ℕ} {p : ℕ} {x : List ℕ} {m : ℕ} {y : List ℕ} (
       back k (inr o) = absurd (h k o)
 
   -- it leads to one position, or to those of a set
-  pub through-with : (m′ k : ℕ) {y′ : List ℕ} → m ≤ length w → NextOf x (m + 1) m′ → k < positionCount → y′ ≡ withOf y k
+  through-with : (m′ k : ℕ) {y′ : List ℕ} → m ≤ length w → NextOf x (m + 1) m′ → k < positionCount → y′ ≡ withOf y k
       → ((n : ℕ) → Over (grammarIn t) (masksIn ms) (marked w) p m n ↔ (n ≡ k)) → Through t w ms p x m′ y′
   through-with m′ k {y′} l n b e h = through-more m′ y′ l n (rw (e, length-with y k) (z .long)) (λ j. (to j, from j))
     where
@@ -100,7 +100,7 @@ module _ {t w ms : List ℕ} {p : ℕ} {x : List ℕ} {m : ℕ} {y : List ℕ} (
       from j (inl u) = with-iff y k (z .long) b e j .1 (inl u)
       from j (inr o) = with-iff y k (z .long) b e j .1 (inr (h j .0 o))
 
-  pub through-set : (m′ : ℕ) (o : List ℕ) {y′ : List ℕ} → m ≤ length w → NextOf x (m + 1) m′ → length o ≡ setWords → y′ ≡ unionOf y o
+  through-set : (m′ : ℕ) (o : List ℕ) {y′ : List ℕ} → m ≤ length w → NextOf x (m + 1) m′ → length o ≡ setWords → y′ ≡ unionOf y o
       → ((n : ℕ) → Over (grammarIn t) (masksIn ms) (marked w) p m n ↔ T (member o n)) → Through t w ms p x m′ y′
   through-set m′ o {y′} l n b e h = through-more m′ y′ l n (rw (e, length-union y o)) (λ j. (to j, from j))
     where
@@ -112,12 +112,12 @@ module _ {t w ms : List ℕ} {p : ℕ} {x : List ℕ} {m : ℕ} {y : List ℕ} (
       from j (inr v) = union-iff y o (z .long) b e j .1 (inr (h j .0 v))
 
   -- no member is left
-  pub through-end : Within w x → length w < m → Leads (grammarIn t) (masksIn ms) (marked w) p (λ k. T (member x k)) (λ k. T (member y k))
+  through-end : Within w x → length w < m → Leads (grammarIn t) (masksIn ms) (marked w) p (λ k. T (member x k)) (λ k. T (member y k))
   through-end inside l =
       leads-end p (λ k. T (member x k)) (λ k. T (member y k)) m (λ k a u. let b = inside k u in absurd (omega arith)) (z .leads)
 
 -- where a symbol of the grammar leads lies within the note
-pub over-inside : {t w ms ws : List ℕ} (s : Searching t w ms ws) (p j : ℕ) {m : ℕ} → p < grammarIn t .size → j ≤ length w
+over-inside : {t w ms ws : List ℕ} (s : Searching t w ms ws) (p j : ℕ) {m : ℕ} → p < grammarIn t .size → j ≤ length w
     → Over (grammarIn t) (masksIn ms) (marked w) p j m → m ≤ length w
 over-inside {t} {w} s p j l i (Over.token {k = k} e d a) = let h = token-inside t (s .given .ready) w p k j l e d a in omega arith
 over-inside {t} {w} s p j l i (Over.call {a = a} {m = m} e h) = pair-inside t (s .given .ready) w a j m i h

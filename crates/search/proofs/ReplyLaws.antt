@@ -29,7 +29,7 @@ use Rattle.search.specs.inside.Words.{tagAt, searchWords, tagFrom, tagOf
 use Rattle.search.specs.inside.Searching.{setOf, stateOf, Given, MayAsk, replyIn, KnownIs}
 
 -- ---- tokens of a note that is given
-pub kinds-few : (t : List ℕ) → Ready t → grammarIn t .kinds ≤ maxKinds
+kinds-few : (t : List ℕ) → Ready t → grammarIn t .kinds ≤ maxKinds
 unfolding compile
 kinds-few t h = omega (arith, ap (λ (g : Grammar). g .kinds) (h .says), h .limited .kinds-most)
 

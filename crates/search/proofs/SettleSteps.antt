@@ -39,7 +39,7 @@ room-is {t} {w} s z = rw (z .names, z .tokens, add-one (length w))
 
 -- ---- the loop
 -- the k-th pair that waits, as one number
-abbrev pub waitIn : List ℕ → List ℕ → List ℕ → ℕ → ℕ
+abbrev waitIn : List ℕ → List ℕ → List ℕ → ℕ → ℕ
 waitIn t w us k = getD us (waitsAt (nonterminalsIn t) (length w) + k) 0
 
 pub read-wait : {t w : List ℕ} (us : List ℕ) (s : Size) (k : ℕ) {y : ℕ} → Sized t w s → y ≡ getD us (waitsAt (s .nonterminals) (s .n) + k) 0
@@ -47,7 +47,7 @@ pub read-wait : {t w : List ℕ} (us : List ℕ) (s : Size) (k : ℕ) {y : ℕ} 
 read-wait us s k z e = rw (z .names, z .tokens) at e
 
 -- something holds of the pair that a number says
-abbrev pub OfPair : (ℕ → ℕ → Type 0) → ℕ → Type 0
+abbrev OfPair : (ℕ → ℕ → Type 0) → ℕ → Type 0
 OfPair P x = P (x % perAlternative) (x / perAlternative)
 
 -- what is known of how far the search came, if the pair that was asked is called: so are all that were asked for it

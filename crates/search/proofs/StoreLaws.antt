@@ -63,7 +63,7 @@ pub record Written (N n : ℕ) (ws : List ℕ) (a i : ℕ) (tag : Tag) (us : Lis
   pub other : (j : ℕ) → ¬ (j ≡ i) → ¬ (j ≡ tagAt N n a i) → (j < pairSet N n a i) ⊎ (pairSet N n a i + setWords ≤ j) → getD us j 0 ≡ getD ws j 0
 
 module _ (N n a i : ℕ) (l : a < N) (k : i ≤ n) {ws us : List ℕ} {tag : Tag} (x : Written N n ws a i tag us) where
-  pub written-kept : Kept (waitsAt N n) ws us
+  written-kept : Kept (waitsAt N n) ws us
   written-kept = record {
     long = x .long;
     word = λ j h. x .other j (λ e. omega arith) (λ e. omega (arith, tag-below N n a i l k, tags-below N n)) (inr (omega (arith, set-below N n a i l k)));
@@ -94,7 +94,7 @@ module _ (N n a i : ℕ) (l : a < N) (k : i ≤ n) {ws us : List ℕ} {tag : Tag
       rest q f g =
           x .other q (λ e. omega arith) (λ e. omega (arith, tag-below N n a i l k)) (side q f g (decLt (pairAt N b j) (pairAt N a i)))
 
-  pub written-stored : {t : ends.Tag} → tagOf tag (setAt us (pairSet N n a i)) ≡ t → Stored (stateIn N n ws) a i t (stateIn N n us)
+  written-stored : {t : ends.Tag} → tagOf tag (setAt us (pairSet N n a i)) ≡ t → Stored (stateIn N n ws) a i t (stateIn N n us)
   unfolding tagIn
   written-stored {t} e = record { has = bit-here; new = rw (x .tagged) e; keeps = keeps; cases = cases }
     where
@@ -134,7 +134,7 @@ module _ (N n a i : ℕ) (l : a < N) (k : i ≤ n) {ws us : List ℕ} {tag : Tag
 -- ---- as the code writes
 module _ (N n a i : ℕ) (l : a < N) (k : i ≤ n) (ws : List ℕ) (room : searchWords N n ≤ length ws) {tag : Tag} where
   -- the tag, then the bit
-  pub written-tag : (v y : ℕ) → tagFrom v ≡ tag → y ≡ setBit (getD (set ws (tagAt N n a i) v) i 0) a
+  written-tag : (v y : ℕ) → tagFrom v ≡ tag → y ≡ setBit (getD (set ws (tagAt N n a i) v) i 0) a
       → Written N n ws a i tag (set (set ws (tagAt N n a i) v) i y)
   written-tag v y e f = record {
     long = length-set (set ws (tagAt N n a i) v) i y ∙ length-set ws (tagAt N n a i) v;
@@ -148,7 +148,7 @@ module _ (N n a i : ℕ) (l : a < N) (k : i ≤ n) (ws : List ℕ) (room : searc
   }
 
   -- then the set
-  pub written-set : {us : List ℕ} (s : List ℕ) → Written N n ws a i tag us → Written N n ws a i tag (putAt us (pairSet N n a i) s)
+  written-set : {us : List ℕ} (s : List ℕ) → Written N n ws a i tag us → Written N n ws a i tag (putAt us (pairSet N n a i) s)
   written-set {us} s x = record {
     long = length-put us (pairSet N n a i) s ∙ x .long;
     here = put-word us (pairSet N n a i) i s (inl (omega arith)) ∙ x .here;
@@ -156,7 +156,7 @@ module _ (N n a i : ℕ) (l : a < N) (k : i ≤ n) (ws : List ℕ) (room : searc
     other = λ j p q r. put-word us (pairSet N n a i) j s r ∙ x .other j p q r;
   }
 
-  pub set-there : {us : List ℕ} (s : List ℕ) → Written N n ws a i tag us → length s ≡ setWords → setAt (putAt us (pairSet N n a i) s) (pairSet N n a i) ≡ s
+  set-there : {us : List ℕ} (s : List ℕ) → Written N n ws a i tag us → length s ≡ setWords → setAt (putAt us (pairSet N n a i) s) (pairSet N n a i) ≡ s
   set-there {us} s x h = set-put us (pairSet N n a i) s (omega (arith, x .long, set-below N n a i l k, waits-end N n)) h
 
 -- ---- the ways out

@@ -25,7 +25,7 @@ use Rattle.search.specs.inside.Words.{pairAt, tagAt, pairSet, waitsAt, s
 use Rattle.search.specs.inside.Searching.{Holds, stateOf}
 
 -- ---- numbers of pairs
-pub pair-below : (N n a i : ℕ) → a < N → i ≤ n → pairAt N a i < suc n * N
+pair-below : (N n a i : ℕ) → a < N → i ≤ n → pairAt N a i < suc n * N
 pair-below N n a i l k = let m : i * N ≤ n * N = mul-le-mul-right N k in omega (arith, suc-mul n N)
 
 -- there are few of them
@@ -99,7 +99,7 @@ pub record Agree (N n : ℕ) (ws us : List ℕ) : Type 0 where
   pub word : (j : ℕ) → j < waitsAt N n → getD us j 0 ≡ getD ws j 0
 
 module _ (N n : ℕ) {ws us : List ℕ} (h : Agree N n ws us) where
-  pub done-same : (a i : ℕ) → doneIn N n us a i ≡ doneIn N n ws a i
+  done-same : (a i : ℕ) → doneIn N n us a i ≡ doneIn N n ws a i
   done-same a i = same (doneIn N n us a i) (doneIn N n ws a i) to from
     where
       word : i ≤ n → getD us i 0 ≡ getD ws i 0
@@ -111,7 +111,7 @@ module _ (N n : ℕ) {ws us : List ℕ} (h : Agree N n ws us) where
       from : T (doneIn N n ws a i) → T (doneIn N n us a i)
       from t = let d = done-inside N n ws a i t in done-here N n us a i (d .0) (d .1) (rw (word (d .1)) (d .2))
 
-  pub tag-same : (a i : ℕ) → a < N → i ≤ n → tagIn N n us a i ≡ tagIn N n ws a i
+  tag-same : (a i : ℕ) → a < N → i ≤ n → tagIn N n us a i ≡ tagIn N n ws a i
   tag-same a i l k =
       let b = set-below N n a i l k in
       tag-kept N n ws us a i (h .word (tagAt N n a i) (omega (arith, tag-below N n a i l k, tags-below N n))) (λ j f g. h .word j (omega arith))

@@ -47,7 +47,7 @@ module _ (P n base d : ℕ) (start ws : List ℕ) where
     kept : SetsOnly base k d ws vs
     kept = only-put k s (omega arith) (omega arith) (omega arith) l (x .asked .kept)
 
-    pub asking-on : {q : ℕ} (b : List ℕ) → q ≡ returnAt vs base k → Onward P vs n s b 0 q r → Asking k (putAt us (base + frameWords * k + 1) s) r
+    asking-on : {q : ℕ} (b : List ℕ) → q ≡ returnAt vs base k → Onward P vs n s b 0 q r → Asking k (putAt us (base + frameWords * k + 1) s) r
     unfolding Onward
     asking-on {q} b c onward =
         record {

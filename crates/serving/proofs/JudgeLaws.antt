@@ -122,7 +122,7 @@ module _ {t w : List ℕ} (ws : List ℕ) {s : Size} (z : Sized t w s) {r : Repl
 -- ---- the answer
 module _ {t w ms tally ws ms′ tally₁ ws₁ : List ℕ} {k : ℕ} (x : MayJudge t w ms tally ws k) (b : Begun t w ms tally ws ms′ tally₁ ws₁) where
   -- a search with budget: it has begun now, or is what it was
-  pub search-begun : 1 < budgetIn tally₁ → Fits t × Searching t w ms′ ws₁ × CameSoFar t w ms′ ws₁ (highIn tally₁)
+  search-begun : 1 < budgetIn tally₁ → Fits t × Searching t w ms′ ws₁ × CameSoFar t w ms′ ws₁ (highIn tally₁)
   search-begun l = go (x .stage)
     where
       same : ¬ (budgetIn tally ≡ 0) → budgetIn tally₁ ≡ budgetIn tally

@@ -112,7 +112,7 @@ module _ (t w : List ℕ) {ms tally ws : List ℕ} {s : Space} {known : ℕ} {at
   pub serve-place : at .place < 4294967296
   serve-place = omega (arith, waits-small t (x .told .ready) w (x .waits))
 
-  pub serve-pair : Pair t w a (at .position)
+  serve-pair : Pair t w a (at .position)
   serve-pair = (waits-named t (x .told .ready) w (x .waits), waits-position t (x .told .ready) w (x .waits))
 
   -- ---- a search has budget

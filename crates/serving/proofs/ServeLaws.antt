@@ -43,7 +43,7 @@ module _ (P n base known : ℕ) (ws : List ℕ) (e : base ≡ cellsEnd P n) (sho
         rest-put us base (suc k) r m room (omega arith)
         ∙ (leading m h ∙ rw (asked m h, cell m h, b ∙ sym (rest-below us base (suc k) r k (omega arith))))
 
-    pub serving-on : ServedUp P n base known (suc (suc k)) ws (putAt us (base + frameWords * suc k + 1) r)
+    serving-on : ServedUp P n base known (suc (suc k)) ws (putAt us (base + frameWords * suc k + 1) r)
     serving-on =
         record {
           kept = only-put (suc k) r (omega arith) (omega arith) l (omega arith) (x .kept);

@@ -136,7 +136,7 @@ module _ (t : List ℕ) (h : Ready t) (w ws : List ℕ) (fit : Fit ws) (known d 
     right zero m y = right-known 0 m (x .framed .some) y
     right (suc k) m y = elim (decLt (suc k) known) [ yes l ↦ right-known (suc k) m l y | no l ↦ right-next k m (omega arith) y (right k) ]
 
-    pub settled : SetsSettled t w ws after known d p i
+    settled : SetsSettled t w ws after known d p i
     settled =
         record {
           kept = kept;

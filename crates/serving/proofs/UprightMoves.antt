@@ -29,7 +29,7 @@ upright-begins t w ws = begins refl refl refl refl
 
 module _ (t : List ℕ) (h : Ready t) (w : List ℕ) where
   -- moves that need no choice keep it
-  pub moves-standing : {ws : List ℕ} {base p₀ d₀ i₀ p d i : ℕ} → MovesOn (grammarIn t) (marked w) ws base p₀ d₀ i₀ p d i
+  moves-standing : {ws : List ℕ} {base p₀ d₀ i₀ p d i : ℕ} → MovesOn (grammarIn t) (marked w) ws base p₀ d₀ i₀ p d i
       → Standing (grammarIn t) (marked w) ws base d₀ p₀ i₀ → Standing (grammarIn t) (marked w) ws base d p i
   moves-standing stay x = x
   moves-standing {ws} {base} (popped {p = p} {d = d} {i = i} m e) x =
@@ -38,7 +38,7 @@ module _ (t : List ℕ) (h : Ready t) (w : List ℕ) where
       standing-match (grammarIn t) (ready-ordered t h) (marked w) base ws d p k u i e f a (moves-standing m x)
 
   -- alternative b of a, which waits, is entered at its first place f
-  pub upright-picks : {ws after : List ℕ} {d q a i : ℕ} (b f : ℕ) → returnsOf after (ground t w) (suc d) ≡ opened t w ws d q
+  upright-picks : {ws after : List ℕ} {d q a i : ℕ} (b f : ℕ) → returnsOf after (ground t w) (suc d) ≡ opened t w ws d q
       → first (grammarIn t) a b ≡ some f → Upright t w ws d q a i → Standing (grammarIn t) (marked w) after (ground t w) (suc d) f i
   upright-picks {ws} {after} {d} {q} {a} {i} b f e m (begins z y x v) =
       let s : returnsOf after (ground t w) (suc d) ≡ endPlace ∷ [] = e ∙ rw (y, no-returns ws (ground t w) d z) refl in
