@@ -1,17 +1,12 @@
--- Measures, beginnings, readings, batches, audits and splittings told in numbers are the answers of the definitions.
+-- Measures, beginnings, batches, audits and splittings told in numbers are the answers of the definitions.
 use mathlib.Core.Path.{_≡_}
 use mathlib.Core.List.{List}
 use Prim.Native.Nat.{ℕ}
 use Rattle.measuring.specs.declared.answer.Measure.{Measure}
 use Rattle.measuring.specs.Measuring.{measureNumber, measurePlace, measureKinds, measureNonterminals, measurePlaces, figures, figuresOf}
-use Rattle.derivation.specs.Plain.{Answer, answer}
 use Rattle.words.specs.Begin.{Begun, begun}
 use Rattle.words.specs.declared.beginning.Beginning.{Beginning}
 use Rattle.words.specs.Beginning.{beginningNumber, beginningPlace, begunBy}
-use Rattle.gate.specs.declared.reading.Reading.{Reading}
-use Rattle.gate.specs.Reading.{readingNumber, readingPlace, readingCount, answered}
-use Rattle.adaptive.specs.Quick.{Reply, reply}
-use Rattle.quick.specs.inside.Replied.{replied}
 use Rattle.batch.specs.declared.answer.Batch.{Batch}
 use Rattle.batch.specs.Batches.{Batched, batched}
 use Rattle.batch.specs.Contract.{batchNumber, batchPlace, SpaceKept}
@@ -21,15 +16,6 @@ use Rattle.audit.specs.Contract.{auditNumber, auditPlace}
 use Rattle.splitter.specs.declared.splitting.Splitting.{Splitting}
 use Rattle.splitter.specs.Splitting.{SplitAnswer, splitAnswer}
 use Rattle.splitter.specs.Contract.{splittingNumber, splittingPlace, splittingCount}
-
-pub told : (r : Reading) (row : List ℕ) {n p c : ℕ} {x : Answer} → n ≡ readingNumber r → p ≡ readingPlace r → c ≡ readingCount r
-    → answered r row ≡ x
-    → answer n p c row ≡ x
-told r row e f g h = rw (e, f, g) h
-
-pub told-reply : (r : Reading) (row words : List ℕ) {n p c : ℕ} {x : Reply} → n ≡ readingNumber r → p ≡ readingPlace r → c ≡ readingCount r
-    → replied r row words ≡ x → reply (answer n p c row) words ≡ x
-told-reply r row words e f g h = rw (e, f, g) h
 
 pub told-batch : (b : Batch) (answers row words space space′ : List ℕ) {n p : ℕ} {x : Batched} → n ≡ batchNumber b → p ≡ batchPlace b
     → (batched (batchNumber b) (batchPlace b) answers row words ≡ x) × SpaceKept (batchNumber b) space space′

@@ -44,7 +44,7 @@ fn read(
     let gate = gate::note_gate(tables, note, ws.len());
     match gate {
         Gate::Shut(r) => r,
-        Gate::Passed => quick::over(tables, note, row, cache, ws, standing),
+        Gate::Passed => quick::over(tables, note, row, cache, ws, standing, quick::AMPLE),
     }
 }
 

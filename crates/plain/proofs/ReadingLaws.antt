@@ -30,7 +30,7 @@ use Rattle.cells.proofs.Spots.{lent-kept}
 use Rattle.reach.specs.inside.Passes.{Given}
 use Rattle.machine.specs.inside.Ending.{outcomeIn}
 use Rattle.machine.proofs.EndingLaws.{outcome-length, end-clear, end-stuck, end-short, end-wrong}
-use Rattle.serving.specs.inside.Aids.{tallyWords, budgetIn, Stage, setsOf, Told}
+use Rattle.serving.specs.inside.Aids.{tallyOf, budgetIn, Stage, setsOf, Told}
 use Rattle.serving.specs.inside.Serving.{CellsWanted, CellsRight}
 use Rattle.serving.specs.inside.Judging.{MayJudge, Judges}
 use Rattle.plain.specs.inside.Run.{MayRun, PlainRan, Stopped}
@@ -66,18 +66,18 @@ module _ (t : List ℕ) (h : Ready t) (w : List ℕ) where
 
 -- ---- the machine behind it
 module _ (t w : List ℕ) {ws : List ℕ} (h : Admitted t w (length ws)) where
-  -- with nothing worked out
-  pub judging : MayJudge t w (replicate maskWords 0) (replicate tallyWords 0) ws 0
-  judging =
+  -- with nothing worked out, whatever a search may spend
+  pub judging : {tally : List ℕ} {most : ℕ} → tally ≡ tallyOf 0 most → MayJudge t w (replicate maskWords 0) tally ws 0
+  judging e =
       record {
         told = record {
           ready = h .ready;
           tokens = h .tokens;
           lent = record { short = h .short; room = h .room };
-          tallied = record { long = refl; few = omega arith };
+          tallied = rw e (record { long = refl; few = omega arith });
         };
-        stage = Stage.nothing refl refl refl;
-        far = λ n. absurd (omega arith);
+        stage = Stage.nothing (rw e refl) refl refl;
+        far = rw e (λ n. absurd (omega arith));
       }
 
   module _ {ms tally ms′ tally′ after : List ℕ} {r : Judged} (x : Judges t w ms tally ws ms′ tally′ after r) where

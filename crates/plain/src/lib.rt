@@ -3,3 +3,4 @@ pub mod reading;
 
 pub use gate::Reading;
 pub use reading::plain;
+pub use reading::within;

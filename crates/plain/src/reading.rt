@@ -119,13 +119,14 @@ fn finish(
     }
 }
 
-// The note, for which the gate was passed. Where ends on demand tell that it is no sentence, the machine does not run.
-fn read(tables: &[u16], note: &[u16], row: &mut [u16], ws: &mut [u32]) -> Reading
+// The note, for which the gate was passed; a search spends `most` at most. Where ends on demand tell that it is no sentence, the machine does not run.
+fn read(tables: &[u16], note: &[u16], row: &mut [u16], ws: &mut [u32], most: u32) -> Reading
     requires { ⌜ Admitted (now tables) (now note) (length (now ws)) ⌝ }
     ensures { λ r. ⌜ answered r (now (row .exit)) ≡ readNote (grammarIn (now (tables .entry))) (now (note .entry)) (now (row .entry)) ⌝ }
 {
     let mut masks = [0u32; first_follow::MASK_WORDS];
     let mut tally = [0u32; serving::TALLY];
+    serving::allow(&mut tally, most);
     let judged = serving::judge(tables, note, &mut masks, &mut tally, ws);
     match judged {
         Judged::Wrong(place) => {
@@ -143,8 +144,14 @@ fn read(tables: &[u16], note: &[u16], row: &mut [u16], ws: &mut [u32]) -> Readin
     }
 }
 
-// Reads a note plainly. The row then holds the derivation and zeros behind it; after 10 and 14 it is all zeros; after any other refusal it is as it was.
-pub fn plain(grammar: &[u8], note: &[u16], row: &mut [u16], workspace: &mut [u32]) -> Reading
+// The same reading with a search that spends `most` at most: no answer depends on it.
+pub fn within(
+    grammar: &[u8],
+    note: &[u16],
+    row: &mut [u16],
+    workspace: &mut [u32],
+    most: u32,
+) -> Reading
     ensures { λ r. ⌜ PlainDid (now (grammar .entry)) (now (note .entry)) (now (row .entry)) (length (now (workspace .entry)))
         (readingNumber r) (readingPlace r) (readingCount r) (now (row .exit)) ⌝ }
 {
@@ -152,6 +159,14 @@ pub fn plain(grammar: &[u8], note: &[u16], row: &mut [u16], workspace: &mut [u32
     let gate = gate::pass(grammar, note, workspace.len(), &mut tables);
     match gate {
         Gate::Shut(r) => r,
-        Gate::Passed => read(&tables, note, row, workspace),
+        Gate::Passed => read(&tables, note, row, workspace, most),
     }
+}
+
+// Reads a note plainly. The row then holds the derivation and zeros behind it; after 10 and 14 it is all zeros; after any other refusal it is as it was.
+pub fn plain(grammar: &[u8], note: &[u16], row: &mut [u16], workspace: &mut [u32]) -> Reading
+    ensures { λ r. ⌜ PlainDid (now (grammar .entry)) (now (note .entry)) (now (row .entry)) (length (now (workspace .entry)))
+        (readingNumber r) (readingPlace r) (readingCount r) (now (row .exit)) ⌝ }
+{
+    within(grammar, note, row, workspace, serving::AMPLE)
 }

@@ -1,4 +1,6 @@
--- Laws of the quick reading: the loop (RunLaws), notes that are not accepted (QuickRefuse), and the reading as a whole (ReadingLaws).
+-- Laws of the quick reading: the loop (RunLaws), notes that are not accepted (QuickRefuse), the reading as a whole (ReadingLaws), and readings told in
+-- numbers (ToldLaws).
 pub mod RunLaws
 pub mod QuickRefuse
 pub mod ReadingLaws
+pub mod ToldLaws

@@ -3,7 +3,7 @@ use mathlib.Core.Path.{_≡_, refl, ap, _∙_}
 use mathlib.Core.List.{List}
 use Prim.Native.Nat.{ℕ, suc, _+_, _*_, _≤_, _<_}
 use native.Mathlib.Omega.{arith}
-use lib.ListN.{length, set, length-set}
+use lib.ListN.{length, set, replicate, length-set}
 use Rattle.base.proofs.Booleans.{clash}
 use Rattle.grammar.specs.inside.Tables.{grammarIn}
 use Rattle.derivation.specs.Runs.{marked}
@@ -12,6 +12,7 @@ use Rattle.derivation.specs.inside.Frames.{frameWords, returnsOf}
 use Rattle.derivation.proofs.MarkedCells.{length-marked}
 use Rattle.words.specs.Layout.{minWords}
 use Rattle.adaptive.specs.Chooser.{adaptively}
+use Rattle.first_follow.specs.inside.Words.{maskWords}
 use Rattle.cells.specs.inside.Chart.{Lent}
 use Rattle.cells.proofs.Spots.{lent-kept}
 use Rattle.gate.specs.inside.Passing.{Admitted}
@@ -28,7 +29,7 @@ use Rattle.machine.proofs.AlternativeLaws.{named-small}
 use Rattle.machine.proofs.MoveLaws.{moves-held, moves-good}
 use Rattle.machine.proofs.WaitLaws.{waits-begins, waits-room, waits-position}
 use Rattle.machine.proofs.GoingLaws.{going-begins, going-full, going-none, turn-calls, turn-stuck, turn-ended}
-use Rattle.serving.specs.inside.Aids.{budgetIn, Stage, nothing, SetsStand, Far, Tallied, Unbegun, Upright}
+use Rattle.serving.specs.inside.Aids.{tallyOf, Stage, nothing, SetsStand, Far, Tallied, Unbegun, Upright}
 use Rattle.choosing.specs.inside.Deciding.{Deciding, Chose}
 use Rattle.quick.specs.inside.Run.{quickEnd, QuickRan}
 use Rattle.serving.proofs.UprightMoves.{upright-begins, upright-again}
@@ -47,17 +48,19 @@ pub record Turning (t w row₀ ws₀ c₀ row ms tally ws c : List ℕ) (count k
   pub space-kept : length ws ≡ length ws₀
   pub words-kept : length c ≡ length c₀
 
+-- whatever a search may spend, none has begun
+pub unbegun : {tally : List ℕ} {most : ℕ} → tally ≡ tallyOf 0 most → Unbegun (replicate maskWords 0) tally
+unbegun e = rw e (record { blank = refl; long = refl; nothing = refl })
+
 -- a reading begins with nonterminal 0 over the end place, with nothing to choose by
 pub turning-begins : (t w row ms tally ws c : List ℕ) → Unbegun ms tally
     → Turning t w row ws c row ms tally ws c 0 0 (record { place = 255; position = 0; depth = 0 }) 0
 unfolding returnsOf
 turning-begins t w row ms tally ws c u =
-    let long : length tally ≡ 2 = rw (u .nothing) refl in
-    let none : budgetIn tally ≡ 0 = rw (u .nothing) refl in
     record {
-      tallied = record { long = long; few = omega arith };
-      stage = nothing none (u .blank) refl;
-      far = λ n. absurd (omega arith);
+      tallied = record { long = u .long; few = omega (arith, u .nothing) };
+      stage = nothing (u .nothing) (u .blank) refl;
+      far = λ n. absurd (omega (arith, u .nothing));
       waits = waits-begins t w ws (SetsStand tally 0);
       upright = upright-begins t w ws;
       going = going-begins (adaptively (grammarIn t) (marked w)) t w row c;

@@ -4,3 +4,5 @@ mod running;
 
 pub use reading::over;
 pub use reading::quick;
+pub use reading::within;
+pub use serving::AMPLE;

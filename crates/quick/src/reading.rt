@@ -88,19 +88,27 @@ fn finish(
     }
 }
 
-// The note, for which the gate was passed, over a begun cache.
-fn read(tables: &[u16], note: &[u16], row: &mut [u16], cache: &mut [u32], ws: &mut [u32]) -> Reading
+// The note, for which the gate was passed, over a begun cache; a search spends `most` at most.
+fn read(
+    tables: &[u16],
+    note: &[u16],
+    row: &mut [u16],
+    cache: &mut [u32],
+    ws: &mut [u32],
+    most: u32,
+) -> Reading
     requires { ⌜ Admitted (now tables) (now note) (length (now ws)) × (minWords ≤ length (now cache)) ⌝ }
     ensures { λ r. ⌜ replied r (now (row .exit)) (now (cache .exit))
         ≡ noteReply (grammarIn (now (tables .entry))) (now (note .entry)) (now (row .entry)) (now (cache .entry)) ⌝ }
 {
     let mut masks = [0u32; first_follow::MASK_WORDS];
     let mut tally = [0u32; serving::TALLY];
+    serving::allow(&mut tally, most);
     let stop = crate::running::run(tables, note, row, &mut masks, &mut tally, cache, ws);
     finish(tables, note, row, &mut masks, &mut tally, ws, stop)
 }
 
-// A note that passed the gate, over a cache that stands so to the grammar: 12, 13, or the reading.
+// A note that passed the gate, over a cache that stands so to the grammar: 12, 13, or the reading, with a search that spends `most` at most.
 pub fn over(
     tables: &[u16],
     note: &[u16],
@@ -108,6 +116,7 @@ pub fn over(
     cache: &mut [u32],
     ws: &mut [u32],
     standing: Standing,
+    most: u32,
 ) -> Reading
     requires { ⌜ Admitted (now tables) (now note) (length (now ws)) × LongEnough standing (now cache) ⌝ }
     ensures { λ r. ⌜ replied r (now (row .exit)) (now (cache .exit))
@@ -116,7 +125,30 @@ pub fn over(
     match standing {
         Standing::Short => Reading::ShortCache,
         Standing::Foreign => Reading::ForeignCache,
-        Standing::Begun => read(tables, note, row, cache, ws),
+        Standing::Begun => read(tables, note, row, cache, ws, most),
+    }
+}
+
+// The quick reading with a search that spends `most` at most: no answer depends on it, nor does what is learned.
+pub fn within(
+    grammar: &[u8],
+    note: &[u16],
+    row: &mut [u16],
+    cache: &mut [u32],
+    workspace: &mut [u32],
+    most: u32,
+) -> Reading
+    ensures { λ r. ⌜ QuickDid (now (grammar .entry)) (now (note .entry)) (now (row .entry)) (length (now (workspace .entry))) (now (cache .entry))
+        (readingNumber r) (readingPlace r) (readingCount r) (now (row .exit)) (now (cache .exit)) ⌝ }
+{
+    let mut tables = [0u16; grammar::TABLE_WORDS];
+    let gate = gate::pass(grammar, note, workspace.len(), &mut tables);
+    match gate {
+        Gate::Shut(r) => r,
+        Gate::Passed => {
+            let standing = words::stands(grammar, cache);
+            over(&tables, note, row, cache, workspace, standing, most)
+        }
     }
 }
 
@@ -133,13 +165,5 @@ pub fn quick(
     ensures { λ r. ⌜ QuickDid (now (grammar .entry)) (now (note .entry)) (now (row .entry)) (length (now (workspace .entry))) (now (cache .entry))
         (readingNumber r) (readingPlace r) (readingCount r) (now (row .exit)) (now (cache .exit)) ⌝ }
 {
-    let mut tables = [0u16; grammar::TABLE_WORDS];
-    let gate = gate::pass(grammar, note, workspace.len(), &mut tables);
-    match gate {
-        Gate::Shut(r) => r,
-        Gate::Passed => {
-            let standing = words::stands(grammar, cache);
-            over(&tables, note, row, cache, workspace, standing)
-        }
-    }
+    within(grammar, note, row, cache, workspace, serving::AMPLE)
 }

@@ -25,14 +25,14 @@ use Rattle.serving.specs.inside.Aids.{tallyWords, budgetIn, tallyOf, uni
 use Rattle.serving.proofs.StageLaws.{search-behind}
 
 -- ---- the tally
-pub units-small : (P n : ℕ) → P ≤ 255 → n ≤ 128 → (8 + P / 4) * (n + 1) ≤ 9159
+pub units-small : (P n : ℕ) → P ≤ 255 → n ≤ 128 → (8 + P / 12) * (n + 1) ≤ 3741
 units-small P n l k =
-    let h : 8 + P / 4 ≤ 71 = omega arith in
+    let h : 8 + P / 12 ≤ 29 = omega arith in
     let o : n + 1 ≤ 129 = omega arith in
-    let m : (8 + P / 4) * (n + 1) ≤ 71 * 129 = mul-le-mul h o in omega arith
+    let m : (8 + P / 12) * (n + 1) ≤ 29 * 129 = mul-le-mul h o in omega arith
 
-pub units-few : {P n left : ℕ} → P ≤ 255 → n ≤ 128 → left ≡ unitsOf P n → left < 65535
-units-few {P} {n} l k e = omega (arith, units-small P n l k)
+pub units-few : {P n units left : ℕ} (most : ℕ) → P ≤ 255 → n ≤ 128 → units ≡ unitsOf P n → left ≡ min units most → left < 65535
+units-few {P} {n} most l k e m = omega (arith, units-small P n l k)
 
 -- both words are written
 pub tally-put : (tally : List ℕ) {x y b h : ℕ} → length tally ≡ tallyWords → x ≡ b → y ≡ h → set (set tally 0 x) 1 y ≡ tallyOf b h
@@ -126,11 +126,11 @@ module _ {t w ms tally ws : List ℕ} (x : MayBegin t w ms tally ws) where
           behind = λ j m. k .word j (omega (arith, marks-room t w f, y .tokens));
         }
 
-    pub begun-fresh : {P left : ℕ} {tally′ : List ℕ} → P ≤ 255 → left ≡ unitsOf P (length w) → tally′ ≡ tallyOf (suc left) (min 0 (length w + 1))
-        → Begun t w ms tally ws ms′ tally′ after
-    begun-fresh {P} {left} l e q =
+    pub begun-fresh : {P units left : ℕ} (most : ℕ) {tally′ : List ℕ} → P ≤ 255 → units ≡ unitsOf P (length w) → left ≡ min units most
+        → tally′ ≡ tallyOf (suc left) (min 0 (length w + 1)) → Begun t w ms tally ws ms′ tally′ after
+    begun-fresh {left = left} most l e f q =
         let m : min 0 (length w + 1) ≡ 0 = omega arith in
-        rw (q, m) (begun-clear left (units-few l (x .told .lent .short) e))
+        rw (q, m) (begun-clear left (units-few most l (x .told .lent .short) e f))
 
 -- the test whether there are enough
 pub fits-is : (t : List ℕ) {r : Bool} → r ≡ leb (suc (7 * nonterminalsIn t)) (setWords * grammarIn t .size) → not r ≡ false → Fits t

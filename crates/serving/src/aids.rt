@@ -1,5 +1,6 @@
 // What a reading has worked out to choose by: nothing yet; ends on demand, as long as their budget lasts; or the derivation cells. It stands in a tally of two
-// words: the budget that is left, and 1, or 0 where no search has begun, so that 1 says that the budget is out; and how far into the note the search came.
+// words: the budget that is left, and 1, or 0 where no search has begun, so that 1 says that the budget is out; and how far into the note the search came, or,
+// before it has begun, the most that it may spend.
 use search::Meter;
 ghost use mathlib.Core.Path.{_≡_};
 ghost use Prim.Native.Nat.{suc, _+_, _-_, _≤_, _<_, min};
@@ -9,13 +10,16 @@ ghost use Rattle.serving.specs.inside.Aids.{tallyWords, MayBegin, Begun,
 // Words of a tally. specs/Aids has the same.
 pub const TALLY: usize = 2;
 
+// More than any search spends.
+pub const AMPLE: u32 = 65536;
+
 // The units of work that a reading may spend on ends on demand: one for each alternative that is tried and each frame that is gone down, four for a position
-// of a set. Delivery notes take some three a token; what takes more than this is done faster by the cells.
+// of a set. Delivery notes take some six a token; what takes more than this is mostly done faster by the cells.
 fn units(places: usize, n: usize) -> usize
     requires { ⌜ (places ≤ 255) × (n ≤ 128) ⌝ }
     ensures { λ r. ⌜ r ≡ unitsOf places n ⌝ }
 {
-    128 + (8 + places / 4) * (n + 1)
+    128 + (8 + places / 12) * (n + 1)
 }
 
 // The lower of two numbers.
@@ -23,6 +27,15 @@ pub fn lower(a: usize, b: usize) -> usize
     ensures { λ r. ⌜ r ≡ min a b ⌝ }
 {
     if a < b { a } else { b }
+}
+
+// No search has begun, and one may spend so much at most. No answer depends on it.
+pub fn allow(tally: &mut [u32], most: u32)
+    requires { ⌜ length (now tally) ≡ tallyWords ⌝ }
+    ensures { λ _. ⌜ now (tally .exit) ≡ tallyOf 0 most ⌝ }
+{
+    tally[0] = 0;
+    tally[1] = most;
 }
 
 // What is left of the budget, and how far the search came.
@@ -68,7 +81,10 @@ pub fn begin(tables: &[u16], note: &[u16], masks: &mut [u32], tally: &mut [u32],
     }
     first_follow::mark(tables, masks);
     search::clear(ws, search::size_of(tables, note));
-    let left = units(grammar::size(tables), note.len());
+    let left = lower(
+        units(grammar::size(tables), note.len()),
+        base::number(tally[1]),
+    );
     keep(tally, Meter { left, high: 0 }, note.len());
 }
 

@@ -7,7 +7,9 @@ mod pushing;
 mod sets;
 mod tabling;
 
+pub use aids::AMPLE;
 pub use aids::TALLY;
+pub use aids::allow;
 pub use aids::standing;
 pub use judging::Judged;
 pub use judging::judge;

@@ -1,5 +1,5 @@
 -- `allstar_c::allstar_plain` meets its contract: the number, the place and the count stored are those of the reading that `plain` answers.
-use Rattle.allstar_c.proofs.Answers.{told}
+use Rattle.quick.proofs.ToldLaws.{told}
 use borrow.Author.Needs.{needs}
 use Rattle.allstar_c.proofs.allstar_plain.Statement.{statement}
 use Rattle.allstar_c.proofs.allstar_plain.Tie as tie

@@ -1,6 +1,6 @@
 -- `allstar_c::allstar_quick` meets its contract: the number, the place and the count stored are those of the reading that `quick` answers, and the cache is the
 -- one that it leaves.
-use Rattle.allstar_c.proofs.Answers.{told-reply}
+use Rattle.quick.proofs.ToldLaws.{told-reply}
 use borrow.Author.Needs.{needs}
 use Rattle.allstar_c.proofs.allstar_quick.Statement.{statement}
 use Rattle.allstar_c.proofs.allstar_quick.Tie as tie

@@ -35,7 +35,7 @@ tallyWords = 2
 abbrev pub budgetIn : List ℕ → ℕ
 budgetIn tally = getD tally 0 0
 
--- how far into the note the search came
+-- how far into the note the search came; before it has begun, the most that it may spend
 abbrev pub highIn : List ℕ → ℕ
 highIn tally = getD tally 1 0
 
@@ -44,7 +44,7 @@ tallyOf budget high = budget ∷ high ∷ []
 
 -- the units of work of a reading
 abbrev pub unitsOf : ℕ → ℕ → ℕ
-unitsOf P n = 128 + (8 + P / 4) * (n + 1)
+unitsOf P n = 128 + (8 + P / 12) * (n + 1)
 
 -- ---- the stages
 -- the words of the cells are enough for the search
@@ -70,10 +70,11 @@ pub record Tallied (tally : List ℕ) : Type 0 where
   pub long : length tally ≡ tallyWords
   pub few : budgetIn tally < 65536
 
--- masks and a tally of zeros: no search has begun
+-- masks of zeros: no search has begun
 pub record Unbegun (ms tally : List ℕ) : Type 0 where
   pub blank : ms ≡ replicate maskWords 0
-  pub nothing : tally ≡ replicate tallyWords 0
+  pub long : length tally ≡ tallyWords
+  pub nothing : budgetIn tally ≡ 0
 
 -- of how many frames the sets stand, where `known` have marks or sets
 unfoldable pub setsOf : List ℕ → ℕ → ℕ

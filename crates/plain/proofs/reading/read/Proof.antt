@@ -6,6 +6,12 @@ use Rattle.plain.proofs.ReadingLaws.{judging, judged-sentence, judged-w
 use Rattle.plain.proofs.reading.read.Statement.{statement}
 use Rattle.plain.proofs.reading.read.Tie as tie
 
+slice-aggregate-allow : tie.Need-slice-aggregate-allow
+slice-aggregate-allow c = search needs
+
+allow-requires : tie.Need-allow-requires
+allow-requires c κs = search needs
+
 slice-aggregate-judge : tie.Need-slice-aggregate-judge
 slice-aggregate-judge c = search needs
 
@@ -14,8 +20,9 @@ slice-aggregate-judge-2 c = search needs
 
 judge-requires : tie.Need-judge-requires
 judge-requires c κs =
-    let at-entry = c .before .before .before .before .before .before .before in
-    (0, judging _ _ (at-entry .pre))
+    let at-allow = c .before .before .before .before in
+    let at-entry = at-allow .before .before .before .before .before .before in
+    (0, judging _ _ (at-entry .pre) (at-allow .allow .ensures))
 
 enum-known-judged : tie.Need-enum-known-judged
 enum-known-judged c = search needs
@@ -36,7 +43,7 @@ run-requires : tie.Need-run-requires
 run-requires c κs =
     let at-enum-told = c .before .before .before .before in
     let at-judge = at-enum-told .before .before .before .before .before .before in
-    let at-entry = at-judge .before .before .before .before .before .before .before .before in
+    let at-entry = at-judge .before .before .before .before .before .before .before .before .before .before .before in
     run-sentence _ _ (at-entry .pre) (at-judge .judge .ensures) (at-enum-told .enum-told .given .1)
 
 slice-aggregate-finish : tie.Need-slice-aggregate-finish
@@ -47,7 +54,7 @@ finish-requires c κs =
     let at-run = c .before .before .before .before .before .before .before .before in
     let at-enum-told = at-run .before .before .before .before .before in
     let at-judge = at-enum-told .before .before .before .before .before .before in
-    let at-entry = at-judge .before .before .before .before .before .before .before .before in
+    let at-entry = at-judge .before .before .before .before .before .before .before .before .before .before .before in
     stopped _ _ (at-entry .pre) (at-judge .judge .ensures) (at-run .run .ensures)
     (λ _. judged-sentence _ _ (at-entry .pre) (at-judge .judge .ensures) (at-enum-told .enum-told .given .1))
 
@@ -64,7 +71,7 @@ run-requires-2 : tie.Need-run-requires-2
 run-requires-2 c κs =
     let at-enum-told2 = c .before .before .before .before in
     let at-judge = at-enum-told2 .before .before .before .before .before .before in
-    let at-entry = at-judge .before .before .before .before .before .before .before .before in
+    let at-entry = at-judge .before .before .before .before .before .before .before .before .before .before .before in
     run-out _ _ (at-entry .pre) (at-judge .judge .ensures) (at-enum-told2 .enum-told2 .given .1)
 
 slice-aggregate-finish-2 : tie.Need-slice-aggregate-finish-2
@@ -74,7 +81,7 @@ finish-requires-2 : tie.Need-finish-requires-2
 finish-requires-2 c κs =
     let at-run2 = c .before .before .before .before .before .before .before .before in
     let at-judge = at-run2 .before .before .before .before .before .before .before .before .before .before .before in
-    let at-entry = at-judge .before .before .before .before .before .before .before .before in
+    let at-entry = at-judge .before .before .before .before .before .before .before .before .before .before .before in
     stopped _ _ (at-entry .pre) (at-judge .judge .ensures) (at-run2 .run2 .ensures) (λ e. clash (cc))
 
 same-length : tie.Need-same-length
@@ -88,7 +95,7 @@ returns c =
     let at-clear-from = c .before .before in
     let at-judged = at-clear-from .before .before .before in
     let at-judge = at-judged .before .before .before .before .before .before in
-    let at-entry = at-judge .before .before .before .before .before .before .before .before in
+    let at-entry = at-judge .before .before .before .before .before .before .before .before .before .before .before in
     judged-wrong _ _ (at-entry .pre) (at-judge .judge .ensures) (at-judged .judged .given .1) _ (at-clear-from .clear-from .ensures)
 
 same-length-3 : tie.Need-same-length-3
@@ -119,6 +126,8 @@ pub read-spec : {M : Type 1} → statement M
 read-spec =
     tie.close
     (tie.spec
+    slice-aggregate-allow
+    allow-requires
     slice-aggregate-judge
     slice-aggregate-judge-2
     judge-requires

@@ -50,15 +50,25 @@ units-requires c κs =
     let at-entry = at-clear .before .before .before .before .before .before .before .before .before .before .before .before .before .before .before .before in
     (omega (arith, c .size .ensures, ready-size _ (at-entry .pre .told .ready)), at-entry .pre .told .lent .short)
 
+slice-read-number : tie.Need-slice-read-number
+slice-read-number c = search needs
+
+number-requires : tie.Need-number-requires
+number-requires c κs = search needs
+
+lower-requires : tie.Need-lower-requires
+lower-requires c κs = search needs
+
 keep-requires : tie.Need-keep-requires
 keep-requires c κs =
-    let at-units = c .before in
+    let at-lower = c .before in
+    let at-units = at-lower .before .before .before in
     let at-size = at-units .before in
     let at-clear = at-size .before .before .before in
     let at-entry = at-clear .before .before .before .before .before .before .before .before .before .before .before .before .before .before .before .before in
     let places = ready-size _ (at-entry .pre .told .ready) in
     let short = at-entry .pre .told .lent .short in
-    let few = units-few (omega (arith, at-size .size .ensures, places)) short (at-units .units .ensures) in
+    let few = units-few _ (omega (arith, at-size .size .ensures, places)) short (at-units .units .ensures) (at-lower .lower .ensures) in
     (at-entry .pre .told .tallied .long, omega (arith, few), short)
 
 same-length-2 : tie.Need-same-length-2
@@ -73,7 +83,8 @@ same-length-4 c = search needs
 returns-3 : tie.Need-returns-3
 returns-3 c =
     let at-keep = c .before .before in
-    let at-units = at-keep .before .before in
+    let at-lower = at-keep .before .before in
+    let at-units = at-lower .before .before .before in
     let at-size = at-units .before in
     let at-clear = at-size .before .before .before in
     let at-size-of = at-clear .before in
@@ -92,8 +103,8 @@ returns-3 c =
       nullable = marks .2;
     } in
     begun-fresh (at-entry .pre) (omega arith) (fits-is _ (at-fits .fits2 .ensures) (at-if2 .if2 .left)) given (at-size-of .size-of .ensures)
-    (at-clear .clear .ensures .0) (at-clear .clear .ensures .1) (omega (arith, at-size .size .ensures, ready-size _ (at-entry .pre .told .ready)))
-    (at-units .units .ensures) (at-keep .keep .ensures)
+    (at-clear .clear .ensures .0) (at-clear .clear .ensures .1) _ (omega (arith, at-size .size .ensures, ready-size _ (at-entry .pre .told .ready)))
+    (at-units .units .ensures) (at-lower .lower .ensures) (at-keep .keep .ensures)
 
 pub begin-spec : {M : Type 1} → statement M
 begin-spec =
@@ -110,6 +121,9 @@ begin-spec =
     clear-requires
     size-requires
     units-requires
+    slice-read-number
+    number-requires
+    lower-requires
     keep-requires
     same-length-2
     same-length-3

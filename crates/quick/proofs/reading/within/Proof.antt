@@ -1,9 +1,9 @@
--- `quick::reading::quick` meets its contract: the gate is the definition's, and where it is passed the tables hold the grammar by which the note is read
+-- `quick::reading::within` meets its contract: the gate is the definition's, and where it is passed the tables hold the grammar by which the note is read
 -- over the cache as it stands.
 use Rattle.quick.proofs.ReadingLaws.{shut-is, passed-is, standing-long}
 use borrow.Author.Needs.{needs}
-use Rattle.quick.proofs.reading.quick.Statement.{statement}
-use Rattle.quick.proofs.reading.quick.Tie as tie
+use Rattle.quick.proofs.reading.within.Statement.{statement}
+use Rattle.quick.proofs.reading.within.Tie as tie
 
 slice-aggregate-pass : tie.Need-slice-aggregate-pass
 slice-aggregate-pass c = search needs
@@ -52,6 +52,6 @@ returns-2 c =
     let at-pass = at-enum-told .before .before .before in
     passed-is _ _ _ _ _ (at-pass .pass .ensures) (at-enum-told .enum-told .given .1) (at-stands .stands .ensures) (at-over .over .ensures)
 
-pub quick-spec : {M : Type 1} → statement M
-quick-spec = tie.close (tie.spec slice-aggregate-pass pass-requires enum-known-gate enum-told stands-requires slice-aggregate-over over-requires returns
+pub within-spec : {M : Type 1} → statement M
+within-spec = tie.close (tie.spec slice-aggregate-pass pass-requires enum-known-gate enum-told stands-requires slice-aggregate-over over-requires returns
     same-length same-length-2 same-length-3 returns-2)

@@ -1,8 +1,8 @@
--- `plain::reading::plain` meets its contract: the gate is the definition's, and where it is passed the tables hold the grammar by which the note is read.
+-- `plain::reading::within` meets its contract: the gate is the definition's, and where it is passed the tables hold the grammar by which the note is read.
 use borrow.Author.Needs.{needs}
 use Rattle.plain.proofs.ReadingLaws.{shut-is, passed-is}
-use Rattle.plain.proofs.reading.plain.Statement.{statement}
-use Rattle.plain.proofs.reading.plain.Tie as tie
+use Rattle.plain.proofs.reading.within.Statement.{statement}
+use Rattle.plain.proofs.reading.within.Tie as tie
 
 slice-aggregate-pass : tie.Need-slice-aggregate-pass
 slice-aggregate-pass c = search needs
@@ -44,8 +44,8 @@ returns-2 c =
     let at-read = c .before .before .before .before in
     passed-is _ _ _ _ (at-pass .pass .ensures) (at-enum-told .enum-told .given .1) (at-read .read .ensures)
 
-pub plain-spec : {M : Type 1} → statement M
-plain-spec =
+pub within-spec : {M : Type 1} → statement M
+within-spec =
     tie.close
     (tie.spec
     slice-aggregate-pass
