@@ -1,20 +1,21 @@
--- Laws of single bits: of `|`, of `&`, of a power of two, of a shift; a number that is not 0 has a bit, the lowest by its trailing zeros; numbers with
--- the same bits are equal; subsets.
+-- Laws of single bits: of `|`, of `&`, of a power of two, of a shift; a number that is not 0 has a bit, the lowest by its trailing zeros, the highest by its
+-- leading zeros; numbers with the same bits are equal; subsets; a set without a member.
 use mathlib.Core.Path.{_≡_, refl, sym, ap, _∙_}
 use mathlib.Core.Logic.{_⊎_, inl, inr, ⊎-elim, _↔_}
 use mathlib.Core.Bool.{Bool, true, false, _||_, _&&_, not}
 use Prim.Native.Nat.{ℕ, zero, suc, _+_, _-_, _*_, _/_, _%_, _^_, _≤_, _<_, min, max}
-use native.Mathlib.Nat.{one-mul, div-one, div-self, div-eq-of-lt, pow-suc, lt-of-lt-of-le, mod-eq-of-lt, mul-mod-left}
+use native.Mathlib.Nat.{one-mul, div-one, div-self, div-eq-of-lt, div-eq-of-lt-le, pow-suc, lt-of-lt-of-le, mod-eq-of-lt, mul-mod-left}
 use native.Mathlib.Omega.{arith}
 use native.Mathlib.Decide.{decLt}
 use lib.Dec.{T, eqb, eqb→eq, eqb-refl}
-use lib.Bits.{bitOr, bitAnd, bitXor, differ, xor-shr, xor-step, or-shr, or-step, and-shr, and-step, and-mask, or-add-and, and-le-l, and-le-r, or-lt, or-zero-l}
-use lib.Count.{trailingZeros, under}
+use lib.Bits.{bitOr, bitAnd, bitXor, differ, xor-shr, xor-step, or-shr, or-step, and-shr, and-step}
+use lib.Bits.{and-mask, or-add-and, xor-add-and, and-le-l, and-le-r, or-lt, or-zero-l}
+use lib.Count.{trailingZeros, under, leadingZeros, leading-top}
 use lib.Pow.{pow-pos, pow-lt, pow-mono, pow-add, shl-exact, shl-shr, shr-shr}
 use lib.Arith.{digits-mod}
 use borrow.Author.Tests.{eqb-true, eqb-false, eq-eqb, ne-eqb}
-use Rattle.base.specs.Bits.{wordBits, bit, testBit, setBit, isSubset}
-use Rattle.base.proofs.Booleans.{clash, same, and-T, T-and, or-T, T-or-l, T-or-r, T→true}
+use Rattle.base.specs.Bits.{wordBits, bit, testBit, setBit, isSubset, HighestIs}
+use Rattle.base.proofs.Booleans.{clash, same, and-T, T-and, or-T, T-or-l, T-or-r, T→true, and-all, and-none}
 
 pub same? : (a b : ℕ) → (a ≡ b) ⊎ (a ≡ b → ⊥)
 same? a b = go (eqb a b) refl
@@ -105,6 +106,14 @@ test-below n k l = eq-eqb (bit (2 ^ n - 1) k) 1 (omega (arith, one, bit-pow-same
   where
     one : min (bit (2 ^ k) k) (bit (2 ^ n - 1) k) ≡ bit (2 ^ k) k
     one = sym (bit-and (2 ^ k) (2 ^ n - 1) k) ∙ ap (λ (x : ℕ). bit x k) (and-mask (2 ^ k) n ∙ mod-eq-of-lt (pow-lt l))
+
+pub below-few : (n k : ℕ) → T (testBit (2 ^ n - 1) k) → k < n
+unfolding testBit
+below-few n k t = go (decLt k n)
+  where
+    go : Dec (k < n) → k < n
+    go (yes l) = l
+    go (no l) = absurd (rw (bit-high n (2 ^ n - 1) k (omega (arith, pow-pos n)) (omega arith)) at t)
 
 -- a word has no member from wordBits on
 pub test-high : (x k : ℕ) → x < 2 ^ wordBits → wordBits ≤ k → testBit x k ≡ false
@@ -258,3 +267,58 @@ test-opposite x k l =
     let e : bit (bitXor x (2 ^ wordBits - 1)) k ≡ differ (bit x k) 1
     = rw (xor-shr, xor-step, b) (digits-mod _ (d .0)) in
     ap (λ (y : ℕ). eqb y 1) e ∙ d .1
+
+-- ---- a set without one of its members
+differ-less : (a : ℕ) → a < 2 → (differ a 0 ≡ a) × (a ≡ 1 → differ a 1 ≡ 0)
+differ-less zero h = (refl, λ e. clash e)
+differ-less (suc zero) h = (refl, λ e. refl)
+differ-less (suc (suc a)) h = absurd (omega arith)
+
+pub test-without : (x k j : ℕ) → testBit x k ≡ true → testBit (bitXor x (2 ^ k)) j ≡ (testBit x j && not (eqb j k))
+unfolding testBit bit
+test-without x k j m = go (same? j k)
+  where
+    turned : (d : ℕ) → d < 2 → differ (bit x j) (bit (2 ^ k) j) ≡ d → eqb (bit (bitXor x (2 ^ k)) j) 1 ≡ eqb d 1
+    turned d l e = let q : bit (bitXor x (2 ^ k)) j ≡ d = rw (xor-shr, xor-step, e) (digits-mod _ l) in ap (λ (y : ℕ). eqb y 1) q
+
+    other : differ (bit x j) 0 ≡ bit x j
+    other = differ-less (bit x j) (bit-lt x j) .0
+
+    here : j ≡ k → differ (bit x j) 1 ≡ 0
+    here e = differ-less (bit x j) (bit-lt x j) .1 (rw e (eqb-true (bit x k) 1 m))
+
+    go : (j ≡ k) ⊎ (j ≡ k → ⊥) → eqb (bit (bitXor x (2 ^ k)) j) 1 ≡ (eqb (bit x j) 1 && not (eqb j k))
+    go (inl e) =
+        let b : bit (2 ^ k) j ≡ 1 = rw e (bit-pow-same k) in
+        turned 0 (omega arith) (rw b (here e)) ∙ sym (ap (λ (b : Bool). eqb (bit x j) 1 && not b) (eq-eqb j k e) ∙ and-none (eqb (bit x j) 1))
+    go (inr n) =
+        let b : bit (2 ^ k) j ≡ 0 = bit-pow-other k j (λ e. n (sym e)) in
+        turned (bit x j) (bit-lt x j) (rw b other) ∙ sym (ap (λ (b : Bool). eqb (bit x j) 1 && not b) (ne-eqb j k n) ∙ and-all (eqb (bit x j) 1))
+
+pub without-less : (x k : ℕ) → testBit x k ≡ true → bitXor x (2 ^ k) < x
+without-less x k m = let e = sets-same (bitAnd x (2 ^ k)) (2 ^ k) member in omega (arith, e, xor-add-and x (2 ^ k), pow-pos k)
+  where
+    member : (j : ℕ) → testBit (bitAnd x (2 ^ k)) j ≡ testBit (2 ^ k) j
+    member j = go (same? j k)
+      where
+        go : (j ≡ k) ⊎ (j ≡ k → ⊥) → testBit (bitAnd x (2 ^ k)) j ≡ testBit (2 ^ k) j
+        go (inl e) = let z : testBit x j ≡ true = rw e m in test-and x (2 ^ k) j ∙ ap (λ (b : Bool). b && testBit (2 ^ k) j) z
+        go (inr n) =
+            let z : testBit (2 ^ k) j ≡ false = test-pow k j ∙ ne-eqb j k n in
+            test-and x (2 ^ k) j ∙ ap (λ (b : Bool). testBit x j && b) z ∙ and-none (testBit x j) ∙ sym z
+
+-- ---- a number that is not 0 has a highest member, as far below the top as it has leading zeros
+pub leading-few : (x : ℕ) → 0 < x → x < 2 ^ wordBits → leadingZeros wordBits x < wordBits
+leading-few x h l = let (j, q, least, most) = leading-top wordBits x h l in omega arith
+
+pub leading-highest : (x r : ℕ) → 0 < x → x < 2 ^ wordBits → leadingZeros wordBits x + suc r ≡ wordBits → HighestIs x r
+unfolding testBit bit
+leading-highest x r h l e =
+    let (j, q, least, most) = leading-top wordBits x h l in
+    let s : r ≡ j = omega arith in
+    let one : x / 2 ^ j ≡ 1 = div-eq-of-lt-le (2 ^ j) (omega arith) (omega (arith, pow-suc 2 j)) in
+    rw s (record {
+      small = omega arith;
+      member = eq-eqb (x / 2 ^ j % 2) 1 (rw one);
+      last = λ k m. rw (bit-high (suc j) x k most (omega arith));
+    })

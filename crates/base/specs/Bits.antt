@@ -1,6 +1,7 @@
 -- Single bits of a number: a word is a set of numbers below wordBits.
-use Prim.Native.Nat.{ℕ, _/_, _%_, _^_}
-use mathlib.Core.Bool.{Bool}
+use Prim.Native.Nat.{ℕ, _/_, _%_, _^_, _<_}
+use mathlib.Core.Path.{_≡_}
+use mathlib.Core.Bool.{Bool, true, false}
 use lib.Bits.{bitOr}
 use lib.Dec.{eqb}
 
@@ -23,3 +24,9 @@ setBit x k = bitOr x (2 ^ k)
 -- every member of x is one of y
 unfoldable pub isSubset : ℕ → ℕ → Bool
 isSubset x y = eqb (bitOr x y) y
+
+-- k is the highest member of the set x
+pub record HighestIs (x k : ℕ) : Type 0 where
+  pub small : k < wordBits
+  pub member : testBit x k ≡ true
+  pub last : (j : ℕ) → k < j → testBit x j ≡ false

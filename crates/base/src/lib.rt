@@ -1,11 +1,12 @@
 // Casts, single bits of a word and words as sets, each a tiny function whose contract is arithmetic: no proof above this crate sees a shift or a mask. And
 // the zeros behind what is written into a row.
 ghost use mathlib.Core.Path.{_≡_};
+ghost use mathlib.Core.Bool.{true};
 ghost use mathlib.Core.List.{_++_};
 ghost use Prim.Native.Nat.{_-_, _^_, _≤_, _<_};
 ghost use lib.Bits.{bitXor};
 ghost use lib.ListN.{length, take, replicate};
-ghost use Rattle.base.specs.Bits.{wordBits, testBit, setBit, isSubset};
+ghost use Rattle.base.specs.Bits.{wordBits, testBit, setBit, isSubset, HighestIs};
 
 // The bits of a word; a word is a set of numbers below that. specs/Bits has the same.
 pub const WORD_BITS: usize = 32;
@@ -83,6 +84,22 @@ pub fn opposite(x: u32) -> u32
     ensures { λ r. ⌜ r ≡ bitXor x (2 ^ wordBits - 1) ⌝ }
 {
     x ^ u32::MAX
+}
+
+// The highest member of a set that has one.
+pub fn highest(x: u32) -> usize
+    requires { ⌜ 0 < x ⌝ }
+    ensures { λ r. ⌜ HighestIs x r ⌝ }
+{
+    WORD_BITS - 1 - number(u32::leading_zeros(x))
+}
+
+// The set x without its member k.
+pub fn without(x: u32, k: usize) -> u32
+    requires { ⌜ (k < wordBits) × (testBit x k ≡ true) ⌝ }
+    ensures { λ r. ⌜ r ≡ bitXor x (2 ^ k) ⌝ }
+{
+    x ^ (1u32 << k)
 }
 
 // Zeros from entry `from` on.

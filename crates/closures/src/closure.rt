@@ -9,7 +9,7 @@ ghost use Rattle.base.specs.Bits.{testBit};
 ghost use Rattle.grammar.specs.Grammar.{suffix};
 ghost use Rattle.grammar.specs.inside.Tables.{grammarIn, nonterminalsIn, TablesFit};
 ghost use Rattle.closures.specs.Closures.{passes, derivingRound};
-ghost use Rattle.closures.specs.inside.Steps.{judgedStep, Confined, Empties, passOf, Derivers, DerivingIs};
+ghost use Rattle.closures.specs.inside.Steps.{DerivingIs, Candidates, Passed, Rowed, Gathered};
 
 // Whether every symbol from place `first` to its production's end passes: a token if `tokens` says so, a nonterminal if it is in the set.
 fn all_pass(tables: &[u16], tokens: bool, set: u32, first: usize) -> bool
@@ -56,33 +56,19 @@ fn some_passes(tables: &[u16], tokens: bool, set: u32, a: usize) -> bool
     false
 }
 
-// Nonterminal a judged by the set so far; its productions are looked at only if they can pass.
-fn step(tables: &[u16], tokens: bool, can: u32, set: u32, a: usize) -> u32
-    requires { ⌜ TablesFit (now tables) × (a < nonterminalsIn (now tables)) × Confined tokens (grammarIn (now tables)) (nonterminalsIn (now tables)) can ⌝ }
-    ensures { λ r. ⌜ r ≡ judgedStep tokens (grammarIn (now (tables .entry))) a set ⌝ }
-{
-    if base::has(set, a) {
-        return set;
-    }
-    if !base::has(can, a) {
-        return set;
-    }
-    if some_passes(tables, tokens, set, a) {
-        return base::with(set, a);
-    }
-    set
-}
-
-// Every nonterminal once, the last first.
-fn pass(tables: &[u16], tokens: bool, can: u32, from: u32) -> u32
-    requires { ⌜ TablesFit (now tables) × Confined tokens (grammarIn (now tables)) (nonterminalsIn (now tables)) can ⌝ }
-    ensures { λ r. ⌜ r ≡ passOf tokens (grammarIn (now (tables .entry))) (nonterminalsIn (now (tables .entry))) from ⌝ }
+// The candidates judged one after another by the set so far, the last first.
+fn pass(tables: &[u16], tokens: bool, candidates: u32, from: u32) -> u32
+    requires { ⌜ TablesFit (now tables) × Candidates (nonterminalsIn (now tables)) candidates from ⌝ }
+    ensures { λ r. ⌜ Passed tokens (grammarIn (now (tables .entry))) candidates from r ⌝ }
 {
     let mut set = from;
-    let mut a = grammar::nonterminals(tables);
-    while 0 < a {
-        a -= 1;
-        set = step(tables, tokens, can, set, a);
+    let mut left = candidates;
+    while left != 0 {
+        let a = base::highest(left);
+        left = base::without(left, a);
+        if some_passes(tables, tokens, set, a) {
+            set = base::with(set, a);
+        }
     }
     set
 }
@@ -90,19 +76,17 @@ fn pass(tables: &[u16], tokens: bool, can: u32, from: u32) -> u32
 // So many passes settle most grammars, and cost less than the rows of words that rounds work on.
 const PASSES: usize = 2;
 
-// The nonterminals that derive some row of tokens if `tokens`, the empty row if not; those of `from` are known to, and none outside `can` and `from` does.
-// Once all are found, no pass has to confirm it.
-fn derivers(tables: &[u16], tokens: bool, can: u32, from: u32) -> u32
-    requires { ⌜ TablesFit (now tables) × Confined tokens (grammarIn (now tables)) (nonterminalsIn (now tables)) can
-        × Derivers tokens (grammarIn (now tables)) from ⌝ }
-    ensures { λ r. ⌜ DerivingIs tokens (grammarIn (now (tables .entry))) r ⌝ }
+// The nonterminals that derive some row of tokens. Those that derive the empty row are known. Once all are found, no pass has to confirm it.
+pub fn productive(tables: &[u16], nullable: u32) -> u32
+    requires { ⌜ TablesFit (now tables) × DerivingIs false (grammarIn (now tables)) nullable ⌝ }
+    ensures { λ r. ⌜ DerivingIs true (grammarIn (now (tables .entry))) r ⌝ }
 {
     let n = grammar::nonterminals(tables);
     let all = base::below(n);
-    let mut set = from;
+    let mut set = nullable;
     let mut left = PASSES;
     while 0 < left {
-        let next = pass(tables, tokens, can, set);
+        let next = pass(tables, true, all & base::opposite(set), set);
         if next == set {
             return set;
         }
@@ -112,22 +96,43 @@ fn derivers(tables: &[u16], tokens: bool, can: u32, from: u32) -> u32
         set = next;
         left -= 1;
     }
-    crate::rounds::by_rounds(tables, tokens, set)
+    crate::rounds::by_rounds(tables, true, set)
 }
 
-// The nonterminals that derive the empty row: `empty` are those with an empty production, and none outside `can` does.
-pub fn nullable(tables: &[u16], can: u32, empty: u32) -> u32
-    requires { ⌜ TablesFit (now tables) × Confined false (grammarIn (now tables)) (nonterminalsIn (now tables)) can
-        × Empties (grammarIn (now tables)) (nonterminalsIn (now tables)) empty ⌝ }
+// The candidates with a row that meets the set, judged one after another by the set so far, the last first.
+fn null_pass(tables: &[u16], rows: &[u32], candidates: u32, from: u32) -> u32
+    requires { ⌜ Rowed (now tables) (now rows) candidates from ⌝ }
+    ensures { λ r. ⌜ Passed false (grammarIn (now (tables .entry))) candidates from r ⌝ }
+{
+    let mut set = from;
+    let mut left = candidates;
+    while left != 0 {
+        let a = base::highest(left);
+        left = base::without(left, a);
+        if rows[a] & set != 0 {
+            if some_passes(tables, false, set, a) {
+                set = base::with(set, a);
+            }
+        }
+    }
+    set
+}
+
+// The nonterminals that derive the empty row: `empty` are those with an empty production; only those of `led` have a production that begins with a
+// nonterminal, and their rows say with which.
+pub fn nullable(tables: &[u16], rows: &[u32], led: u32, empty: u32) -> u32
+    requires { ⌜ Gathered (now tables) (now rows) led empty ⌝ }
     ensures { λ r. ⌜ DerivingIs false (grammarIn (now (tables .entry))) r ⌝ }
 {
-    derivers(tables, false, can, empty)
-}
-
-// The nonterminals that derive some row of tokens. Those that derive the empty row are known.
-pub fn productive(tables: &[u16], nullable: u32) -> u32
-    requires { ⌜ TablesFit (now tables) × DerivingIs false (grammarIn (now tables)) nullable ⌝ }
-    ensures { λ r. ⌜ DerivingIs true (grammarIn (now (tables .entry))) r ⌝ }
-{
-    derivers(tables, true, u32::MAX, nullable)
+    let mut set = empty;
+    let mut left = PASSES;
+    while 0 < left {
+        let more = null_pass(tables, rows, led & base::opposite(set), set);
+        if more == set {
+            return set;
+        }
+        set = more;
+        left -= 1;
+    }
+    crate::rounds::by_rounds(tables, false, set)
 }

@@ -1,20 +1,22 @@
 -- Rounds collect only nonterminals from which moves end; and where moves end from all of them, what is left recursive moves to itself at once.
 use mathlib.Core.Path.{_≡_, refl, sym}
 use mathlib.Core.Logic.{_⊎_, inl, inr, ⊎-elim}
-use mathlib.Core.Bool.{Bool, true, false, cond}
+use mathlib.Core.Bool.{Bool, true, false, cond, not}
 use mathlib.Core.List.{List}
-use Prim.Native.Nat.{ℕ, zero, suc, _+_, _-_, _^_, _<_}
+use Prim.Native.Nat.{ℕ, zero, suc, _+_, _-_, _^_, _≤_, _<_}
 use native.Mathlib.Numerals.{add-one}
 use native.Mathlib.Omega.{arith}
-use lib.Bits.{bitOr}
+use lib.Bits.{bitOr, bitAnd, bitXor}
 use lib.Dec.{T, eqb, eqb→eq}
 use lib.ListN.{length, getD}
-use Rattle.base.specs.Bits.{testBit, setBit, isSubset}
-use Rattle.base.proofs.Booleans.{same, or-T, true→T}
-use Rattle.base.proofs.Bits.{same?, test-or, test-set, test-none, test-below, subset-iff}
+use borrow.Author.Tests.{not-true}
+use Rattle.base.specs.Bits.{wordBits, testBit, setBit, isSubset}
+use Rattle.base.proofs.Booleans.{same, and-T, or-T, true→T, T→true}
+use Rattle.base.proofs.Bits.{same?, test-or, test-and, test-set, test-none, test-below, test-opposite, below-few, subset-iff}
 use Rattle.grammar.specs.Grammar.{Grammar, ofPlaces}
 use Rattle.closures.specs.Textbook.{Move, Reaches, one, more}
 use Rattle.corners.specs.Corners.{Corners, leftRecursive?}
+use Rattle.corners.specs.inside.Steps.{LedIs}
 use Rattle.corners.specs.inside.Ending.{Ends, ends, AllEnd, endedOf, endedBelow}
 use Rattle.corners.proofs.LeftRecursion.{move-iff, move-from, reaches-trans, leftRecursive-iff}
 use Rattle.corners.proofs.Warshall.{row-is}
@@ -30,8 +32,24 @@ ended-more rows x a i e = rw (add-one, ← i, ← e)
 abbrev pub Ending : List ℕ → ℕ → Type 0
 Ending rows x = (a : ℕ) → T (testBit x a) → Ends rows a
 
-pub ending-none : (rows : List ℕ) → Ending rows 0
-ending-none rows a t = absurd (rw test-none at t)
+-- no move leads anywhere from those outside `led`
+pub ending-unled : (rows : List ℕ) (n led : ℕ) → n ≤ wordBits → LedIs rows n led → {all turned : ℕ} → all ≡ 2 ^ n - 1 → turned
+    ≡ bitXor led (2 ^ wordBits - 1)
+    → Ending rows (bitAnd all turned)
+unfolding LedIs
+ending-unled rows n led few h {all} {turned} e q a t = ends a (λ c s _. absurd (rw (empty, test-none) at s))
+  where
+    both : T (testBit all a) × T (testBit turned a)
+    both = and-T (testBit all a) (testBit turned a) (rw test-and at t)
+
+    named : a < n
+    named = below-few n a (rw e at (both .0))
+
+    outside : testBit led a ≡ false
+    outside = not-true (testBit led a) (T→true (not (testBit led a)) (rw (q, test-opposite led a (omega (arith, named))) at (both .1)))
+
+    empty : getD rows a 0 ≡ 0
+    empty = h a named outside
 
 module _ (rows : List ℕ) (x a : ℕ) where
   -- a member of what one nonterminal adds is this nonterminal

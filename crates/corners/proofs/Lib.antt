@@ -4,4 +4,5 @@ pub mod LeftSteps
 pub mod FirstLaws
 pub mod Warshall
 pub mod EndingLaws
+pub mod WidenLaws
 pub mod StoreLaws

@@ -1,100 +1,87 @@
 // What stands first in productions: by it alone most nonterminals are told that derive the empty row, and most left corners.
-use grammar::Symbol;
 ghost use mathlib.Core.Path.{_≡_};
-ghost use mathlib.Core.Bool.{false, cond};
-ghost use Prim.Native.Nat.{_≤_, _<_};
+ghost use Prim.Native.Nat.{_<_};
 ghost use lib.ListN.{length};
-ghost use Rattle.base.specs.Bits.{setBit};
 ghost use Rattle.grammar.specs.Limits.{maxNonterminals};
 ghost use Rattle.grammar.specs.inside.Tables.{grammarIn, nonterminalsIn, TablesFit};
-ghost use Rattle.closures.specs.inside.Steps.{DerivingIs};
-ghost use Rattle.corners.specs.inside.Steps.{MoveRows, FirstIs, FirstsAre, LedIs};
+ghost use Rattle.corners.specs.inside.Steps.{FirstIs, FirstsAre, Found};
 
-// What stands first in the productions of a nonterminal: the nonterminals, and whether one of the productions is empty.
+// What stands first in the productions of a nonterminal: the nonterminals; and a set of nonterminals with an empty production.
 struct First {
     row: u32,
-    empty: bool,
+    empty: u32,
 }
 
-// What stands first in the productions of nonterminal a.
-fn first_of(tables: &[u16], a: usize) -> First
+// What stands first in all productions, as sets of nonterminals: those with an empty production, and those with a production that begins with a nonterminal.
+struct Firsts {
+    empty: u32,
+    led: u32,
+}
+
+// The nonterminals that derive the empty row, and those with a production that begins with a nonterminal.
+pub struct HeadSets {
+    pub nullable: u32,
+    pub led: u32,
+}
+
+// What stands first in the productions of nonterminal a, which joins the set `from` if one of them is empty. Codes are enough to tell.
+fn first_of(tables: &[u16], a: usize, from: u32) -> First
     requires { ⌜ TablesFit (now tables) × (a < nonterminalsIn (now tables)) ⌝ }
-    ensures { λ r. ⌜ FirstIs (grammarIn (now (tables .entry))) a (r .row) (r .empty) ⌝ }
+    ensures { λ r. ⌜ FirstIs (grammarIn (now (tables .entry))) a from (r .row) (r .empty) ⌝ }
 {
     let start = grammar::rule_at(tables, a);
     let end = grammar::rule_at(tables, a + 1);
     let mut row = 0;
-    let mut empty = false;
+    let mut empty = from;
     let mut k = start;
     while k < end {
         let first = grammar::first_place(tables, k);
-        let place = grammar::place_at(tables, first);
-        let symbol = place.symbol;
+        let code = grammar::code_at(tables, first);
         k += 1;
-        match symbol {
-            Symbol::End => {
-                empty = true;
-            }
-            Symbol::Token(_) => {}
-            Symbol::Nonterminal(b) => {
-                row = base::with(row, b);
+        if code % 2 == 0 {
+            if code == 0 {
+                empty = base::with(empty, a);
+            } else {
+                row = base::with(row, code / 2 - 1);
             }
         }
     }
     First { row, empty }
 }
 
-// The set, with a if `yes`.
-pub fn with_if(set: u32, a: usize, yes: bool) -> u32
-    requires { ⌜ a < maxNonterminals ⌝ }
-    ensures { λ r. ⌜ r ≡ cond yes (setBit set a) set ⌝ }
-{
-    if yes { base::with(set, a) } else { set }
-}
-
-// What stands first in all productions: a row of nonterminals for each nonterminal, and the set of those with an empty production.
-fn all_firsts(tables: &[u16], rows: &mut [u32]) -> u32
+// What stands first in all productions: a row of nonterminals for each nonterminal, and the sets of those with an empty production, and with one that is
+// led by a nonterminal.
+fn all_firsts(tables: &[u16], rows: &mut [u32]) -> Firsts
     requires { ⌜ TablesFit (now tables) × (length (now rows) ≡ maxNonterminals) ⌝ }
-    ensures { λ r. ⌜ FirstsAre (grammarIn (now (tables .entry))) (nonterminalsIn (now (tables .entry))) r (now (rows .exit)) ⌝ }
+    ensures { λ r. ⌜ FirstsAre (grammarIn (now (tables .entry))) (nonterminalsIn (now (tables .entry))) (r .empty) (r .led) (now (rows .exit)) ⌝ }
 {
     let n = grammar::nonterminals(tables);
     let mut empty = 0;
+    let mut led = 0;
     let mut a = 0;
     while a < n {
-        let first = first_of(tables, a);
+        let first = first_of(tables, a, empty);
         rows[a] = first.row;
-        empty = with_if(empty, a, first.empty);
+        empty = first.empty;
+        if first.row != 0 {
+            led = base::with(led, a);
+        }
         a += 1;
     }
-    empty
+    Firsts { empty, led }
 }
 
-// The nonterminals of the first n whose row holds anything.
-fn led(rows: &[u32], n: usize) -> u32
-    requires { ⌜ (n ≤ maxNonterminals) × (length (now rows) ≡ maxNonterminals) ⌝ }
-    ensures { λ r. ⌜ LedIs (now (rows .entry)) n r ⌝ }
-{
-    let mut set = 0;
-    let mut a = 0;
-    while a < n {
-        set = with_if(set, a, rows[a] != 0);
-        a += 1;
-    }
-    set
-}
-
-// The nonterminals that derive the empty row, and for each nonterminal the row of those that stand first in its productions. Without an empty production
-// there are none; else only nonterminals with a production that does not begin with a token can be.
-pub fn nullable(tables: &[u16], rows: &mut [u32]) -> u32
+// The nonterminals that derive the empty row, those that are led by a nonterminal, and for each nonterminal the row of those that stand first in its
+// productions. Without an empty production none derives the empty row.
+pub fn heads(tables: &[u16], rows: &mut [u32]) -> HeadSets
     requires { ⌜ TablesFit (now tables) × (length (now rows) ≡ maxNonterminals) ⌝ }
-    ensures { λ r. ⌜ DerivingIs false (grammarIn (now (tables .entry))) r
-        × MoveRows 0 (grammarIn (now (tables .entry))) (nonterminalsIn (now (tables .entry))) (now (rows .exit)) ⌝ }
+    ensures { λ r. ⌜ Found (now (tables .entry)) (r .nullable) (r .led) (now (rows .exit)) ⌝ }
 {
-    let empty = all_firsts(tables, rows);
-    if empty == 0 {
-        return 0;
+    let firsts = all_firsts(tables, rows);
+    let led = firsts.led;
+    if firsts.empty == 0 {
+        return HeadSets { nullable: 0, led };
     }
-    let n = grammar::nonterminals(tables);
-    let can = led(rows, n) | empty;
-    closures::nullable(tables, can, empty)
+    let nullable = closures::nullable(tables, rows, led, firsts.empty);
+    HeadSets { nullable, led }
 }

@@ -5,8 +5,7 @@ mod moves;
 mod reaching;
 
 pub use ending::all_end;
-pub use firsts::nullable;
-pub use firsts::with_if;
+pub use firsts::HeadSets;
+pub use firsts::heads;
 pub use moves::corners;
-pub use moves::store;
 pub use reaching::reach;

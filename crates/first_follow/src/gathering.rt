@@ -1,9 +1,10 @@
 // What stands next to what: one pass over the places of all productions, which stand one behind the other.
 use grammar::Symbol;
 ghost use mathlib.Core.Path.{_≡_};
-ghost use mathlib.Core.Bool.{false};
+ghost use mathlib.Core.Bool.{false, cond};
 ghost use Prim.Native.Nat.{_≤_, _<_};
 ghost use lib.ListN.{length};
+ghost use Rattle.base.specs.Bits.{setBit};
 ghost use Rattle.grammar.specs.Limits.{maxKinds, maxNonterminals};
 ghost use Rattle.grammar.specs.inside.Tables.{grammarIn};
 ghost use Rattle.closures.specs.inside.Steps.{DerivingIs};
@@ -11,12 +12,20 @@ ghost use Rattle.derivation.specs.inside.Ready.{Ready};
 ghost use Rattle.first_follow.specs.inside.Words.{maskWords};
 ghost use Rattle.first_follow.specs.inside.Steps.{Gathered, addedOf, memberOf, tokenOf};
 
+// The set, with a if `yes`.
+fn with_if(set: u32, a: usize, yes: bool) -> u32
+    requires { ⌜ a < maxNonterminals ⌝ }
+    ensures { λ r. ⌜ r ≡ cond yes (setBit set a) set ⌝ }
+{
+    if yes { base::with(set, a) } else { set }
+}
+
 // Token k stands in a production of `owner`, in front if `lead`, and right behind the nonterminals of `ahead`.
 fn note_token(masks: &mut [u32], k: usize, owner: usize, lead: bool, ahead: u32)
     requires { ⌜ (k ≤ maxKinds) × (owner < maxNonterminals) × (length (now masks) ≡ maskWords) ⌝ }
     ensures { λ _. ⌜ now (masks .exit) ≡ tokenOf k owner lead ahead (now (masks .entry)) ⌝ }
 {
-    masks[2 * k] = corners::with_if(masks[2 * k], owner, lead);
+    masks[2 * k] = with_if(masks[2 * k], owner, lead);
     masks[2 * k + 1] = masks[2 * k + 1] | ahead;
 }
 
@@ -25,7 +34,7 @@ fn note_call(above: &mut [u32], before: &mut [u32], b: usize, owner: usize, lead
     requires { ⌜ (b < maxNonterminals) × (owner < maxNonterminals) × (length (now above) ≡ maxNonterminals) × (length (now before) ≡ maxNonterminals) ⌝ }
     ensures { λ _. ⌜ (now (above .exit) ≡ memberOf b owner lead (now (above .entry))) × (now (before .exit) ≡ addedOf b ahead (now (before .entry))) ⌝ }
 {
-    above[b] = corners::with_if(above[b], owner, lead);
+    above[b] = with_if(above[b], owner, lead);
     before[b] = before[b] | ahead;
 }
 

@@ -71,7 +71,8 @@ pub fn mark(tables: &[u16], masks: &mut [u32])
         × DerivingIs false (grammarIn (now (tables .entry))) (getD (now (masks .exit)) nullableAt 0) ⌝ }
 {
     let mut rows = [0u32; grammar::MAX_NONTERMINALS];
-    let nullable = corners::nullable(tables, &mut rows);
+    let heads = corners::heads(tables, &mut rows);
+    let nullable = heads.nullable;
     relate(tables, nullable, masks);
     masks[crate::reading::NULLABLE] = nullable;
 }

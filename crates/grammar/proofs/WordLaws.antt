@@ -98,6 +98,25 @@ facing-of g p e f = ap (λ (x : Place). x .symbol) (sym e) ∙ f
 pub facing-past : (t : List ℕ) (p : ℕ) → placeWords ≤ p → facing (grammarIn t) p ≡ End
 facing-past t p h = facing-of (grammarIn t) p (place-past t p h refl) (ap (λ (x : Place). x .symbol) place-of-none)
 
+-- ---- the code of what a place faces
+pub code-past : (t : List ℕ) (p : ℕ) → endPlace < p → symbolOf 0 ≡ facing (grammarIn t) p
+code-past t p h = sym (facing-past t p h ∙ code-end 0 refl)
+
+pub code-in : (t : List ℕ) (p : ℕ) {w : ℕ} → p ≤ endPlace → w ≡ getD t p 0 → symbolOf (w % codes) ≡ facing (grammarIn t) p
+unfolding placeOf
+code-in t p h e = sym (facing-of (grammarIn t) p (place-in t p h refl) (ap (λ (w : ℕ). symbolOf (w % codes)) (sym e)))
+
+-- what a code tells of the place
+module _ (g : Grammar) (p c : ℕ) (h : symbolOf c ≡ facing g p) where
+  pub faces-end : c ≡ 0 → facing g p ≡ End
+  faces-end e = sym (code-end c e ∙ h)
+
+  pub faces-token : (c % 2 ≡ 0 → ⊥) → facing g p ≡ Token (c / 2)
+  faces-token n = sym (code-token c (λ e. n (omega arith)) (omega (arith, n)) ∙ h)
+
+  pub faces-nonterminal : c % 2 ≡ 0 → (c ≡ 0 → ⊥) → facing g p ≡ Nonterminal (c / 2 - 1)
+  faces-nonterminal e n = sym (code-nonterminal c n (λ z. omega arith) ∙ h)
+
 -- ---- the productions of a nonterminal in tables
 starts-at : (t : List ℕ) (b n a : ℕ) → a < n → getD (startsIn t (upFrom b n)) a [] ≡ slice (ruleAt t (b + a)) (ruleAt t (suc (b + a))) t
 unfolding startsIn upFrom

@@ -2,7 +2,7 @@
 ghost use mathlib.Core.Path.{_≡_};
 ghost use Prim.Native.Nat.{suc, _+_, _≤_, _<_};
 ghost use lib.ListN.{length, getD};
-ghost use Rattle.grammar.specs.Grammar.{placeAt, admits};
+ghost use Rattle.grammar.specs.Grammar.{placeAt, facing, admits};
 ghost use Rattle.grammar.specs.inside.Tables.{codes, wordOf, symbolOf, placeOf, grammarIn, nonterminalsIn, ruleAt, tableWords, cornerRow, withCorners};
 ghost use Rattle.grammar.specs.Limits.{maxNonterminals};
 ghost use Rattle.grammar.specs.Decode.{written};
@@ -115,6 +115,17 @@ pub fn place_at(tables: &[u16], p: usize) -> Place
         return place_of(0);
     }
     place_of(tables[p])
+}
+
+// The code of the symbol that place p faces: 0 for a production's end, odd for a token, 2 b + 2 for nonterminal b. Behind the end place an end is faced.
+pub fn code_at(tables: &[u16], p: usize) -> usize
+    requires { ⌜ length (now tables) ≡ tableWords ⌝ }
+    ensures { λ r. ⌜ symbolOf r ≡ facing (grammarIn (now (tables .entry))) p ⌝ }
+{
+    if END_PLACE < p {
+        return 0;
+    }
+    base::index(tables[p]) % CODES
 }
 
 // How many nonterminals there are.

@@ -18,6 +18,21 @@ pub enum Refusal {
 }
 
 impl Refusal {
+    // The same refusal, taken apart and put together: what lies between its parts in memory is not copied, and need not be kept until then.
+    pub fn copy(self) -> Refusal
+        ensures { λ r. ⌜ r ≡ self ⌝ }
+    {
+        match self {
+            Refusal::Unfinished(at) => Refusal::Unfinished(at),
+            Refusal::Malformed(at) => Refusal::Malformed(at),
+            Refusal::OverLimit(at) => Refusal::OverLimit(at),
+            Refusal::UnknownSymbol(at) => Refusal::UnknownSymbol(at),
+            Refusal::Trailing(at) => Refusal::Trailing(at),
+            Refusal::Unproductive(a) => Refusal::Unproductive(a),
+            Refusal::LeftRecursive(a) => Refusal::LeftRecursive(a),
+        }
+    }
+
     // The scope's number.
     pub fn number(self) -> u32
         ensures { λ r. ⌜ r ≡ refusalNumber self ⌝ }

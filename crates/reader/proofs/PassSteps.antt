@@ -94,6 +94,11 @@ module _ (s : List ℕ) (kt nt a : ℕ) where
   productions-step zero b p k t h = absurd (omega arith)
   productions-step (suc n) b p k t h = let e : suc n - 1 ≡ n = omega arith in rw e
 
+  -- as many productions, however their number is worked out
+  pub productions-left : {left left′ : ℕ} (b p k : ℕ) (t : List ℕ) → left′ ≡ left
+      → productionsOf s kt nt a left′ b p k t ≡ productionsOf s kt nt a left b p k t
+  productions-left b p k t e = ap (λ (n : ℕ). productionsOf s kt nt a n b p k t) e
+
   pub productions-done : (left : ℕ) (c : Cursor) (p k : ℕ) (t : List ℕ) {end : Out} → Tallied s c → left ≡ 0
       → productionsOf s kt nt a left (c .at) p k t ≡ end → out (Value p c) t ≡ end
   unfolding productionsOf

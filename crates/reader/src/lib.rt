@@ -6,6 +6,7 @@ use number::Refusal;
 ghost use mathlib.Core.Path.{_≡_};
 ghost use Prim.Native.Nat.{_+_, _≤_};
 ghost use lib.ListN.{length};
+ghost use Rattle.grammar.specs.Limits.{maxProductions};
 ghost use Rattle.grammar.specs.inside.Tables.{tableWords};
 ghost use Rattle.number.specs.Fetching.{Tallied};
 ghost use Rattle.reader.specs.Counting.{CountsBytes};
@@ -53,15 +54,15 @@ fn productions(
     first: usize,
     production: usize,
 ) -> Read
-    requires { ⌜ WithinLimits kinds nonterminals first (now tables) × Tallied (now bytes) from × (production ≤ first) ⌝ }
+    requires { ⌜ WithinLimits kinds nonterminals first (now tables) × Tallied (now bytes) from × (production ≤ first) × (count ≤ maxProductions) ⌝ }
     ensures { λ r. ⌜ Leaves r (now (tables .exit))
         (productionsOf (now (bytes .entry)) kinds nonterminals owner count (from .at) first production (now (tables .entry))) ⌝ }
 {
     let mut c = from;
     let mut p = first;
     let mut k = production;
-    let mut left = count;
-    while 0 < left {
+    let last = production + count;
+    while k < last {
         let at = c.at;
         let n = c.limited(bytes, 0, grammar::MAX_LENGTH);
         let Read::Value(m, next) = n else {
@@ -77,7 +78,6 @@ fn productions(
         };
         p = q;
         k += 1;
-        left -= 1;
         c = after;
     }
     Read::Value(p, c)

@@ -2,11 +2,12 @@
 use mathlib.Core.Path.{_≡_, sym, ap, _∙_}
 use mathlib.Core.Bool.{true, false, not}
 use mathlib.Core.List.{List}
-use Prim.Native.Nat.{ℕ, _<_}
+use Prim.Native.Nat.{ℕ, _-_, _^_, _<_}
 use native.Mathlib.Omega.{arith}
 use lib.ListN.{length, getD, replicate}
 use Rattle.base.specs.Bits.{testBit}
 use Rattle.base.specs.Search.{lowestFrom}
+use Rattle.base.proofs.Bits.{test-below}
 use Rattle.base.proofs.Booleans.{clash}
 use Rattle.base.proofs.Lowest.{lowest-same}
 use Rattle.number.specs.declared.Refusal.{Refusal}
@@ -27,9 +28,10 @@ use Rattle.closures.specs.Closures.{deriving?}
 use Rattle.corners.specs.Corners.{Corners, leftRecursive?}
 use Rattle.soundness.specs.Check.{lowestUnproductive, lowestLeftRecursive, refuseAt, unproductiveOf, leftRecursiveOf, judgeOf, onDecoded, checkOf}
 use Rattle.closures.specs.inside.Steps.{DerivingIs}
-use Rattle.corners.specs.inside.Steps.{reachOf}
+use Rattle.corners.specs.inside.Steps.{LedIs, Found, Widening, reachOf}
 use Rattle.corners.specs.inside.Ending.{AllEnd}
 use Rattle.soundness.specs.inside.Compiled.{Judgement, Compiled}
+use Rattle.soundness.proofs.OwnLaws.{lowest-absent}
 use Rattle.corners.proofs.LeftRecursion.{move-to}
 use Rattle.corners.proofs.Warshall.{reached}
 use Rattle.corners.proofs.EndingLaws.{own-recursive}
@@ -42,6 +44,12 @@ unproductive-is t x n d e =
     ap (refuseAt Unproductive)
     (lowest-same (λ a. not (testBit x a)) (λ a. not (deriving? true (grammarIn t) a)) 0 n (λ a l m. ap not (d a))
     ∙ ap (lowestFrom (λ a. not (deriving? true (grammarIn t) a)) 0) (e ∙ sym (length-starts-in t)))
+
+-- no member of a full set is missing
+pub productive-all : (t : List ℕ) (x n : ℕ) → DerivingIs true (grammarIn t) x → n ≡ nonterminalsIn t → x ≡ 2 ^ n - 1 → Sound ≡ unproductiveOf (grammarIn t)
+productive-all t x n d e f =
+    ap (refuseAt Unproductive) (sym (lowest-absent (λ a. not (testBit x a)) n (λ a l. ap not (ap (λ (y : ℕ). testBit y a) f ∙ test-below n a l))))
+    ∙ unproductive-is t x n d e
 
 -- ---- 7
 -- by rows of which each holds its own nonterminal if and only if that is left recursive
@@ -78,6 +86,13 @@ module _ (t : List ℕ) (n : ℕ) (rows : List ℕ) (e : n ≡ nonterminalsIn t)
 pub still-nullable : {t₀ t : List ℕ} → SameTables t₀ t → (x : ℕ) → DerivingIs false (grammarIn t₀) x → DerivingIs false (grammarIn t) x
 still-nullable k x d = let same = k .says in rw same d
 
+pub led-on : (rows : List ℕ) {n m : ℕ} (x : ℕ) → n ≡ m → LedIs rows m x → LedIs rows n x
+led-on rows x e h = rw e h
+
+-- what stands first is what left corners are made from
+pub found-widening : {t rows : List ℕ} {x led : ℕ} → TablesFit t → length rows ≡ maxNonterminals → Found t x led rows → Widening t x rows
+found-widening fits l f = record { fits = fits; vanish = f .vanish; long = l; firsts = f .firsts }
+
 module _ {t₀ t : List ℕ} {v : Verdict} (seven : Judgement v (leftRecursiveOf (grammarIn t₀)) t₀ t) where
   pub judge-first : {r : Refusal} → v ≡ Refused r → Judgement (Refused r) (judgeOf (grammarIn t₀)) t₀ t
   unfolding judgeOf
@@ -92,12 +107,12 @@ module _ {t₀ t : List ℕ} {v : Verdict} (seven : Judgement v (leftRecursiveOf
 
 -- ---- the bytes
 module _ (s t₀ : List ℕ) {x : Read} {t : List ℕ} (z : t₀ ≡ replicate tableWords 0) (e : out x t ≡ wholePass s t₀) where
-  pub compile-refused : {r : Refusal} {c : Cursor} → x ≡ Unread r c → Compiled s (Refused r) t
+  pub compile-refused : {r r′ : Refusal} {c : Cursor} → x ≡ Unread r c → r′ ≡ r → Compiled s (Refused r′) t
   unfolding checkOf
-  compile-refused {r} h = go (outcome s t₀ z e)
+  compile-refused {r} {r′} h d = go (outcome s t₀ z e)
     where
-      go : PassGives s x t → Compiled s (Refused r) t
-      go (none r′ c′ q h′) = let y : r′ ≡ r = cc in
+      go : PassGives s x t → Compiled s (Refused r′) t
+      go (none r″ c″ q h′) = let y : r″ ≡ r′ = cc in
           record { verdict = rw (q, y); says = λ g m q′. clash (cc); fits = λ g m q′. clash (cc); cornered = λ q′. clash (cc) }
       go (whole g m v c q h′ l u f) = clash (cc)
 

@@ -10,9 +10,10 @@ ghost use Rattle.base.specs.Search.{lowestFrom};
 ghost use Rattle.grammar.specs.Limits.{maxNonterminals};
 ghost use Rattle.grammar.specs.inside.Tables.{grammarIn, nonterminalsIn, TablesFit, tableWords};
 ghost use Rattle.closures.specs.inside.Steps.{DerivingIs};
-ghost use Rattle.corners.specs.inside.Steps.{MoveRows};
+ghost use Rattle.corners.specs.inside.Steps.{LedIs, Widening};
 ghost use Rattle.soundness.specs.Check.{refuseAt, unproductiveOf, leftRecursiveOf, judgeOf, verdictNumber, verdictPlace, CheckDid};
 ghost use Rattle.soundness.specs.inside.Compiled.{Judgement, Compiled};
+ghost use Rattle.soundness.specs.inside.Own.{OwnIs};
 
 // What the check answers.
 pub enum Verdict {
@@ -57,42 +58,54 @@ fn lowest_missing(set: u32, n: usize) -> Verdict
     Verdict::Sound
 }
 
-// The lowest nonterminal of the first n whose row holds it.
+// The nonterminals of the first n whose row holds them.
+fn own(rows: &[u32], n: usize) -> u32
+    requires { ⌜ (n ≤ maxNonterminals) × (length (now rows) ≡ maxNonterminals) ⌝ }
+    ensures { λ r. ⌜ OwnIs (now (rows .entry)) n r ⌝ }
+{
+    let mut set = 0;
+    let mut a = 0;
+    while a < n {
+        set = set | (rows[a] & base::with(0, a));
+        a += 1;
+    }
+    set
+}
+
+// The lowest nonterminal of the first n whose row holds it. All rows are looked at, since hardly any grammar has one: no turn of the loop has to ask.
 fn lowest_own(rows: &[u32], n: usize) -> Verdict
     requires { ⌜ (n ≤ maxNonterminals) × (length (now rows) ≡ maxNonterminals) ⌝ }
     ensures { λ r. ⌜ r ≡ refuseAt Refusal.LeftRecursive (lowestFrom (λ a. testBit (getD (now (rows .entry)) a 0) a) 0 n) ⌝ }
 {
-    let mut a = 0;
-    while a < n {
-        if base::has(rows[a], a) {
-            return Verdict::Refused(Refusal::LeftRecursive(a));
-        }
-        a += 1;
+    let set = own(rows, n);
+    if set == 0 {
+        return Verdict::Sound;
     }
-    Verdict::Sound
+    Verdict::Refused(Refusal::LeftRecursive(base::number(u32::trailing_zeros(set))))
 }
 
-// Refusal 6. Those that derive the empty row are known.
+// Refusal 6. Those that derive the empty row are known. Where all are productive, as in most grammars, none is looked for.
 fn unproductive(tables: &[u16], nullable: u32) -> Verdict
     requires { ⌜ TablesFit (now tables) × DerivingIs false (grammarIn (now tables)) nullable ⌝ }
     ensures { λ r. ⌜ r ≡ unproductiveOf (grammarIn (now (tables .entry))) ⌝ }
 {
     let productive = closures::productive(tables, nullable);
     let n = grammar::nonterminals(tables);
+    if productive == base::below(n) {
+        return Verdict::Sound;
+    }
     lowest_missing(productive, n)
 }
 
 // Refusal 7. The rows come with what stands first in productions, and become the left corners, which stay in the tables. Most grammars need no closure of
 // them.
-fn left_recursive(tables: &mut [u16], nullable: u32, rows: &mut [u32]) -> Verdict
-    requires { ⌜ TablesFit (now tables) × DerivingIs false (grammarIn (now tables)) nullable × (length (now rows) ≡ maxNonterminals)
-        × MoveRows 0 (grammarIn (now tables)) (nonterminalsIn (now tables)) (now rows) ⌝ }
+fn left_recursive(tables: &mut [u16], nullable: u32, led: u32, rows: &mut [u32]) -> Verdict
+    requires { ⌜ Widening (now tables) nullable (now rows) × LedIs (now rows) (nonterminalsIn (now tables)) led ⌝ }
     ensures { λ r. ⌜ Judgement r (leftRecursiveOf (grammarIn (now (tables .entry)))) (now (tables .entry)) (now (tables .exit)) ⌝ }
 {
     let n = grammar::nonterminals(tables);
     corners::corners(tables, nullable, rows);
-    corners::store(tables, rows);
-    if corners::all_end(rows, n) {
+    if corners::all_end(rows, n, led) {
         return lowest_own(rows, n);
     }
     corners::reach(rows, n);
@@ -105,8 +118,9 @@ fn judge(tables: &mut [u16]) -> Verdict
     ensures { λ r. ⌜ Judgement r (judgeOf (grammarIn (now (tables .entry)))) (now (tables .entry)) (now (tables .exit)) ⌝ }
 {
     let mut rows = [0u32; grammar::MAX_NONTERMINALS];
-    let nullable = corners::nullable(tables, &mut rows);
-    let first = left_recursive(tables, nullable, &mut rows);
+    let heads = corners::heads(tables, &mut rows);
+    let nullable = heads.nullable;
+    let first = left_recursive(tables, nullable, heads.led, &mut rows);
     match first {
         Verdict::Refused(r) => Verdict::Refused(r),
         Verdict::Sound => unproductive(tables, nullable),
@@ -120,7 +134,7 @@ pub fn compile(bytes: &[u8], tables: &mut [u16]) -> Verdict
 {
     let answer = reader::read_grammar(bytes, tables);
     match answer {
-        Read::Refused(r, _) => Verdict::Refused(r),
+        Read::Refused(r, _) => Verdict::Refused(r.copy()),
         Read::Value(_, _) => judge(tables),
     }
 }

@@ -6,30 +6,17 @@ use Prim.Native.Nat.{ℕ, zero, suc, _+_, _-_, _≤_, _<_}
 use lib.ListN.{length, getD, replicate}
 use lib.Bits.{bitOr}
 use lib.Dec.{T}
-use Rattle.base.specs.Bits.{testBit, setBit, isSubset}
+use Rattle.base.specs.Bits.{testBit, isSubset}
 use Rattle.grammar.specs.declared.Symbol.{Symbol}
 use Rattle.grammar.specs.Grammar.{Grammar, suffix}
 use Rattle.grammar.specs.Limits.{maxNonterminals}
 use Rattle.grammar.specs.inside.Tables.{firstsAt, cornersAt, grammarIn, nonterminalsIn, ruleAt, TablesFit}
 use Rattle.closures.specs.Closures.{passes, derivingRound, deriving?}
 
--- nonterminal a judged by the set so far
-unfoldable pub judgedStep : Bool → Grammar → ℕ → ℕ → ℕ
-judgedStep tokens g a x = cond (testBit x a) x (cond (derivingRound tokens g (testBit x) a) (setBit x a) x)
-
--- no production of a nonterminal outside `can` passes, whatever set passes
-unfoldable pub Confined : Bool → Grammar → ℕ → ℕ → Type 0
-Confined tokens g n can = (a : ℕ) → a < n → testBit can a ≡ false → (X : ℕ → Bool) → derivingRound tokens g X a ≡ false
-
 -- x is the set of those below n that have an empty production: one that passes though nothing else does
 pub record Empties (g : Grammar) (n x : ℕ) : Type 0 where
   pub has : (a : ℕ) → T (testBit x a) → T (derivingRound false g (testBit 0) a)
   pub all : (a : ℕ) → a < n → T (derivingRound false g (testBit 0) a) → T (testBit x a)
-
--- the nonterminals below a, the last first
-unfoldable pub passOf : Bool → Grammar → ℕ → ℕ → ℕ
-passOf tokens g zero x = x
-passOf tokens g (suc a) x = passOf tokens g a (judgedStep tokens g a x)
 
 -- x is the set of the nonterminals that derive
 unfoldable pub DerivingIs : Bool → Grammar → ℕ → Type 0
@@ -38,6 +25,40 @@ DerivingIs tokens g x = (a : ℕ) → testBit x a ≡ deriving? tokens g a
 -- every member of x derives
 unfoldable pub Derivers : Bool → Grammar → ℕ → Type 0
 Derivers tokens g x = (a : ℕ) → T (testBit x a) → T (deriving? tokens g a)
+
+-- what a pass is to judge: nonterminals that there are, none of them in the set that it starts from
+pub record Candidates (n candidates from : ℕ) : Type 0 where
+  pub few : (a : ℕ) → T (testBit candidates a) → a < n
+  pub new : (a : ℕ) → T (testBit candidates a) → testBit from a ≡ false
+
+-- what a pass makes of the set `from`: it only adds, and only what derives; if it adds nothing, no nonterminal that it judged has a production that passes
+pub record Passed (tokens : Bool) (g : Grammar) (candidates from x : ℕ) : Type 0 where
+  pub kept : (a : ℕ) → T (testBit from a) → T (testBit x a)
+  pub derives : Derivers tokens g from → Derivers tokens g x
+  pub closed : x ≡ from → (a : ℕ) → T (testBit candidates a) → derivingRound tokens g (testBit from) a ≡ false
+
+-- what stands first in productions: only members of led, all below n, have a row that is not empty, and a nonterminal without an empty production whose row
+-- misses X has no production that passes
+pub record Headed (g : Grammar) (n led : ℕ) (rows : List ℕ) : Type 0 where
+  pub few : (a : ℕ) → T (testBit led a) → a < n
+  pub none : (a : ℕ) → a < n → testBit led a ≡ false → getD rows a 0 ≡ 0
+  pub first : (a : ℕ) → a < n → derivingRound false g (testBit 0) a ≡ false → (X : ℕ → Bool)
+      → ((c : ℕ) → T (testBit (getD rows a 0) c) → X c ≡ false) → derivingRound false g X a ≡ false
+
+-- what the closure of those that derive the empty row begins with
+pub record Gathered (t rows : List ℕ) (led empty : ℕ) : Type 0 where
+  pub fits : TablesFit t
+  pub long : length rows ≡ maxNonterminals
+  pub headed : Headed (grammarIn t) (nonterminalsIn t) led rows
+  pub empties : Empties (grammarIn t) (nonterminalsIn t) empty
+
+-- what a pass that looks at rows first starts from: none of those that it judges has a production that passes where its row misses the set
+pub record Rowed (t rows : List ℕ) (candidates from : ℕ) : Type 0 where
+  pub fits : TablesFit t
+  pub long : length rows ≡ maxNonterminals
+  pub candidates-fit : Candidates (nonterminalsIn t) candidates from
+  pub first : (a : ℕ) → T (testBit candidates a) → (X : ℕ → Bool) → ((c : ℕ) → T (testBit (getD rows a 0) c) → X c ≡ false)
+      → derivingRound false (grammarIn t) X a ≡ false
 
 -- `need` is what a set must hold for every symbol of the list to pass; said of sets that miss some nonterminal
 unfoldable pub NeedIs : Bool → List Symbol → ℕ → Type 0

@@ -1,20 +1,20 @@
 -- What the loops of the code do, turn by turn. Internal: proofs/ says that the ends are those of Corners.
 use mathlib.Core.Path.{_≡_}
-use mathlib.Core.Bool.{Bool, false, cond, _||_}
+use mathlib.Core.Bool.{false, cond, _&&_, _||_}
 use mathlib.Core.List.{List}
 use Prim.Native.Nat.{ℕ, zero, suc, _≤_, _<_}
 use lib.ListN.{length, getD, set}
 use lib.Bits.{bitOr}
-use lib.Dec.{eqb}
+use lib.Dec.{T, eqb}
 use Rattle.base.specs.Bits.{testBit}
 use Rattle.base.specs.Rounds.{anyOf}
 use Rattle.grammar.specs.declared.Symbol.{Symbol}
 use Rattle.grammar.specs.Grammar.{Grammar, alternatives, suffix}
 use Rattle.grammar.specs.Limits.{maxNonterminals}
-use Rattle.grammar.specs.inside.Tables.{TablesFit, SameTables, cornerRow}
+use Rattle.grammar.specs.inside.Tables.{grammarIn, nonterminalsIn, TablesFit, SameTables, cornerRow}
 use Rattle.closures.specs.Closures.{derivingRound}
-use Rattle.closures.specs.inside.Steps.{Empties}
-use Rattle.corners.specs.Corners.{leads}
+use Rattle.closures.specs.inside.Steps.{Empties, DerivingIs}
+use Rattle.corners.specs.Corners.{leads, Corners}
 
 -- r is x with what stands in the list behind only members of `nullable`
 unfoldable pub LeadsTo : ℕ → ℕ → List Symbol → ℕ → Type 0
@@ -29,27 +29,46 @@ unfoldable pub MoveRows : ℕ → Grammar → ℕ → List ℕ → Type 0
 unfolding MovesFrom
 MoveRows nullable g n rows = (a : ℕ) → a < n → MovesFrom nullable g a (getD rows a 0)
 
--- `row` is the set of what stands first in the productions of a, and `empty` says whether one of them is empty
-abbrev pub FirstIs : Grammar → ℕ → ℕ → Bool → Type 0
-FirstIs g a row empty = MovesFrom 0 g a row × (empty ≡ derivingRound false g (testBit 0) a)
-
--- the same of each nonterminal below n: a row for what stands first, and the set of those with an empty production
-abbrev pub FirstsAre : Grammar → ℕ → ℕ → List ℕ → Type 0
-FirstsAre g n empty rows = MoveRows 0 g n rows × Empties g n empty
+-- `row` is the set of what stands first in the productions of a, and `empty` is the set x, with a if one of them is empty
+pub record FirstIs (g : Grammar) (a x row empty : ℕ) : Type 0 where
+  pub moves : MovesFrom 0 g a row
+  pub joins : (c : ℕ) → testBit empty c ≡ (testBit x c || (derivingRound false g (testBit 0) a && eqb c a))
 
 -- x holds every nonterminal below n whose row holds anything
 unfoldable pub LedIs : List ℕ → ℕ → ℕ → Type 0
 LedIs rows n x = (a : ℕ) → a < n → testBit x a ≡ false → getD rows a 0 ≡ 0
 
--- what storing rows starts from: tables that fit, and a row for each nonterminal that there can be
-pub record Storing (t rows : List ℕ) : Type 0 where
-  pub fits : TablesFit t
-  pub long : length rows ≡ maxNonterminals
-
 -- tables t hold the first n rows, and say what tables t₀ say
 pub record Stored (t₀ rows : List ℕ) (n : ℕ) (t : List ℕ) : Type 0 where
   pub kept : SameTables t₀ t
   pub same : (a : ℕ) → a < n → cornerRow t a ≡ getD rows a 0
+
+-- what stands first in the productions of the nonterminals below n: a row for each; the set of those with an empty production; and that of those whose row
+-- holds anything
+pub record FirstsAre (g : Grammar) (n empty led : ℕ) (rows : List ℕ) : Type 0 where
+  pub moves : MoveRows 0 g n rows
+  pub empties : Empties g n empty
+  pub few : (a : ℕ) → T (testBit led a) → a < n
+  pub led-is : LedIs rows n led
+
+-- the sets and rows that are found in tables t
+pub record Found (t : List ℕ) (nullable led : ℕ) (rows : List ℕ) : Type 0 where
+  pub vanish : DerivingIs false (grammarIn t) nullable
+  pub firsts : MoveRows 0 (grammarIn t) (nonterminalsIn t) rows
+  pub led-is : LedIs rows (nonterminalsIn t) led
+
+-- what widening rows starts from: the nonterminals that derive the empty row, and the rows of what stands first
+pub record Widening (t : List ℕ) (nullable : ℕ) (rows : List ℕ) : Type 0 where
+  pub fits : TablesFit t
+  pub vanish : DerivingIs false (grammarIn t) nullable
+  pub long : length rows ≡ maxNonterminals
+  pub firsts : MoveRows 0 (grammarIn t) (nonterminalsIn t) rows
+
+-- rows, which were rows₀, say where one move leads; tables t hold them, and say what tables t₀ say; a row that held nothing still does
+pub record Widened (t₀ rows₀ rows t : List ℕ) : Type 0 where
+  pub corners : Corners (grammarIn t₀) (nonterminalsIn t₀) rows
+  pub stored : Stored t₀ rows (nonterminalsIn t₀) t
+  pub led : (x : ℕ) → LedIs rows₀ (nonterminalsIn t₀) x → LedIs rows (nonterminalsIn t₀) x
 
 -- row a is joined by `row`, which is that of b, if it holds b
 unfoldable pub joinOf : ℕ → ℕ → ℕ → List ℕ → List ℕ

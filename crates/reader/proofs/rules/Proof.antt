@@ -67,6 +67,7 @@ productions-requires c κs =
       record { kinds-most = omega arith; few = omega arith; room = omega arith; long = simp length-set (omega arith) },
       limited-tallied _ _ (at-loop .loop .inv .5 .1) _ _ (at-limited .limited .ensures) (at-n .n .given .1),
       omega arith,
+      omega (arith, limited-is _ _ _ _ (at-limited .limited .ensures) (at-n .n .given .1)),
     )
 
 enum-known-piece : tie.Need-enum-known-piece Inv-loop μ-loop

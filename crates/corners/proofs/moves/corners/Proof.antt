@@ -1,57 +1,66 @@
--- `corners::moves::corners` meets its contract: the rows below a say where one move leads, those from a on what stands first, as they came; a turn widens that
--- of a. The set of those that derive the empty row is the one that `move?` asks for.
+-- `corners::moves::corners` meets its contract: the rows below a say where one move leads, and the tables hold them; those from a on say what stands first, as
+-- they came. A turn widens that of a and puts it into the tables. The set of those that derive the empty row is the one that `move?` asks for.
 use borrow.Author.Needs.{needs}
-use mathlib.Core.Path.{_≡_, refl, _∙_}
-use Prim.Native.Nat.{ℕ, _≤_, _<_, _-_}
-use native.Mathlib.Numerals.{add-one}
+use mathlib.Core.Path.{sym, _∙_}
+use Prim.Native.Nat.{_≤_, _-_}
 use native.Mathlib.Omega.{arith}
-use lib.ListN.{length, getD, length-set}
-use lib.Seq.{getD-set-other}
-use Rattle.grammar.specs.inside.Tables.{grammarIn, nonterminalsIn}
-use Rattle.corners.specs.inside.Steps.{MoveRows}
-use Rattle.corners.proofs.LeftSteps.{rows-none, rows-more, rows-upto}
-use Rattle.corners.proofs.FirstLaws.{row-first, none-widened}
-use Rattle.corners.proofs.Warshall.{corners-are}
+use Rattle.corners.proofs.WidenLaws.{Widens, widens-begin, first-still, widens-more, widened-all}
 use Rattle.corners.proofs.moves.corners.Statement.{statement}
 use Rattle.corners.proofs.moves.corners.Tie as tie
 
 abbrev Inv-loop : tie.InvT-loop
-Inv-loop tables nullable rows₀ n a₀ rows a = (a ≤ n) × (length rows ≡ length rows₀) × MoveRows nullable (grammarIn tables) a rows
-    × ((b : ℕ) → a ≤ b → getD rows b 0 ≡ getD rows₀ b 0)
+Inv-loop tables₀ nullable rows₀ n a₀ tables rows a = (a ≤ n) × Widens tables₀ nullable rows₀ a rows tables
 
 abbrev μ-loop : tie.MeasureT-loop
-μ-loop tables nullable rows₀ n a₀ rows a = n - a
-
-returns : tie.Need-returns Inv-loop μ-loop
-returns c =
-    let at-entry = c .before .before .before in
-    corners-are _ _ _ _ (at-entry .pre .1) (none-widened _ _ _ _ (c .if1 .taken) (at-entry .pre .3))
+μ-loop tables₀ nullable rows₀ n a₀ tables rows a = n - a
 
 nonterminals-requires : tie.Need-nonterminals-requires Inv-loop μ-loop
-nonterminals-requires c κs = search needs
+nonterminals-requires c κs =
+    let at-entry = c .before .before .before in
+    at-entry .pre .fits .long
 
 loop-holds : tie.Need-loop-holds Inv-loop μ-loop
-loop-holds c = (omega arith, refl, rows-none _ _ _, λ b l. refl)
+loop-holds c =
+    let at-entry = c .before .before .before .before in
+    (omega arith, widens-begin _ _ _ (at-entry .pre))
 
 mul-widened : tie.Need-mul-widened Inv-loop μ-loop
 mul-widened c = search needs
 
 slice-read-widened : tie.Need-slice-read-widened Inv-loop μ-loop
-slice-read-widened c = search needs
+slice-read-widened c =
+    let at-loop = c .before .before .before in
+    let at-nonterminals = at-loop .before in
+    let at-entry = at-nonterminals .before .before .before .before in
+    omega (arith, at-nonterminals .nonterminals .ensures, at-entry .pre .fits .few, at-entry .pre .long, at-loop .loop .inv .1 .long)
 
 widened-requires : tie.Need-widened-requires Inv-loop μ-loop
 widened-requires c κs =
-    let at-loop = c .before .before in
+    let at-loop = c .before .before .before in
     let at-nonterminals = at-loop .before in
     let at-entry = at-nonterminals .before .before .before .before in
-    let l : at-loop .loop .a < nonterminalsIn (at-entry .args .tables .now) = omega (arith, at-nonterminals .nonterminals .ensures) in
-    (at-entry .pre .0, l, row-first _ _ _ _ (at-entry .pre .3) l (at-loop .loop .inv .3 _ (omega arith)))
+    let kept = at-loop .loop .inv .1 .stored .kept in (
+      kept .fits,
+      omega (arith, at-nonterminals .nonterminals .ensures, kept .number),
+      first-still _ _ _ (at-entry .pre) _ _ _ (at-loop .loop .inv .1) (omega (arith, at-nonterminals .nonterminals .ensures)),
+    )
 
 mul-rows : tie.Need-mul-rows Inv-loop μ-loop
 mul-rows c = search needs
 
 slice-write-rows : tie.Need-slice-write-rows Inv-loop μ-loop
-slice-write-rows c = search needs
+slice-write-rows c =
+    let at-loop = c .before .before .before .before in
+    let at-nonterminals = at-loop .before in
+    let at-entry = at-nonterminals .before .before .before .before in
+    omega (arith, at-nonterminals .nonterminals .ensures, at-entry .pre .fits .few, at-entry .pre .long, at-loop .loop .inv .1 .long)
+
+put-corners-requires : tie.Need-put-corners-requires Inv-loop μ-loop
+put-corners-requires c κs =
+    let at-loop = c .before .before .before .before .before in
+    let at-nonterminals = at-loop .before in
+    let at-entry = at-nonterminals .before .before .before .before in
+    (omega (arith, at-nonterminals .nonterminals .ensures, at-entry .pre .fits .few), at-loop .loop .inv .1 .stored .kept .fits .long)
 
 add-a : tie.Need-add-a Inv-loop μ-loop
 add-a c = search needs
@@ -61,27 +70,29 @@ loop-less c = search needs
 
 loop-again : tie.Need-loop-again Inv-loop μ-loop
 loop-again c =
-    let at-loop = c .before .before .before in
+    let at-put-corners = c .before .before in
+    let at-widened = at-put-corners .before .before in
+    let at-loop = at-widened .before .before .before .before in
     let at-nonterminals = at-loop .before in
     let at-entry = at-nonterminals .before .before .before .before in (
       omega arith,
-      simp length-set (omega arith),
-      rows-more _ _ _ _ _ (omega (arith, at-nonterminals .nonterminals .ensures, at-entry .pre .0 .few)) (at-loop .loop .inv .2) (c .widened .ensures),
-      λ b l.
-          let other : b ≡ at-loop .loop .a → ⊥ = λ q. omega (arith, add-one (at-loop .loop .a)) in
-          getD-set-other (at-loop .loop .rows) (at-loop .loop .a) b (c .widened .result) 0 other
-          ∙ at-loop .loop .inv .3 b (omega (arith, add-one (at-loop .loop .a))),
+      widens-more _ _ _ (at-entry .pre) _ _ _ (at-loop .loop .inv .1) (omega (arith, at-nonterminals .nonterminals .ensures)) _
+          (at-widened .widened .ensures) (at-put-corners .put-corners .ensures),
     )
 
 same-length : tie.Need-same-length Inv-loop μ-loop
-same-length c = search needs
+same-length c =
+    let at-entry = c .before .before .before .before .before .before in
+    c .before .loop .inv .1 .stored .kept .fits .long ∙ sym (at-entry .pre .fits .long)
 
-returns-2 : tie.Need-returns-2 Inv-loop μ-loop
-returns-2 c =
+same-length-2 : tie.Need-same-length-2 Inv-loop μ-loop
+same-length-2 c = c .before .loop .inv .1 .long
+
+returns : tie.Need-returns Inv-loop μ-loop
+returns c =
     let at-nonterminals = c .before .before in
     let at-entry = at-nonterminals .before .before .before .before in
-    corners-are _ _ _ _ (at-entry .pre .1)
-    (rows-upto _ _ _ _ _ (c .before .loop .inv .2) (omega (arith, at-nonterminals .nonterminals .ensures)))
+    widened-all _ _ _ (at-entry .pre) _ _ _ (c .before .loop .inv .1) (omega (arith, at-nonterminals .nonterminals .ensures))
 
 pub corners-spec : {M : Type 1} → statement M
 corners-spec =
@@ -89,7 +100,6 @@ corners-spec =
     (tie.spec
     Inv-loop
     μ-loop
-    returns
     nonterminals-requires
     loop-holds
     mul-widened
@@ -97,8 +107,10 @@ corners-spec =
     widened-requires
     mul-rows
     slice-write-rows
+    put-corners-requires
     add-a
     loop-less
     loop-again
     same-length
-    returns-2)
+    same-length-2
+    returns)

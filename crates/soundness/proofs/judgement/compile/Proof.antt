@@ -11,6 +11,9 @@ read-grammar-requires c κs = search needs
 enum-known-answer : tie.Need-enum-known-answer
 enum-known-answer c = search needs
 
+copy-requires : tie.Need-copy-requires
+copy-requires c κs = search needs
+
 enum-told : tie.Need-enum-told
 enum-told c = search needs
 
@@ -25,9 +28,10 @@ same-length c = search needs
 
 returns : tie.Need-returns
 returns c =
-    let at-read-grammar = c .before .before .before .before .before in
+    let at-answer = c .before .before in
+    let at-read-grammar = at-answer .before .before .before .before in
     let at-entry = at-read-grammar .before .before .before .before in
-    compile-refused _ _ (at-entry .pre) (at-read-grammar .read-grammar .ensures .0) (c .before .answer .given .1)
+    compile-refused _ _ (at-entry .pre) (at-read-grammar .read-grammar .ensures .0) (at-answer .answer .given .1) (c .copy .ensures)
 
 same-length-2 : tie.Need-same-length-2
 same-length-2 c = search needs
@@ -46,6 +50,7 @@ compile-spec =
     (tie.spec
     read-grammar-requires
     enum-known-answer
+    copy-requires
     enum-told
     judge-requires
     same-length

@@ -1,21 +1,25 @@
 -- `soundness::judgement::judge` meets its contract: each way out, 7 refused or 6 asked, is one case of `judgeOf`; 6 is asked of the tables that the search for
 -- 7 leaves, which say the same grammar.
-use Rattle.soundness.proofs.Judging.{still-nullable, judge-first, judge-second}
+use Rattle.soundness.proofs.Judging.{still-nullable, found-widening, judge-first, judge-second}
 use borrow.Author.Needs.{needs}
 use Rattle.soundness.proofs.judgement.judge.Statement.{statement}
 use Rattle.soundness.proofs.judgement.judge.Tie as tie
 
-slice-aggregate-nullable : tie.Need-slice-aggregate-nullable
-slice-aggregate-nullable c = search needs
+slice-aggregate-heads : tie.Need-slice-aggregate-heads
+slice-aggregate-heads c = search needs
 
-nullable-requires : tie.Need-nullable-requires
-nullable-requires c κs = search needs
+heads-requires : tie.Need-heads-requires
+heads-requires c κs = search needs
 
 slice-aggregate-left-recursive : tie.Need-slice-aggregate-left-recursive
 slice-aggregate-left-recursive c = search needs
 
 left-recursive-requires : tie.Need-left-recursive-requires
-left-recursive-requires c κs = search needs
+left-recursive-requires c κs =
+    let at-heads = c .before .before .before in
+    let at-entry = at-heads .before .before .before .before in
+    let found = at-heads .heads .ensures in
+    (found-widening (at-entry .pre) (search needs) found, found .led-is)
 
 enum-known-first : tie.Need-enum-known-first
 enum-known-first c = search needs
@@ -27,9 +31,9 @@ unproductive-requires : tie.Need-unproductive-requires
 unproductive-requires c κs =
     let at-enum-told = c .before in
     let at-left-recursive = at-enum-told .before .before .before .before .before in
-    let at-nullable = at-left-recursive .before .before .before .before in
+    let at-heads = at-left-recursive .before .before .before .before in
     let kept = at-left-recursive .left-recursive .ensures .kept in
-    (kept .fits, still-nullable kept (at-nullable .nullable .result) (at-nullable .nullable .ensures .0))
+    (kept .fits, still-nullable kept _ (at-heads .heads .ensures .vanish))
 
 same-length : tie.Need-same-length
 same-length c = search needs
@@ -53,8 +57,8 @@ pub judge-spec : {M : Type 1} → statement M
 judge-spec =
     tie.close
     (tie.spec
-    slice-aggregate-nullable
-    nullable-requires
+    slice-aggregate-heads
+    heads-requires
     slice-aggregate-left-recursive
     left-recursive-requires
     enum-known-first

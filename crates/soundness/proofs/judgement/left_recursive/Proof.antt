@@ -1,9 +1,9 @@
 -- `soundness::judgement::left_recursive` meets its contract: if moves end from every nonterminal, a nonterminal is left recursive if its row, which says where
--- one move leads, holds it; rows closed by Warshall say where one or more moves lead, so of those it is always true. Before that the rows are stored, behind
--- all that the tables say.
+-- one move leads, holds it; rows closed by Warshall say where one or more moves lead, so of those it is always true. The tables hold the rows from before
+-- they are closed.
 use mathlib.Core.Path.{_∙_}
 use Rattle.corners.proofs.StoreLaws.{stored-corners}
-use Rattle.soundness.proofs.Judging.{recursive-own, recursive-is}
+use Rattle.soundness.proofs.Judging.{led-on, recursive-own, recursive-is}
 use borrow.Author.Needs.{needs}
 use Rattle.soundness.proofs.judgement.left_recursive.Statement.{statement}
 use Rattle.soundness.proofs.judgement.left_recursive.Tie as tie
@@ -14,11 +14,15 @@ nonterminals-requires c κs = search needs
 corners-requires : tie.Need-corners-requires
 corners-requires c κs = search needs
 
-store-requires : tie.Need-store-requires
-store-requires c κs = search needs
-
 all-end-requires : tie.Need-all-end-requires
-all-end-requires c κs = search needs
+all-end-requires c κs =
+    let at-corners = c .before .before .before .before .before in
+    let at-nonterminals = at-corners .before .before .before in
+    let at-entry = at-nonterminals .before .before .before .before in (
+      search needs,
+      search needs,
+      led-on _ _ (at-nonterminals .nonterminals .ensures) (at-corners .corners .ensures .led _ (at-entry .pre .1)),
+    )
 
 lowest-own-requires : tie.Need-lowest-own-requires
 lowest-own-requires c κs = search needs
@@ -33,16 +37,14 @@ returns : tie.Need-returns
 returns c =
     let at-if1 = c .before .before in
     let at-all-end = at-if1 .before in
-    let at-store = at-all-end .before .before .before .before in
-    let at-corners = at-store .before .before .before .before .before in
+    let at-corners = at-all-end .before .before .before .before .before .before in
     let at-nonterminals = at-corners .before .before .before in
-    let corners = at-corners .corners .ensures in
-    let stored = at-store .store .ensures in
+    let widened = at-corners .corners .ensures in
     record {
       verdict = c .lowest-own .ensures
-          ∙ recursive-own _ _ _ (at-nonterminals .nonterminals .ensures) corners (at-all-end .all-end .ensures (at-if1 .if1 .taken));
-      kept = stored .kept;
-      cornered = stored-corners _ _ _ corners stored;
+          ∙ recursive-own _ _ _ (at-nonterminals .nonterminals .ensures) (widened .corners) (at-all-end .all-end .ensures (at-if1 .if1 .taken));
+      kept = widened .stored .kept;
+      cornered = stored-corners _ _ _ (widened .corners) (widened .stored);
     }
 
 reach-requires : tie.Need-reach-requires
@@ -61,18 +63,16 @@ returns-2 : tie.Need-returns-2
 returns-2 c =
     let at-reach = c .before .before .before .before in
     let at-all-end = at-reach .before .before .before in
-    let at-store = at-all-end .before .before .before .before in
-    let at-corners = at-store .before .before .before .before .before in
+    let at-corners = at-all-end .before .before .before .before .before .before in
     let at-nonterminals = at-corners .before .before .before in
     let at-entry = at-nonterminals .before .before .before .before in
-    let corners = at-corners .corners .ensures in
-    let stored = at-store .store .ensures in
+    let widened = at-corners .corners .ensures in
     record {
       verdict = c .lowest-own2 .ensures
-          ∙ recursive-is _ _ _ (at-nonterminals .nonterminals .ensures) corners (at-entry .pre .0) (at-corners .corners .kept .1 .1 .0 ∙ at-entry .pre .2)
-          (at-reach .reach .ensures);
-      kept = stored .kept;
-      cornered = stored-corners _ _ _ corners stored;
+          ∙ recursive-is _ _ _ (at-nonterminals .nonterminals .ensures) (widened .corners) (at-entry .pre .0 .fits)
+          (at-corners .corners .kept .1 .1 .0 ∙ at-entry .pre .0 .long) (at-reach .reach .ensures);
+      kept = widened .stored .kept;
+      cornered = stored-corners _ _ _ (widened .corners) (widened .stored);
     }
 
 pub left-recursive-spec : {M : Type 1} → statement M
@@ -81,7 +81,6 @@ left-recursive-spec =
     (tie.spec
     nonterminals-requires
     corners-requires
-    store-requires
     all-end-requires
     lowest-own-requires
     same-length

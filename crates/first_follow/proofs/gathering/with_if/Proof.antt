@@ -1,7 +1,7 @@
--- `corners::firsts::with_if` meets its contract: each way out is one case of `cond`.
+-- `first_follow::gathering::with_if` meets its contract: each way out is one case of `cond`.
 use borrow.Author.Needs.{needs}
-use Rattle.corners.proofs.firsts.with_if.Statement.{statement}
-use Rattle.corners.proofs.firsts.with_if.Tie as tie
+use Rattle.first_follow.proofs.gathering.with_if.Statement.{statement}
+use Rattle.first_follow.proofs.gathering.with_if.Tie as tie
 
 with-requires : tie.Need-with-requires
 with-requires c κs = search needs
