@@ -1,6 +1,14 @@
 //! Tests the grammar check against answers written down by hand and against the second checker.
 #![deny(unsafe_code)]
 
+#[path = "support/check_facts.rs"]
+mod check_facts;
+#[path = "support/check_families.rs"]
+mod check_families;
+#[path = "support/check_sketch.rs"]
+mod check_sketch;
+#[path = "support/check_ways.rs"]
+mod check_ways;
 #[path = "support/corners.rs"]
 mod corners;
 #[path = "support/edges.rs"]
@@ -24,6 +32,9 @@ mod tiny;
 mod tree;
 
 use allstar::calls::{self, Measure, Verdict};
+use check_facts::Facts;
+use check_families::FAULTS;
+use check_ways::Ways;
 use corners::CORNERS;
 use lent::Lent;
 use random::Random;
@@ -34,7 +45,7 @@ use tree::from_hex;
 /// Sound, and refusals 1 to 7.
 const NUMBERS: usize = 8;
 
-/// Drawn cases of each family, and how often each answer and each corner must come up in them.
+/// Drawn cases of each family, and how often each answer, each corner and each way must come up.
 const DRAWN_PER_FAMILY: usize = 3_000;
 const LEAST_OFTEN: usize = 100;
 
@@ -47,8 +58,10 @@ fn main() {
     tiny::each_grammar(|grammar| {
         run.agree("all tiny grammars", &grammar.encode());
     });
+    every_symbol(&mut run);
     systematic_faults(&mut run);
     drawn_grammars(&mut run);
+    ways_of_the_check(&mut run);
     run.finish();
 }
 
@@ -57,6 +70,8 @@ struct Run {
     all: Tally<NUMBERS>,
     drawn: Tally<NUMBERS>,
     corners: [usize; CORNERS.len()],
+    by_ways: Tally<NUMBERS>,
+    ways: Ways,
     input: Lent<u8>,
 }
 
@@ -66,6 +81,8 @@ impl Run {
             all: Tally::new("sound"),
             drawn: Tally::new("sound"),
             corners: [0; CORNERS.len()],
+            by_ways: Tally::new("sound"),
+            ways: Ways::new(),
             input: Lent::new(),
         }
     }
@@ -112,7 +129,9 @@ impl Run {
         let measure = measure(input, second);
         if measured != measure {
             report::case(origin, input);
-            fail(&format!("library: {measured:?}\nsecond checker: {measure:?}"));
+            fail(&format!(
+                "library: {measured:?}\nsecond checker: {measure:?}"
+            ));
         }
         self.all.count(library.number);
         library
@@ -127,15 +146,33 @@ impl Run {
         if answers.chain(self.corners).any(|n| n < LEAST_OFTEN) {
             fail("some answer or corner came up too rarely in the drawn cases");
         }
+        println!("ways: {} cases ({})", self.by_ways.cases(), self.by_ways);
+        let (ways, least) = self.ways.report();
+        for way in &ways {
+            println!("way: {way}");
+        }
+        println!(
+            "ways: {}, each to each of its answers at least {least} times",
+            ways.len()
+        );
+        if least < LEAST_OFTEN {
+            fail("some way came up too rarely with some answer");
+        }
         println!("grammars: {} cases agree ({})", self.all.cases(), self.all);
     }
 }
 
 /// How large the second checker finds a grammar of this verdict.
 fn measure(input: &[u8], verdict: Verdict) -> Measure {
-    let read = second_checker::read(input).ok().filter(|_| verdict.number == 0);
+    let read = second_checker::read(input)
+        .ok()
+        .filter(|_| verdict.number == 0);
     let [kinds, nonterminals, places] = read.map_or([0; 3], |grammar| {
-        [grammar.kinds as u64, grammar.rules.len() as u64, grammar.places() as u64]
+        [
+            grammar.kinds as u64,
+            grammar.rules.len() as u64,
+            grammar.places() as u64,
+        ]
     });
     Measure {
         number: verdict.number,
@@ -189,6 +226,26 @@ fn short_strings(run: &mut Run) {
     }
 }
 
+/// Every number that may be meant for a symbol, and more, in each of its forms, with kinds and
+/// nonterminals that decide about it; where it is all of a production, and amid tokens.
+fn every_symbol(run: &mut Run) {
+    for kinds in [1, 2, 62, 63, 64, 65, 99, 100] {
+        for count in [1, 2, 31, 32] {
+            let others = [1, 0].repeat(usize::from(count) - 1);
+            for number in 0..=260 {
+                for length in 1..=3 {
+                    let mut symbol = Vec::new();
+                    generate::write_padded(number, length, &mut symbol);
+                    let alone = [&[kinds, count, 2, 0, 1], &symbol[..], &others].concat();
+                    run.agree("every symbol", &alone);
+                    let amid = [&[kinds, count, 2, 3, 2], &symbol[..], &[2, 0], &others].concat();
+                    run.agree("every symbol", &amid);
+                }
+            }
+        }
+    }
+}
+
 /// Every cut, every overlong number and every fault of one byte in a few grammars, and inputs
 /// without end.
 fn systematic_faults(run: &mut Run) {
@@ -236,6 +293,30 @@ fn drawn_grammars(run: &mut Run) {
                     *times += usize::from(touched);
                 }
             }
+        }
+    }
+}
+
+/// Grammars drawn for the ways in which the check comes to its answer.
+fn ways_of_the_check(run: &mut Run) {
+    for family in check_families::FAMILIES {
+        let (name, times, _) = family;
+        let mut random = Random::new(3);
+        for fault in FAULTS.repeat(times) {
+            let grammar = check_families::draw(&family, &mut random, fault);
+            let input = grammar.encode();
+            let answer = run.agree(name, &input);
+            if second_checker::read(&input).as_ref() != Ok(&grammar) {
+                report::case(name, &input);
+                fail("the bytes are not those of the tree");
+            }
+            let facts = Facts::of(&grammar);
+            if facts.verdict() != answer {
+                report::case(name, &input);
+                fail(&format!("library: {answer}\nby ways: {}", facts.verdict()));
+            }
+            run.by_ways.count(answer.number);
+            run.ways.count(&facts, answer.number);
         }
     }
 }

@@ -543,7 +543,7 @@ fn one_number_replaced(random: &mut Random) -> Vec<u8> {
 }
 
 /// The number in `length` bytes, which may be more than it takes.
-fn write_padded(number: u32, length: usize, bytes: &mut Vec<u8>) {
+pub fn write_padded(number: u32, length: usize, bytes: &mut Vec<u8>) {
     let start = bytes.len();
     write_shortest(number, bytes);
     while bytes.len() < start + length {
