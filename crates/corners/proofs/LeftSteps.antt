@@ -1,27 +1,26 @@
 -- The loops of left recursion by cases, as the code meets them; and that the rows they end with are where moves lead.
 use mathlib.Core.Path.{_≡_, refl, sym, ap, _∙_}
-use mathlib.Core.Logic.{_⊎_, inl, inr}
 use mathlib.Core.Bool.{Bool, true, false, cond, not, _&&_, _||_}
-use mathlib.Core.List.{List, []}
+use mathlib.Core.List.{List}
 use Prim.Native.Nat.{ℕ, suc, _+_, _≤_, _<_}
 use native.Mathlib.Numerals.{add-one}
 use native.Mathlib.Omega.{arith}
 use lib.Bits.{bitOr}
 use lib.Dec.{eqb, eqb→eq, eqb-refl}
 use lib.ListN.{length, getD, set, take, length-take, drop-of-length-le}
-use lib.Seq.{slice, slice-cons, getD-set-same, getD-set-other, set-getD}
+use lib.Seq.{slice, slice-cons, set-getD}
 use borrow.Author.Tests.{not-true, not-false, eq-eqb, ne-eqb}
 use Rattle.base.specs.Bits.{testBit, setBit}
 use Rattle.base.specs.Rounds.{anyOf}
 use Rattle.base.proofs.Booleans.{same, or-assoc, or-none}
-use Rattle.base.proofs.Bits.{test-set, test-none, same?}
+use Rattle.base.proofs.Bits.{test-set, test-none}
 use Rattle.grammar.specs.declared.Symbol.{Symbol}
 use Rattle.grammar.specs.declared.Symbol.the-variants.{Token, Nonterminal, End}
-use Rattle.grammar.specs.Grammar.{Grammar, suffix, facing, alternatives}
+use Rattle.grammar.specs.Grammar.{suffix, facing, alternatives}
 use Rattle.grammar.specs.inside.Tables.{placeWords, grammarIn, nonterminalsIn, ruleAt}
 use Rattle.grammar.proofs.WordLaws.{facing-past, alternatives-in}
 use Rattle.corners.specs.Corners.{leads, leadsBy}
-use Rattle.corners.specs.inside.Steps.{LeadsTo, MovesFrom, MoveRows, joinOf, pivotBelow, pivotOf, reachOf}
+use Rattle.corners.specs.inside.Steps.{LeadsTo, MovesFrom, joinOf, pivotBelow, pivotOf, reachOf}
 use Rattle.corners.proofs.LeftRecursion.{leads-place}
 
 -- ---- Booleans
@@ -98,20 +97,6 @@ module _ (t : List ℕ) (nullable a e : ℕ) where
         (sym (drop-of-length-le (take e t) {i = k} (omega (arith, length-take e t))))
         ∙ i c
 
--- ---- the rows to begin with
-pub rows-more : (nullable : ℕ) (g : Grammar) (rows : List ℕ) (a : ℕ) (v : ℕ) → a < length rows → MoveRows nullable g a rows → MovesFrom nullable g a v
-    → MoveRows nullable g (a + 1) (set rows a v)
-unfolding MoveRows
-rows-more nullable g rows a v l h m b k = go (same? b a)
-  where
-    go : (b ≡ a) ⊎ (b ≡ a → ⊥) → MovesFrom nullable g b (getD (set rows a v) b 0)
-    go (inl e) = rw (e, getD-set-same rows a v 0 l) m
-    go (inr e) = rw (getD-set-other rows a b v 0 e) (h b (omega (arith, add-one a)))
-
-pub rows-none : (nullable : ℕ) (g : Grammar) (rows : List ℕ) → MoveRows nullable g 0 rows
-unfolding MoveRows
-rows-none nullable g rows b h = absurd (omega arith)
-
 -- ---- the code's ways through a turn
 pub through-more : (row b a : ℕ) (rows₀ rows : List ℕ) → rows ≡ pivotBelow row b a rows₀ → {x : ℕ} → x
     ≡ cond (testBit (getD rows a 0) b) (bitOr (getD rows a 0) row) (getD rows a 0)
@@ -122,9 +107,6 @@ through-more row b a rows₀ rows i e = rw (e, add-one, ← i) (go (testBit (get
     go : (d : Bool) → set rows a (cond d (bitOr (getD rows a 0) row) (getD rows a 0)) ≡ cond d (set rows a (bitOr (getD rows a 0) row)) rows
     go true = refl
     go false = set-getD rows a 0
-
-pub rows-upto : (nullable : ℕ) (g : Grammar) (rows : List ℕ) (a n : ℕ) → MoveRows nullable g a rows → a ≡ n → MoveRows nullable g n rows
-rows-upto nullable g rows a n h e = rw e at h
 
 module _ (n b : ℕ) (rows₀ rows : List ℕ) (i : rows ≡ reachOf n b rows₀) {row : ℕ} (e : row ≡ getD rows b 0) where
   pub reach-pivot : {after : List ℕ} → (row ≡ 0 → ⊥) → after ≡ pivotBelow row b n rows → after ≡ reachOf n (b + 1) rows₀

@@ -1,18 +1,13 @@
--- Rows that tables hold: none to begin with; and corners that they hold are their own.
+-- Corners that tables hold are their own.
 use mathlib.Core.Path.{ap, _∙_}
 use mathlib.Core.List.{List}
 use Prim.Native.Nat.{ℕ, _<_}
 use native.Mathlib.Omega.{arith}
 use Rattle.base.specs.Bits.{testBit}
-use Rattle.grammar.specs.inside.Tables.{grammarIn, nonterminalsIn, TablesFit}
-use Rattle.grammar.proofs.CornerLaws.{kept-none}
+use Rattle.grammar.specs.inside.Tables.{grammarIn, nonterminalsIn}
 use Rattle.corners.specs.Corners.{Corners, Cornered}
 use Rattle.corners.specs.inside.Steps.{Stored}
 
-pub stored-none : (t rows : List ℕ) → TablesFit t → Stored t rows 0 t
-stored-none t rows f = record { kept = kept-none f; same = λ a h. absurd (omega arith) }
-
--- corners that are stored are the tables' own
 pub stored-corners : (t₀ rows t : List ℕ) → Corners (grammarIn t₀) (nonterminalsIn t₀) rows → Stored t₀ rows (nonterminalsIn t₀) t
     → Cornered t
 unfolding Corners Cornered

@@ -5,8 +5,7 @@ ghost use mathlib.Core.Bool.{true};
 ghost use Prim.Native.Nat.{_≤_, _<_};
 ghost use lib.ListN.{length};
 ghost use Rattle.grammar.specs.Limits.{maxNonterminals};
-ghost use Rattle.corners.specs.inside.Steps.{LedIs};
-ghost use Rattle.corners.specs.inside.Ending.{AllEnd, endedOf, endedBelow};
+ghost use Rattle.corners.specs.inside.Ending.{Ending, AllEnd, endedOf, endedBelow};
 
 // So many rounds settle most grammars; deeper ones are left to `reach`.
 const ROUNDS: usize = 8;
@@ -37,13 +36,13 @@ fn round(rows: &[u32], n: usize, set: u32) -> u32
     next
 }
 
-// Whether a few rounds show that moves end from each of the first n nonterminals. From those outside `led` there is none, so rounds begin with them.
-pub fn all_end(rows: &[u32], n: usize, led: u32) -> bool
-    requires { ⌜ (n ≤ maxNonterminals) × (length (now rows) ≡ maxNonterminals) × LedIs (now rows) n led ⌝ }
+// Whether a few rounds show that moves end from each of the first n nonterminals. From those of `from` they are known to end.
+pub fn all_end(rows: &[u32], n: usize, from: u32) -> bool
+    requires { ⌜ (n ≤ maxNonterminals) × (length (now rows) ≡ maxNonterminals) × Ending (now rows) from ⌝ }
     ensures { λ r. ⌜ (r ≡ true → AllEnd (now (rows .entry)) n) ⌝ }
 {
     let all = base::below(n);
-    let mut set = all & base::opposite(led);
+    let mut set = from;
     let mut k = 0;
     while k < ROUNDS {
         let next = round(rows, n, set);

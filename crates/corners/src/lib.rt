@@ -7,5 +7,6 @@ mod reaching;
 pub use ending::all_end;
 pub use firsts::HeadSets;
 pub use firsts::heads;
+pub use firsts::nullable;
 pub use moves::corners;
 pub use reaching::reach;

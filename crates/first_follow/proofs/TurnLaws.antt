@@ -1,5 +1,5 @@
 -- The turns of the pass as the code takes them: one law for each way back to the loop's head.
-use mathlib.Core.Path.{_≡_, sym, ap, _∙_}
+use mathlib.Core.Path.{_≡_, sym, _∙_}
 use mathlib.Core.Bool.{Bool, true, false}
 use mathlib.Core.List.{List}
 use Prim.Native.Nat.{ℕ, suc, _+_, _≤_, _<_}
@@ -11,17 +11,13 @@ use Rattle.grammar.specs.declared.Place.{Place}
 use Rattle.grammar.specs.Limits.{maxKinds, maxNonterminals}
 use Rattle.grammar.specs.Grammar.{Grammar, placeAt, owner}
 use Rattle.grammar.specs.inside.Tables.{grammarIn}
-use Rattle.grammar.proofs.WordLaws.{facing-of}
+use Rattle.grammar.proofs.WordLaws.{facing-of, owner-of}
 use Rattle.closures.specs.Closures.{nullable?}
 use Rattle.closures.specs.inside.Steps.{DerivingIs}
 use Rattle.derivation.specs.inside.Ready.{Ready}
 use Rattle.first_follow.specs.inside.Steps.{Relations, Gathered, addedOf, memberOf, tokenOf}
 use Rattle.first_follow.proofs.LinedLaws.{ready-lined}
 use Rattle.first_follow.proofs.PassLaws.{Passing, pass-begin, pass-end, pass-token, pass-over, pass-stop}
-
-owner-of : (g : Grammar) (p : ℕ) {x : Place} → x ≡ placeAt g p → x .owner ≡ owner g p
-unfolding owner
-owner-of g p e = ap (λ (y : Place). y .owner) e
 
 module _ (t : List ℕ) (ready : Ready t) where
   pub turn-begin : (R : Relations) → Gathered (grammarIn t) 0 R → Passing (grammarIn t) 0 true 0 R

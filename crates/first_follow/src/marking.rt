@@ -70,9 +70,7 @@ pub fn mark(tables: &[u16], masks: &mut [u32])
     ensures { λ _. ⌜ Exact (grammarIn (now (tables .entry))) (masksIn (now (masks .exit))) × (length (now (masks .exit)) ≡ maskWords)
         × DerivingIs false (grammarIn (now (tables .entry))) (getD (now (masks .exit)) nullableAt 0) ⌝ }
 {
-    let mut rows = [0u32; grammar::MAX_NONTERMINALS];
-    let heads = corners::heads(tables, &mut rows);
-    let nullable = heads.nullable;
+    let nullable = corners::nullable(tables);
     relate(tables, nullable, masks);
     masks[crate::reading::NULLABLE] = nullable;
 }

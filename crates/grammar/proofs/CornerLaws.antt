@@ -1,13 +1,13 @@
 -- The rows of left corners stand behind all that tables say of a grammar: putting one there changes no other row and nothing of the grammar.
 use mathlib.Core.Path.{_≡_, refl, sym, ap, _∙_}
-use mathlib.Core.List.{List, [], _∷_, map}
+use mathlib.Core.List.{List, _∷_, map}
 use Prim.Native.Nat.{ℕ, zero, suc, _+_, _*_, _/_, _%_, _≤_, _<_}
 use native.Mathlib.Omega.{arith}
 use lib.ListN.{getD, set, drop, length-set}
 use lib.Seq.{slice, getD-set-same, getD-set-other, take-set-le}
 use Rattle.base.specs.Rounds.{upFrom}
 use Rattle.grammar.specs.Limits.{maxNonterminals}
-use Rattle.grammar.specs.Grammar.{Grammar, facing}
+use Rattle.grammar.specs.Grammar.{Grammar, facing, owner}
 use Rattle.grammar.specs.inside.Tables.{placeWords, rulesAt, kindsAt, nonterminalsAt, sizeAt, cornersAt, half, cornerAt, placeOf, ruleAt, startsIn}
 use Rattle.grammar.specs.inside.Tables.{grammarIn, nonterminalsIn, cornerRow, withCorners, TablesFit, SameTables}
 
@@ -53,7 +53,20 @@ module _ (t : List ℕ) (i v : ℕ) (behind : cornersAt ≤ i) (fits : TablesFit
         few = omega (arith, number-kept, fits .few);
         within = λ a h. rw (rule-kept (suc a) (omega (arith, number-kept, fits .few))) (fits .within a (omega (arith, number-kept)));
         named = λ p a e. rw number-kept (fits .named p a (ap (λ (g : Grammar). facing g p) (sym grammar-kept) ∙ e));
+        begins = rule-kept 0 (omega arith) ∙ fits .begins;
+        ordered = λ a h.
+            rw (rule-kept a (omega (arith, number-kept, fits .few)), rule-kept (suc a) (omega (arith, number-kept, fits .few)))
+            (fits .ordered a (omega (arith, number-kept)));
+        owns = owns;
       }
+    where
+      owns : (a k : ℕ) → a < nonterminalsIn after → ruleAt after a ≤ k → k < ruleAt after (suc a) → owner (grammarIn after) (getD after k 0) ≡ a
+      owns a k h l m =
+          let n : a < nonterminalsIn t = omega (arith, number-kept) in
+          let begin = rule-kept a (omega (arith, number-kept, fits .few)) in
+          let end = rule-kept (suc a) (omega (arith, number-kept, fits .few)) in
+          let word = word-kept k (omega (arith, end, fits .within a n)) in
+          rw (grammar-kept, word) (fits .owns a k n (omega (arith, begin)) (omega (arith, end)))
 
 -- ---- so is a row, in two words
 module _ (t : List ℕ) (a row : ℕ) (fits : TablesFit t) (named : a < maxNonterminals) where

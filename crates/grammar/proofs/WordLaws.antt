@@ -14,7 +14,7 @@ use Rattle.base.proofs.Lists.{length-upFrom}
 use Rattle.grammar.specs.Types.{Symbol, Token, Nonterminal, End, Place}
 use Rattle.grammar.specs.Limits.{endPlace, nobody}
 use Rattle.grammar.specs.Decode.{written}
-use Rattle.grammar.specs.Grammar.{Grammar, at, nowhere, placeAt, facing, alternatives}
+use Rattle.grammar.specs.Grammar.{Grammar, at, nowhere, placeAt, facing, owner, alternatives}
 use Rattle.grammar.specs.inside.Tables.{placeWords, codes, owners, codeOf, wordOf, symbolOf, placeOf, ruleAt, startsIn, grammarIn, nonterminalsIn}
 
 -- ---- the code's ways through `symbolOf`
@@ -94,6 +94,10 @@ place-in t p h e =
 pub facing-of : (g : Grammar) (p : ℕ) {x : Place} {s : Symbol} → x ≡ placeAt g p → x .symbol ≡ s → facing g p ≡ s
 unfolding facing
 facing-of g p e f = ap (λ (x : Place). x .symbol) (sym e) ∙ f
+
+pub owner-of : (g : Grammar) (p : ℕ) {x : Place} → x ≡ placeAt g p → x .owner ≡ owner g p
+unfolding owner
+owner-of g p e = ap (λ (y : Place). y .owner) e
 
 pub facing-past : (t : List ℕ) (p : ℕ) → placeWords ≤ p → facing (grammarIn t) p ≡ End
 facing-past t p h = facing-of (grammarIn t) p (place-past t p h refl) (ap (λ (x : Place). x .symbol) place-of-none)

@@ -8,15 +8,15 @@ use Rattle.number.proofs.NumberLaws.{refused-at}
 use Rattle.reader.specs.inside.Types.{Refusal, Read, Cursor, Value, Refused}
 use Rattle.grammar.specs.Decode.{Rules, Mark, Parsed, got, refused, decode}
 use Rattle.grammar.specs.Grammar.{compile, Limited}
-use Rattle.grammar.specs.inside.Tables.{tableWords, grammarIn, TablesFit}
+use Rattle.grammar.specs.inside.Tables.{tableWords, grammarIn, TablesFit, Bare}
 use Rattle.reader.specs.inside.Pass.{Out, out, wholePass}
 use Rattle.reader.proofs.PassLaws.{Same, passOut, laidOut, pass-same}
 use Rattle.reader.proofs.TableLaws.{tables-say}
-use Rattle.reader.proofs.FitsLaws.{tables-fit}
+use Rattle.reader.proofs.FitsLaws.{tables-fit, tables-bare}
 
 pub data PassGives (s : List ℕ) (x : Read) (t : List ℕ) : Type 0 where
   none : (r : Refusal) (c : Cursor) → decode s ≡ refused r → x ≡ Refused r c → PassGives s x t
-  whole : (r : Rules) (m : Mark) (v : ℕ) (c : Cursor) → decode s ≡ got r m → x ≡ Value v c → Limited r → grammarIn t ≡ compile r → TablesFit t
+  whole : (r : Rules) (m : Mark) (v : ℕ) (c : Cursor) → decode s ≡ got r m → x ≡ Value v c → Limited r → grammarIn t ≡ compile r → TablesFit t → Bare t
       → PassGives s x t
 
 pub outcome : (s t₀ : List ℕ) {x : Read} {t : List ℕ} → t₀ ≡ replicate tableWords 0 → out x t ≡ wholePass s t₀ → PassGives s x t
@@ -31,6 +31,7 @@ outcome s t₀ {x} {t} z e = go (decode s) refl (pass-same s (replicate tableWor
         let o = e₀ ∙ h .0 in
         let w : t ≡ laidOut (replicate tableWords 0) r = ap (λ (o : Out). o .tables) o in
         whole r m _ _ q (ap (λ (o : Out). o .answer) o) (h .1) (rw w (tables-say r (h .1))) (rw w (tables-fit r (h .1)))
+        (rw w (tables-bare r (h .1)))
     go (refused r) q h =
         let z = refused-at (wholePass s (replicate tableWords 0) .answer) r h in none r (z .0) q (ap (λ (o : Out). o .answer) e₀ ∙ z .1)
 

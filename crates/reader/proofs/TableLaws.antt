@@ -61,6 +61,11 @@ slice-part zero n l = let e : 0 + n ≡ n = omega arith in rw e
 slice-part (suc f) n [] = let e : suc f + n ≡ suc (f + n) = omega arith in rw (e, take-nil)
 slice-part (suc f) n (x ∷ l) = let e : suc f + n ≡ suc (f + n) = omega arith in rw e (slice-part f n l)
 
+pub counts-first : (k : ℕ) (l : List (List (List Symbol))) → getD (countsOf k l) 0 0 ≡ k
+unfolding countsOf
+counts-first k [] = refl
+counts-first k (n ∷ l) = refl
+
 starts-back : (X : List ℕ) (rest : List ℕ) (l : List (List (List Symbol))) (a k o : ℕ)
     → ((j : ℕ) → j ≤ length l → getD X (rulesAt + (a + j)) 0 ≡ getD (countsOf k l) j 0) → drop (firstsAt + k) X ≡ firstsOf o l ++ rest
     → startsIn X (upFrom a (length l)) ≡ startsAll o l
@@ -77,17 +82,10 @@ starts-back X rest (n ∷ l) a k o c d =
     begin : firstsAt + getD X (rulesAt + a) 0 ≡ firstsAt + k
     begin = ap (λ (q : ℕ). firstsAt + q) (ap (λ (q : ℕ). getD X (rulesAt + q) 0) (sym (add-zero a)) ∙ c 0 (omega arith))
 
-    second : getD (countsOf (k + length n) l) 0 0 ≡ k + length n
-    second = go l
-      where
-        go : (l : List (List (List Symbol))) → getD (countsOf (k + length n) l) 0 0 ≡ k + length n
-        go [] = refl
-        go (x ∷ l) = refl
-
     end : firstsAt + getD X (rulesAt + suc a) 0 ≡ firstsAt + k + length n
     end =
         let e : suc a ≡ a + 1 = omega arith in
-        let f : getD X (rulesAt + suc a) 0 ≡ k + length n = ap (λ (q : ℕ). getD X (rulesAt + q) 0) e ∙ (c 1 (omega arith) ∙ second) in
+        let f : getD X (rulesAt + suc a) 0 ≡ k + length n = ap (λ (q : ℕ). getD X (rulesAt + q) 0) e ∙ (c 1 (omega arith) ∙ counts-first (k + length n) l) in
         omega (arith, f)
 
     inside : drop (firstsAt + k) X ≡ startsEach o n ++ (firstsOf (o + sizeEach n) l ++ rest)

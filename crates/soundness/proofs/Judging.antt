@@ -17,7 +17,7 @@ use Rattle.number.specs.declared.Read.{Read}
 use Rattle.number.specs.declared.Read.the-variants.{Value, Refused as Unread}
 use Rattle.grammar.specs.Limits.{maxNonterminals}
 use Rattle.grammar.specs.Grammar.{Grammar, ofPlaces}
-use Rattle.grammar.specs.inside.Tables.{tableWords, grammarIn, nonterminalsIn, TablesFit, SameTables}
+use Rattle.grammar.specs.inside.Tables.{tableWords, grammarIn, nonterminalsIn, TablesFit, Bare, SameTables}
 use Rattle.reader.specs.inside.Pass.{out, wholePass}
 use Rattle.reader.proofs.ReadLaws.{PassGives, none, whole, outcome}
 use Rattle.grammar.proofs.WordLaws.{length-starts-in}
@@ -28,13 +28,13 @@ use Rattle.closures.specs.Closures.{deriving?}
 use Rattle.corners.specs.Corners.{Corners, leftRecursive?}
 use Rattle.soundness.specs.Check.{lowestUnproductive, lowestLeftRecursive, refuseAt, unproductiveOf, leftRecursiveOf, judgeOf, onDecoded, checkOf}
 use Rattle.closures.specs.inside.Steps.{DerivingIs}
-use Rattle.corners.specs.inside.Steps.{LedIs, Found, Widening, reachOf}
-use Rattle.corners.specs.inside.Ending.{AllEnd}
+use Rattle.corners.specs.inside.Steps.{Found, Widening, reachOf}
+use Rattle.corners.specs.inside.Ending.{AllEnd, Settled}
 use Rattle.soundness.specs.inside.Compiled.{Judgement, Compiled}
 use Rattle.soundness.proofs.OwnLaws.{lowest-absent}
 use Rattle.corners.proofs.LeftRecursion.{move-to}
 use Rattle.corners.proofs.Warshall.{reached}
-use Rattle.corners.proofs.EndingLaws.{own-recursive}
+use Rattle.corners.proofs.EndingLaws.{ending-all, settled-none, own-recursive}
 
 -- ---- 6
 pub unproductive-is : (t : List ℕ) (x n : ℕ) → DerivingIs true (grammarIn t) x → n ≡ nonterminalsIn t
@@ -73,6 +73,12 @@ module _ (t : List ℕ) (n : ℕ) (rows : List ℕ) (e : n ≡ nonterminalsIn t)
   pub recursive-own : AllEnd rows n → refuseAt LeftRecursive (lowestFrom (λ a. testBit (getD rows a 0) a) 0 n) ≡ leftRecursiveOf (grammarIn t)
   recursive-own d = recursive-by t n rows starts-n (own-recursive (grammarIn t) n rows starts-n rows-n d)
 
+  -- where they are settled from every nonterminal, none holds its own
+  pub recursive-none : {x : ℕ} → Settled rows x → x ≡ 2 ^ n - 1 → Sound ≡ leftRecursiveOf (grammarIn t)
+  recursive-none s f =
+      ap (refuseAt LeftRecursive) (sym (lowest-absent (λ a. testBit (getD rows a 0) a) n (settled-none rows n s f)))
+      ∙ recursive-own (ending-all rows n (s .ending) f)
+
   -- the rows closed
   pub recursive-is : TablesFit t → length rows ≡ maxNonterminals → {after : List ℕ} → after ≡ reachOf n n rows
       → refuseAt LeftRecursive (lowestFrom (λ a. testBit (getD after a 0) a) 0 n) ≡ leftRecursiveOf (grammarIn t)
@@ -86,12 +92,9 @@ module _ (t : List ℕ) (n : ℕ) (rows : List ℕ) (e : n ≡ nonterminalsIn t)
 pub still-nullable : {t₀ t : List ℕ} → SameTables t₀ t → (x : ℕ) → DerivingIs false (grammarIn t₀) x → DerivingIs false (grammarIn t) x
 still-nullable k x d = let same = k .says in rw same d
 
-pub led-on : (rows : List ℕ) {n m : ℕ} (x : ℕ) → n ≡ m → LedIs rows m x → LedIs rows n x
-led-on rows x e h = rw e h
-
--- what stands first is what left corners are made from
-pub found-widening : {t rows : List ℕ} {x led : ℕ} → TablesFit t → length rows ≡ maxNonterminals → Found t x led rows → Widening t x rows
-found-widening fits l f = record { fits = fits; vanish = f .vanish; long = l; firsts = f .firsts }
+-- what stands first is what left corners are made from, in tables that hold none yet
+pub found-widening : {t rows : List ℕ} {x led : ℕ} → TablesFit t × Bare t → length rows ≡ maxNonterminals → Found t x led rows → Widening t x led rows
+found-widening p l f = record { fits = p .0; bare = p .1; vanish = f .vanish; long = l; firsts = f .firsts; led-is = f .led-is }
 
 module _ {t₀ t : List ℕ} {v : Verdict} (seven : Judgement v (leftRecursiveOf (grammarIn t₀)) t₀ t) where
   pub judge-first : {r : Refusal} → v ≡ Refused r → Judgement (Refused r) (judgeOf (grammarIn t₀)) t₀ t
@@ -114,15 +117,15 @@ module _ (s t₀ : List ℕ) {x : Read} {t : List ℕ} (z : t₀ ≡ replicate t
       go : PassGives s x t → Compiled s (Refused r′) t
       go (none r″ c″ q h′) = let y : r″ ≡ r′ = cc in
           record { verdict = rw (q, y); says = λ g m q′. clash (cc); fits = λ g m q′. clash (cc); cornered = λ q′. clash (cc) }
-      go (whole g m v c q h′ l u f) = clash (cc)
+      go (whole g m v c q h′ l u f b) = clash (cc)
 
   module _ {v : ℕ} {c : Cursor} (h : x ≡ Value v c) where
-    pub compile-fits : TablesFit t
+    pub compile-fits : TablesFit t × Bare t
     compile-fits = go (outcome s t₀ z e)
       where
-        go : PassGives s x t → TablesFit t
+        go : PassGives s x t → TablesFit t × Bare t
         go (none r c′ q h′) = clash (cc)
-        go (whole g m v c q h′ l u f) = f
+        go (whole g m v c q h′ l u f b) = (f, b)
 
     pub compile-judged : {w : Verdict} {t′ : List ℕ} → Judgement w (judgeOf (grammarIn t)) t t′ → Compiled s w t′
     unfolding checkOf
@@ -130,7 +133,7 @@ module _ (s t₀ : List ℕ) {x : Read} {t : List ℕ} (z : t₀ ≡ replicate t
       where
         go : PassGives s x t → Compiled s w t′
         go (none r c′ q h′) = clash (cc)
-        go (whole g m v c q h′ l u f) =
+        go (whole g m v c q h′ l u f b) =
             record {
               verdict = j .verdict ∙ ap judgeOf u ∙ ap onDecoded (sym q);
               says = λ g′ m′ q′. let y : g ≡ g′ = cc in rw (← y) (j .kept .says ∙ u);

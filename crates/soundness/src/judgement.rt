@@ -8,9 +8,9 @@ ghost use lib.ListN.{length, getD, replicate};
 ghost use Rattle.base.specs.Bits.{testBit};
 ghost use Rattle.base.specs.Search.{lowestFrom};
 ghost use Rattle.grammar.specs.Limits.{maxNonterminals};
-ghost use Rattle.grammar.specs.inside.Tables.{grammarIn, nonterminalsIn, TablesFit, tableWords};
+ghost use Rattle.grammar.specs.inside.Tables.{grammarIn, TablesFit, Bare, tableWords};
 ghost use Rattle.closures.specs.inside.Steps.{DerivingIs};
-ghost use Rattle.corners.specs.inside.Steps.{LedIs, Widening};
+ghost use Rattle.corners.specs.inside.Steps.{Widening};
 ghost use Rattle.soundness.specs.Check.{refuseAt, unproductiveOf, leftRecursiveOf, judgeOf, verdictNumber, verdictPlace, CheckDid};
 ghost use Rattle.soundness.specs.inside.Compiled.{Judgement, Compiled};
 ghost use Rattle.soundness.specs.inside.Own.{OwnIs};
@@ -97,15 +97,18 @@ fn unproductive(tables: &[u16], nullable: u32) -> Verdict
     lowest_missing(productive, n)
 }
 
-// Refusal 7. The rows come with what stands first in productions, and become the left corners, which stay in the tables. Most grammars need no closure of
-// them.
+// Refusal 7. The rows come with what stands first in productions, and become the left corners, which stay in the tables. Of most grammars all moves are seen
+// to end while they do; of most others a few rounds tell what is left recursive; what is left needs the closure.
 fn left_recursive(tables: &mut [u16], nullable: u32, led: u32, rows: &mut [u32]) -> Verdict
-    requires { ⌜ Widening (now tables) nullable (now rows) × LedIs (now rows) (nonterminalsIn (now tables)) led ⌝ }
+    requires { ⌜ Widening (now tables) nullable led (now rows) ⌝ }
     ensures { λ r. ⌜ Judgement r (leftRecursiveOf (grammarIn (now (tables .entry)))) (now (tables .entry)) (now (tables .exit)) ⌝ }
 {
     let n = grammar::nonterminals(tables);
-    corners::corners(tables, nullable, rows);
-    if corners::all_end(rows, n, led) {
+    let done = corners::corners(tables, nullable, led, rows);
+    if done == base::below(n) {
+        return Verdict::Sound;
+    }
+    if corners::all_end(rows, n, done) {
         return lowest_own(rows, n);
     }
     corners::reach(rows, n);
@@ -114,7 +117,7 @@ fn left_recursive(tables: &mut [u16], nullable: u32, led: u32, rows: &mut [u32])
 
 // 7, and then 6.
 fn judge(tables: &mut [u16]) -> Verdict
-    requires { ⌜ TablesFit (now tables) ⌝ }
+    requires { ⌜ TablesFit (now tables) × Bare (now tables) ⌝ }
     ensures { λ r. ⌜ Judgement r (judgeOf (grammarIn (now (tables .entry)))) (now (tables .entry)) (now (tables .exit)) ⌝ }
 {
     let mut rows = [0u32; grammar::MAX_NONTERMINALS];

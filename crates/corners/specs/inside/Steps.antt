@@ -1,6 +1,6 @@
 -- What the loops of the code do, turn by turn. Internal: proofs/ says that the ends are those of Corners.
 use mathlib.Core.Path.{_≡_}
-use mathlib.Core.Bool.{false, cond, _&&_, _||_}
+use mathlib.Core.Bool.{false, cond, _||_}
 use mathlib.Core.List.{List}
 use Prim.Native.Nat.{ℕ, zero, suc, _≤_, _<_}
 use lib.ListN.{length, getD, set}
@@ -11,8 +11,7 @@ use Rattle.base.specs.Rounds.{anyOf}
 use Rattle.grammar.specs.declared.Symbol.{Symbol}
 use Rattle.grammar.specs.Grammar.{Grammar, alternatives, suffix}
 use Rattle.grammar.specs.Limits.{maxNonterminals}
-use Rattle.grammar.specs.inside.Tables.{grammarIn, nonterminalsIn, TablesFit, SameTables, cornerRow}
-use Rattle.closures.specs.Closures.{derivingRound}
+use Rattle.grammar.specs.inside.Tables.{grammarIn, nonterminalsIn, TablesFit, SameTables, Bare, cornerRow}
 use Rattle.closures.specs.inside.Steps.{Empties, DerivingIs}
 use Rattle.corners.specs.Corners.{leads, Corners}
 
@@ -28,11 +27,6 @@ MovesFrom nullable g a r = (c : ℕ) → testBit r c ≡ anyOf (λ f. leads (tes
 unfoldable pub MoveRows : ℕ → Grammar → ℕ → List ℕ → Type 0
 unfolding MovesFrom
 MoveRows nullable g n rows = (a : ℕ) → a < n → MovesFrom nullable g a (getD rows a 0)
-
--- `row` is the set of what stands first in the productions of a, and `empty` is the set x, with a if one of them is empty
-pub record FirstIs (g : Grammar) (a x row empty : ℕ) : Type 0 where
-  pub moves : MovesFrom 0 g a row
-  pub joins : (c : ℕ) → testBit empty c ≡ (testBit x c || (derivingRound false g (testBit 0) a && eqb c a))
 
 -- x holds every nonterminal below n whose row holds anything
 unfoldable pub LedIs : List ℕ → ℕ → ℕ → Type 0
@@ -57,18 +51,20 @@ pub record Found (t : List ℕ) (nullable led : ℕ) (rows : List ℕ) : Type 0 
   pub firsts : MoveRows 0 (grammarIn t) (nonterminalsIn t) rows
   pub led-is : LedIs rows (nonterminalsIn t) led
 
--- what widening rows starts from: the nonterminals that derive the empty row, and the rows of what stands first
-pub record Widening (t : List ℕ) (nullable : ℕ) (rows : List ℕ) : Type 0 where
+-- what widening rows starts from: tables without left corners, the nonterminals that derive the empty row, the rows of what stands first, and those of them
+-- that may hold anything
+pub record Widening (t : List ℕ) (nullable led : ℕ) (rows : List ℕ) : Type 0 where
   pub fits : TablesFit t
+  pub bare : Bare t
   pub vanish : DerivingIs false (grammarIn t) nullable
   pub long : length rows ≡ maxNonterminals
   pub firsts : MoveRows 0 (grammarIn t) (nonterminalsIn t) rows
+  pub led-is : LedIs rows (nonterminalsIn t) led
 
--- rows, which were rows₀, say where one move leads; tables t hold them, and say what tables t₀ say; a row that held nothing still does
-pub record Widened (t₀ rows₀ rows t : List ℕ) : Type 0 where
+-- rows say where one move leads; tables t hold them, and say what tables t₀ say
+pub record Widened (t₀ rows t : List ℕ) : Type 0 where
   pub corners : Corners (grammarIn t₀) (nonterminalsIn t₀) rows
   pub stored : Stored t₀ rows (nonterminalsIn t₀) t
-  pub led : (x : ℕ) → LedIs rows₀ (nonterminalsIn t₀) x → LedIs rows (nonterminalsIn t₀) x
 
 -- row a is joined by `row`, which is that of b, if it holds b
 unfoldable pub joinOf : ℕ → ℕ → ℕ → List ℕ → List ℕ

@@ -14,7 +14,7 @@ use lib.Dec.{eqb}
 use Rattle.base.specs.Rounds.{upFrom}
 use Rattle.grammar.specs.Types.{Symbol, Token, Nonterminal, End, Place}
 use Rattle.grammar.specs.Limits.{maxNonterminals, maxPlaces, endPlace, nobody}
-use Rattle.grammar.specs.Grammar.{Grammar, facing}
+use Rattle.grammar.specs.Grammar.{Grammar, facing, owner}
 
 -- the words that hold places, the end place among them
 abbrev pub placeWords : ℕ
@@ -110,12 +110,21 @@ cornerRow t a = getD t (cornerAt a) 0 + getD t (suc (cornerAt a)) 0 * half
 unfoldable pub withCorners : List ℕ → ℕ → ℕ → List ℕ
 withCorners t a row = set (set t (cornerAt a) (row % half)) (suc (cornerAt a)) (row / half)
 
--- what readers of tables may rely on: every index that the words say is in range
+-- what readers of tables may rely on: every index that the words say is in range, and the first places of productions stand rule behind rule, each place a
+-- place of its own nonterminal
 pub record TablesFit (t : List ℕ) : Type 0 where
   pub long : length t ≡ tableWords
   pub few : nonterminalsIn t ≤ maxNonterminals
   pub within : (a : ℕ) → a < nonterminalsIn t → ruleAt t (suc a) ≤ cornersAt
   pub named : (p a : ℕ) → facing (grammarIn t) p ≡ Nonterminal a → a < nonterminalsIn t
+  pub begins : ruleAt t 0 ≡ firstsAt
+  pub ordered : (a : ℕ) → a < nonterminalsIn t → ruleAt t a ≤ ruleAt t (suc a)
+  pub owns : (a k : ℕ) → a < nonterminalsIn t → ruleAt t a ≤ k → k < ruleAt t (suc a) → owner (grammarIn t) (getD t k 0) ≡ a
+
+-- no left corner is known yet
+unfoldable pub Bare : List ℕ → Type 0
+unfolding cornerRow
+Bare t = (a : ℕ) → a < maxNonterminals → cornerRow t a ≡ 0
 
 -- tables t say what tables t₀ say: at most the rows of left corners differ
 pub record SameTables (t₀ t : List ℕ) : Type 0 where

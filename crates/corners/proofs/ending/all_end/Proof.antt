@@ -1,33 +1,27 @@
--- `corners::ending::all_end` meets its contract: rounds begin with nonterminals from which there is no move, and collect only such from which moves end, so it
--- is from all once all are collected. The other ways out promise nothing.
+-- `corners::ending::all_end` meets its contract: rounds begin with nonterminals from which moves are known to end, and collect only such, so it is from all
+-- once all are collected. The other ways out promise nothing.
 use borrow.Author.Needs.{needs}
 use mathlib.Core.Path.{_∙_}
 use Prim.Native.Nat.{_-_}
-use native.Mathlib.Omega.{arith}
 use Rattle.base.proofs.Booleans.{clash}
 use Rattle.grammar.specs.Limits.{maxNonterminals}
-use Rattle.corners.proofs.EndingLaws.{Ending, ending-unled, ending-round, ending-all}
+use Rattle.corners.specs.inside.Ending.{Ending}
+use Rattle.corners.proofs.EndingLaws.{ending-round, ending-all}
 use Rattle.corners.proofs.ending.all_end.Statement.{statement}
 use Rattle.corners.proofs.ending.all_end.Tie as tie
 
 abbrev Inv-loop : tie.InvT-loop
-Inv-loop rows n led all set₀ k₀ set k = Ending rows set
+Inv-loop rows n from all set₀ k₀ set k = Ending rows set
 
 -- more rounds than there can be nonterminals would be of no use
 abbrev μ-loop : tie.MeasureT-loop
-μ-loop rows n led all set₀ k₀ set k = maxNonterminals - k
+μ-loop rows n from all set₀ k₀ set k = maxNonterminals - k
 
 below-requires : tie.Need-below-requires Inv-loop μ-loop
 below-requires c κs = search needs
 
-opposite-requires : tie.Need-opposite-requires Inv-loop μ-loop
-opposite-requires c κs = search needs
-
 loop-holds : tie.Need-loop-holds Inv-loop μ-loop
-loop-holds c =
-    let at-below = c .before in
-    let at-entry = at-below .before .before in
-    ending-unled _ _ _ (omega arith) (at-entry .pre .2) (at-below .below .ensures) (c .opposite .ensures)
+loop-holds c = let at-entry = c .before .before in at-entry .pre .2
 
 round-requires : tie.Need-round-requires Inv-loop μ-loop
 round-requires c κs = search needs
@@ -36,7 +30,7 @@ returns : tie.Need-returns Inv-loop μ-loop
 returns c =
     let at-round = c .before in
     let at-loop = at-round .before .before in
-    let at-below = at-loop .before .before in
+    let at-below = at-loop .before in
     λ e. ending-all _ _ (ending-round _ _ _ (at-loop .loop .inv) (at-round .round .ensures)) (c .if1 .taken ∙ at-below .below .ensures)
 
 returns-2 : tie.Need-returns-2 Inv-loop μ-loop
@@ -64,7 +58,6 @@ all-end-spec =
     Inv-loop
     μ-loop
     below-requires
-    opposite-requires
     loop-holds
     round-requires
     returns

@@ -2,7 +2,7 @@
 -- closure asks for.
 use borrow.Author.Needs.{needs}
 use native.Mathlib.Omega.{arith}
-use Rattle.corners.proofs.FirstLaws.{gathered, found, found-none}
+use Rattle.corners.proofs.FirstLaws.{zeros-long, gathered, found, found-none}
 use Rattle.corners.proofs.firsts.heads.Statement.{statement}
 use Rattle.corners.proofs.firsts.heads.Tie as tie
 
@@ -21,7 +21,7 @@ nullable-requires : tie.Need-nullable-requires
 nullable-requires c κs =
     let at-all-firsts = c .before .before .before .before .before in
     let at-entry = at-all-firsts .before .before .before .before in
-    gathered _ _ _ _ (at-all-firsts .all-firsts .ensures) (at-entry .pre .0) (omega arith)
+    gathered _ _ _ _ (at-all-firsts .all-firsts .ensures) (at-entry .pre .0) (omega (arith, zeros-long (at-entry .pre .1)))
 
 same-length-2 : tie.Need-same-length-2
 same-length-2 c = search needs

@@ -7,11 +7,8 @@ use Rattle.first_follow.proofs.ExactLaws.{exact, stored}
 use Rattle.first_follow.proofs.marking.mark.Statement.{statement}
 use Rattle.first_follow.proofs.marking.mark.Tie as tie
 
-slice-aggregate-heads : tie.Need-slice-aggregate-heads
-slice-aggregate-heads c = search needs
-
-heads-requires : tie.Need-heads-requires
-heads-requires c κs = search needs
+nullable-requires : tie.Need-nullable-requires
+nullable-requires c κs = search needs
 
 relate-requires : tie.Need-relate-requires
 relate-requires c κs = search needs
@@ -25,19 +22,18 @@ same-length c = search needs
 returns : tie.Need-returns
 returns c =
     let at-relate = c .before .before in
-    let at-heads = at-relate .before .before .before in
-    let at-entry = at-heads .before .before .before .before in (
-      exact (ready-lined _ (at-entry .pre .0)) _ _ (at-relate .relate .ensures .0) (at-heads .heads .ensures .vanish) (at-relate .relate .ensures .1),
+    let at-nullable = at-relate .before .before in
+    let at-entry = at-nullable .before .before .before in (
+      exact (ready-lined _ (at-entry .pre .0)) _ _ (at-relate .relate .ensures .0) (at-nullable .nullable .ensures) (at-relate .relate .ensures .1),
       simp length-set (at-relate .relate .ensures .0),
-      stored (ready-lined _ (at-entry .pre .0)) _ _ (at-relate .relate .ensures .0) (at-heads .heads .ensures .vanish) (at-relate .relate .ensures .1),
+      stored (ready-lined _ (at-entry .pre .0)) _ _ (at-relate .relate .ensures .0) (at-nullable .nullable .ensures) (at-relate .relate .ensures .1),
     )
 
 pub mark-spec : {M : Type 1} → statement M
 mark-spec =
     tie.close
     (tie.spec
-    slice-aggregate-heads
-    heads-requires
+    nullable-requires
     relate-requires
     slice-write-masks
     same-length

@@ -1,5 +1,5 @@
--- `soundness::judgement::compile` meets its contract: the bytes are refused, or the tables fit and say the compiled grammar, and then the judgement on it is
--- that of `checkOf`.
+-- `soundness::judgement::compile` meets its contract: the bytes are refused, or the tables fit, hold no left corner yet and say the compiled grammar, and then
+-- the judgement on it is that of `checkOf`.
 use Rattle.soundness.proofs.Judging.{compile-refused, compile-fits, compile-judged}
 use borrow.Author.Needs.{needs}
 use Rattle.soundness.proofs.judgement.compile.Statement.{statement}

@@ -18,8 +18,7 @@ left-recursive-requires : tie.Need-left-recursive-requires
 left-recursive-requires c κs =
     let at-heads = c .before .before .before in
     let at-entry = at-heads .before .before .before .before in
-    let found = at-heads .heads .ensures in
-    (found-widening (at-entry .pre) (search needs) found, found .led-is)
+    found-widening (at-entry .pre) (search needs) (at-heads .heads .ensures)
 
 enum-known-first : tie.Need-enum-known-first
 enum-known-first c = search needs
