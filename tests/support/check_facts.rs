@@ -32,7 +32,8 @@ pub struct Facts<'a> {
     pub walked: Vec<bool>,
     /// Whether moves lead to more than what stands first.
     pub widened: Vec<bool>,
-    /// The round in which moves are found to end: 0 if there are none.
+    /// When moves are found to end: in turn 0 if there are none, in turn 1 by the pass that widens the
+    /// rows, from turn 2 on in the rounds.
     pub ends: Turns,
     /// Whether moves lead back.
     pub recursive: Vec<bool>,
@@ -333,19 +334,23 @@ fn all_moves(grammar: &Grammar, vanishes: &Turns) -> Rows {
     grammar.rules.iter().map(row).collect()
 }
 
-/// The round in which the moves from each nonterminal are found to end: all lead to itself, or to
-/// where a round before found them to end.
+/// The turn in which the moves from each nonterminal are found to end: all lead to where they were
+/// found to by then in the pass, from the last nonterminal to the first; in a round all lead to
+/// itself, or to where they were found to before the round.
 fn ends(moves: &Rows) -> Turns {
     let no_move = |row: &Vec<usize>| row.is_empty().then_some(0);
     let mut ends: Turns = moves.iter().map(no_move).collect();
-    for round in 1.. {
+    for turn in 1.. {
         let before = ends.clone();
-        for (a, row) in moves.iter().enumerate() {
-            if before[a].is_none() && row.iter().all(|&b| b == a || before[b].is_some()) {
-                ends[a] = Some(round);
+        let in_pass = turn == 1;
+        for a in (0..moves.len()).rev() {
+            let by_then = if in_pass { &ends } else { &before };
+            let ended = |&b: &usize| by_then[b].is_some() || !in_pass && b == a;
+            if ends[a].is_none() && moves[a].iter().all(ended) {
+                ends[a] = Some(turn);
             }
         }
-        if ends == before {
+        if !in_pass && ends == before {
             break;
         }
     }

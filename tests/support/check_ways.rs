@@ -382,22 +382,42 @@ impl Ways {
     }
 
     fn endings(&mut self) {
+        self.add("moves end in the pass", NOT_7, |it| {
+            !it.some_round() && last(&it.ends) == Some(1)
+        });
+        self.add("hidden moves end in the pass", NOT_7, |it| {
+            it.widened.contains(&true) && !it.some_round() && last(&it.ends) == Some(1)
+        });
+        for (who, at, count) in AT_ENDS {
+            let name = format!("only the moves of {who} end later than in the pass");
+            // The lowest comes last, when all others are known to end: it leads to itself.
+            let answers = if at == 0 { ONLY_7 } else { ANY };
+            self.add(name, answers, move |it| {
+                let late = |a: usize| it.ends[a] > Some(1);
+                it.count() == count && !it.some_round() && it.only(late) == Some(at)
+            });
+        }
         for rounds in [1, 2, 7, 8, 9, 10] {
-            self.add(format!("moves end after {rounds} rounds"), ANY, move |it| {
-                !it.some_round() && last(&it.ends) == Some(rounds)
+            self.add(format!("moves end in round {rounds}"), ANY, move |it| {
+                !it.some_round() && last(&it.ends) == Some(rounds + 1)
             });
         }
         for (name, few) in [("at most 8", true), ("more", false)] {
             let name = format!("hidden moves end after {name} rounds");
             self.add(name, ANY, move |it| {
                 let is_hidden = it.widened.contains(&true);
-                is_hidden && !it.some_round() && (last(&it.ends) <= Some(8)) == few
+                is_hidden && !it.some_round() && (last(&it.ends) <= Some(9)) == few
             });
         }
-        for (name, rounds) in [("0", 0..=0), ("1 to 7", 1..=7), ("8 or more", 8..=32)] {
-            let name = format!("moves lead round, others end after {name} rounds");
+        for (name, turns) in [
+            ("at once", 0..=0),
+            ("in the pass", 1..=1),
+            ("in round 1 to 7", 2..=8),
+            ("later", 9..=32),
+        ] {
+            let name = format!("moves lead round, others end {name}");
             self.add(name, ONLY_7, move |it| {
-                it.some_round() && rounds.contains(&last(&it.ends).unwrap_or(0))
+                it.some_round() && turns.contains(&last(&it.ends).unwrap_or(0))
             });
         }
     }
