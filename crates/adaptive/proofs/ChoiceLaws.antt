@@ -1,7 +1,7 @@
 -- What a chooser chooses that is guided by a predictor: where some alternative serves it is the lowest that does; its states only grow; and a choice that
 -- was made before is made again. The predictor's three laws alone are used.
 use mathlib.Core.Path.{_≡_, refl, sym, subst, ap, _∙_}
-use mathlib.Core.Logic.{_⊎_, inl, inr}
+use mathlib.Core.Logic.{inl, inr}
 use mathlib.Core.Bool.{Bool, true, false}
 use mathlib.Core.Option.{Option, some}
 use mathlib.Core.List.{List, _∷_}
@@ -18,7 +18,6 @@ use Rattle.derivation.specs.Machine.{Choice, choice, lowest, plainly}
 use Rattle.derivation.specs.Runs.{Serves}
 use Rattle.derivation.specs.inside.Choosers.{names, thence, Served, AnyState, KeepsKind, Repeats, Alike}
 use Rattle.derivation.proofs.LowestLaws.{lowest-serves, first-lt}
-use Rattle.lookahead.specs.Configs.{Decides}
 use Rattle.cache.specs.declared.prediction.Forecast.{Forecast}
 use Rattle.cache.specs.declared.prediction.Forecast.the-variants.{Alternative, Full}
 use Rattle.cache.specs.Predictor.{Predicted, predicted, Predicts, FullOr, Predictor}

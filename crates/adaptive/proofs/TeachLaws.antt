@@ -3,7 +3,7 @@
 use mathlib.Core.Path.{_≡_, refl, sym, subst}
 use mathlib.Core.Logic.{_↔_}
 use mathlib.Core.Option.{Option}
-use mathlib.Core.List.{List, [], _∷_}
+use mathlib.Core.List.{List}
 use Prim.Native.Nat.{ℕ, _≤_}
 use native.Mathlib.Omega.{arith}
 use lib.ListN.{length}
@@ -27,7 +27,7 @@ use Rattle.adaptive.specs.Proceeding.{Takes, only, foretold, lowest-serv
 use Rattle.adaptive.specs.Proceeding.{crammed, enters, stops, ReadsNote}
 use Rattle.adaptive.specs.Calls.{Call}
 use Rattle.adaptive.specs.Teaching.{Teaches, refused, read, TeachesAll, none, next}
-use Rattle.adaptive.specs.inside.Agreement.{taught, taughtAll}
+use Rattle.adaptive.specs.inside.Agreement.{taught}
 use Rattle.adaptive.proofs.ProceedLaws.{reading-left}
 use Rattle.adaptive.proofs.ProceedOne.{proceeds-one}
 use Rattle.adaptive.proofs.QuickLaws.{tokens-of}
@@ -70,11 +70,6 @@ module _ (r : Rules) (limits : Limited r) where
   teaches-iff c k d = (λ x. teaches-one x (teaches c k), λ e. subst (Teaches (compile r) c k) (sym e) (teaches c k))
 
   -- ---- a list of calls
-  pub teaches-all : (ks : List Call) (c : List ℕ) → TeachesAll (compile r) c ks (taughtAll (compile r) c ks)
-  unfolding taughtAll
-  teaches-all [] c = none
-  teaches-all (k ∷ ks) c = next (teaches c k) (teaches-all ks (taught (compile r) c k))
-
   pub teaches-all-one : {ks : List Call} {c d e : List ℕ} → TeachesAll (compile r) c ks d → TeachesAll (compile r) c ks e → d ≡ e
   teaches-all-one none none = refl
   teaches-all-one (next x xs) (next y ys) = let z = teaches-one x y in teaches-all-one xs (rw z ys)

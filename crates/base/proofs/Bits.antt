@@ -9,7 +9,7 @@ use native.Mathlib.Omega.{arith}
 use native.Mathlib.Decide.{decLt}
 use lib.Dec.{T, eqb, eqb→eq, eqb-refl}
 use lib.Bits.{bitOr, bitAnd, bitXor, differ, xor-shr, xor-step, or-shr, or-step, and-shr, and-step}
-use lib.Bits.{and-mask, or-add-and, xor-add-and, and-le-l, and-le-r, or-lt, or-zero-l}
+use lib.Bits.{and-mask, or-add-and, xor-add-and, and-le-l, and-le-r, or-zero-l}
 use lib.Count.{trailingZeros, under, leadingZeros, leading-top}
 use lib.Pow.{pow-pos, pow-lt, pow-mono, pow-add, shl-exact, shl-shr, shr-shr}
 use lib.Arith.{digits-mod}
@@ -123,14 +123,6 @@ test-high x k h l = rw (bit-high wordBits x k h l)
 -- joining only adds
 pub or-ge : (x y : ℕ) → x ≤ bitOr x y
 or-ge x y = omega (arith, or-add-and x y, and-le-r x y)
-
-pub set-ge : (x j : ℕ) → x ≤ setBit x j
-unfolding setBit
-set-ge x j = or-ge x (2 ^ j)
-
-pub set-fits : (x j : ℕ) → x < 2 ^ wordBits → j < wordBits → setBit x j < 2 ^ wordBits
-unfolding setBit
-set-fits x j h l = or-lt wordBits x (2 ^ j) h (pow-lt l)
 
 pub or-ge-r : (x y : ℕ) → y ≤ bitOr x y
 or-ge-r x y = omega (arith, or-add-and x y, and-le-l x y)

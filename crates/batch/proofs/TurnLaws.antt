@@ -6,7 +6,7 @@ use native.Mathlib.Nat.{suc-mul, zero-mul}
 use native.Mathlib.Numerals.{add-one}
 use native.Mathlib.Omega.{arith}
 use lib.ListN.{length, getD, set, take, drop, length-append, drop-of-length-le}
-use lib.Seq.{sets, sets-eq, take-all, take-at, drop-at, drop-drop, drop-cons, length-take-le}
+use lib.Seq.{sets, sets-eq, take-all, take-at, drop-drop, drop-cons, length-take-le}
 use borrow.Rule.Slice.PartMut.{putMid, same-len-mid, mid-len, drop-put}
 use Rattle.gate.specs.Reading.{readingNumber, readingPlace, readingCount}
 use Rattle.gate.specs.declared.reading.Reading.{Reading}

@@ -1,11 +1,10 @@
 -- What a word means, and where a prediction goes from there, over any words.
 use mathlib.Core.Path.{_≡_, refl, sym, ap, _∙_}
-use mathlib.Core.Bool.{false}
 use mathlib.Core.List.{List, [], _∷_}
 use Prim.Native.Nat.{ℕ, zero, suc, _-_, _≤_, _<_}
 use native.Mathlib.Omega.{arith}
 use native.Mathlib.Decide.{decLt}
-use lib.Dec.{ltb, leb}
+use lib.Dec.{ltb}
 use lib.ListN.{length}
 use borrow.Author.Tests.{lt-ltb, le-ltb, le-leb, lt-leb}
 use Rattle.base.proofs.Booleans.{and-none}
@@ -14,7 +13,7 @@ use Rattle.words.specs.Layout.{slots, fullWord, stateWord}
 use Rattle.cache.specs.declared.prediction.Forecast.the-variants.{Alternative, Full}
 use Rattle.cache.specs.Predictor.{predicted}
 use Rattle.cache.specs.Recording.{Learned, learned, askStep}
-use Rattle.cache.specs.Predict.{Meaning, chosen, undecided, at, meaning, meaningOf, predictFrom}
+use Rattle.cache.specs.Predict.{chosen, undecided, at, meaning, meaningOf, predictFrom}
 
 -- ---- words
 -- what tells no state and none of n alternatives says FULL

@@ -1,5 +1,5 @@
 -- Packed words say the configurations that they were packed from.
-use mathlib.Core.Path.{_≡_, refl, sym, ap, _∙_}
+use mathlib.Core.Path.{_≡_, refl, ap, _∙_}
 use mathlib.Core.List.{List, [], _∷_, List·Memᴰ·head, List·Memᴰ·tail}
 use Prim.Native.Nat.{ℕ, _+_, _*_, _/_, _%_, _<_}
 use native.Mathlib.Omega.{arith}
@@ -78,7 +78,3 @@ pub length-packAll : (ks : List Config) → length (packAll ks) ≡ configWords 
 unfolding packAll pack
 length-packAll [] = refl
 length-packAll (c ∷ ks) = let h = length-packAll ks in omega arith
-
--- no two lists of such configurations have the same words
-pub packAll-one : (ks ls : List Config) → Each Packable ks → Each Packable ls → packAll ks ≡ packAll ls → ks ≡ ls
-packAll-one ks ls h k e = sym (unpack-all ks h) ∙ ap unpackAll e ∙ unpack-all ls k

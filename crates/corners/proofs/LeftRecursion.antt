@@ -209,11 +209,6 @@ module _ (g : Grammar) (R : ℕ → ℕ → Bool) where
     rows-inside : (a : ℕ) → Inside a → (c : ℕ) → R a c ≡ reaches? g a c
     rows-inside a i c = same (R a c) (reaches? g a c) (λ t. reaches-iff g a c .1 (sound a c i t)) (λ t. rows-complete i (reaches-iff g a c .0 t))
 
-  pub rows-exact : ((a c : ℕ) → T (move? g a c) → T (R a c)) → ((a b c : ℕ) → T (R a b) → T (R b c) → T (R a c))
-      → ((a c : ℕ) → T (R a c) → Reaches (ofPlaces g) a c) → (a c : ℕ) → R a c ≡ reaches? g a c
-  rows-exact begun closed sound a c =
-      rows-inside (λ x. Unit {0}) (λ a c m. tt) (λ a c i k. begun a c) (λ a b c i j k. closed a b c) (λ a c i. sound a c) a tt c
-
   -- only rows and columns of the grammar's nonterminals are asked for, where every nonterminal that stands in a production is one of them
   pub rows-exact-below : ((a c : ℕ) → Move (ofPlaces g) a c → c < length (g .starts))
       → ((a c : ℕ) → a < length (g .starts) → c < length (g .starts) → T (move? g a c) → T (R a c))

@@ -10,7 +10,7 @@ use native.Mathlib.Omega.{arith}
 use lib.Dec.{T, eqb→eq, eqb-refl, leb, leb→le, le→leb}
 use lib.ListN.{length, getElem?}
 use Rattle.base.specs.Rounds.{rounds, anyOf}
-use Rattle.base.proofs.Booleans.{clash, and-T, T-and, same}
+use Rattle.base.proofs.Booleans.{clash, and-T, T-and}
 use Rattle.base.proofs.Lists.{Found, anyOf-T, T-anyOf, get-upFrom, upFrom-get, get-below}
 use Rattle.base.proofs.Fixpoint.{Within, settle}
 use Rattle.grammar.specs.declared.Symbol.{Symbol}
@@ -160,16 +160,6 @@ module _ (g : Grammar) (w : List ℕ) where
 
   pub derives-iff : (p i j : ℕ) → T (derives? g w p i j) ↔ DerivesBy g w p i j
   derives-iff p i j = (derives-sound, λ h. derives-complete (h .1))
-
-  -- ---- for the code: a set of cells that is sound, and to which a round adds nothing, is the table; also at some kept places alone
-  pub exact-on : (D : ℕ → Type 0) → Kept g D → (X : Cell → Bool)
-      → ((c : Cell) → D (c .place) → T (X c) → DerivesBy g w (c .place) (c .from) (c .upto))
-      → ((c : Cell) → D (c .place) → T (cellRound g w X c) → T (X c)) → (c : Cell) → D (c .place) → X c ≡ tableOf c
-  exact-on D kept X sound closed c o =
-      same (X c) (tableOf c) (λ t. derives-complete (sound c o t .1)) (λ t. complete-on D kept X closed o (derives-sound t .1))
-
-  pub cells-exact : (X : Cell → Bool) → SoundCells X → Within (cellRound g w X) X → (c : Cell) → X c ≡ tableOf c
-  cells-exact X sound closed c = exact-on (λ _. Unit {0}) all-kept X (λ c _. sound c) (λ c _. closed c) c tt
 
   -- ---- open stacks
   runs-sound : (S : List ℕ) (i : ℕ) → T (runs? g w S i) → Opens g w S i

@@ -13,7 +13,7 @@ use Rattle.grammar.proofs.OrderedLaws.{compile-ordered}
 use Rattle.grammar.proofs.PlaceLaws.{compile-within, compile-end-only, compile-nobody}
 use Rattle.closures.specs.Textbook.{LeftRecursive}
 use Rattle.derivation.specs.inside.Steps.{Steps, Quiet, Reads}
-use Rattle.derivation.proofs.Depth.{depth, reads-note, reads-marked}
+use Rattle.derivation.proofs.Depth.{depth, reads-marked}
 
 -- the end place calls nothing
 pub end-quiet : (g : Grammar) → Ordered g → Quiet g (endPlace ∷ [])
@@ -25,14 +25,6 @@ module _ (r : Rules) (limits : Limited r) where
   compile-reads w = reads-marked (compile r) w (compile-end-only r limits) (compile-nobody r limits)
 
   module _ (none : (a : ℕ) → ¬ LeftRecursive (ofPlaces (compile r)) a) where
-    -- the machine over a note alone
-    pub compiled-depth : (w : List ℕ) (a b f : ℕ) → first (compile r) a b ≡ some f → (p i : ℕ) (S : List ℕ)
-        → Steps (compile r) w (f ∷ endPlace ∷ []) 0 (p ∷ S) i → length S ≤ (suc (sizeAll (r .productions)) / 2) * suc (length w) + 1
-    compiled-depth w a b f d p i S x =
-        let ordered = compile-ordered r limits in
-        depth (compile r) ordered w (length w) (reads-note (compile r) w) (endPlace ∷ []) (end-quiet (compile r) ordered) none
-        (sizeAll (r .productions)) (compile-within r limits) a b f d p i S x
-
     -- and over a note with the end mark behind it: the mark is no position more
     pub marked-depth : (w : List ℕ) (a b f : ℕ) → first (compile r) a b ≡ some f → (p i : ℕ) (S : List ℕ)
         → Steps (compile r) (w ++ (endMark ∷ [])) (f ∷ endPlace ∷ []) 0 (p ∷ S) i

@@ -13,18 +13,16 @@ use native.Mathlib.Decide.{decLe}
 use lib.Dec.{T}
 use lib.ListN.{length, getElem?, length-map}
 use Rattle.base.proofs.Booleans.{clash}
-use Rattle.base.proofs.Lists.{get-below}
 use Rattle.grammar.specs.declared.Symbol.the-variants.{Token, Nonterminal}
 use Rattle.grammar.specs.Limits.{endPlace, endMark}
 use Rattle.grammar.specs.Grammar.{Grammar, facing, owner, admits, first, ofPlaces}
 use Rattle.grammar.specs.inside.Ordered.{Ordered}
-use Rattle.grammar.proofs.GrammarLaws.{first-below}
 use Rattle.closures.specs.Textbook.{LeftRecursive}
 use Rattle.derivation.specs.inside.Steps.{Steps, Quiet, Reads}
 use Rattle.base.specs.Lists.{Distinct}
 use Rattle.derivation.proofs.Pigeon.{pigeon}
-use Rattle.derivation.proofs.Entries.{known, Apart, apart-below, apart}
-use Rattle.derivation.specs.inside.Entries.{Entry, entry, Inside, Below, ground, wait}
+use Rattle.derivation.proofs.Entries.{known, Apart, apart}
+use Rattle.derivation.specs.inside.Entries.{Entry, Below, ground, wait}
 use Rattle.derivation.proofs.Entries.{open-start, open-steps}
 use Rattle.derivation.specs.inside.Entries.{Open, inside, quiet}
 
@@ -84,37 +82,6 @@ same-half g ordered p q d d′ h e e′ = go (decLe p q) (decLe q p)
     go (no l) _ = let z : p ≡ suc q = omega arith in ap (owner g) z ∙ ordered .call-on q d′ e′
 
 module _ {g : Grammar} (sound : (a : ℕ) → ¬ LeftRecursive (ofPlaces g) a) where
-  -- ---- with the topmost: at most N · (n + 1) entries in all, whatever the order of places
-  pub all-by-name : {G : List ℕ} {a e p i : ℕ} {S : List ℕ} {E : List Entry} (n : ℕ) → Inside g a e p i → Below g G S E a e → i ≤ n
-      → Apart (entry a e p ∷ E) × (suc (length E) ≤ length (g .starts) * suc n)
-  all-by-name {a = a} {e = e} {p = p} {i = i} {E = E} n x b l = (alone, few (byName n) (length (g .starts) * suc n) alone tells fits)
-    where
-      alone : Apart (entry a e p ∷ E)
-      alone = Apart.also (apart-below sound b) (apart sound b)
-
-      placed : (y : Entry) → (y ≡ entry a e p) ⊎ List·Memᴰ y E → (y .since ≤ n) × (y .who < length (g .starts))
-      placed y (inl q) = let u = x .forward in rw q (omega arith, first-below g a (x .alternative) (x .begins))
-      placed y (inr m) =
-          let u = x .forward in
-          let k = known b y m in
-          let v = k .earlier in
-          (omega arith, first-below g (y .who) (k .named .0) (k .named .2))
-
-      tells : Tells (byName n) (entry a e p ∷ E)
-      tells y z j k q =
-          let u = placed y (List·Memᴰ·cases-cons j) .0 in
-          let v = placed z (List·Memᴰ·cases-cons k) .0 in
-          pair-apart (suc n) (y .who) (y .since) (z .who) (z .since) (omega arith) (omega arith) q
-
-      fits : (y : Entry) → List·Memᴰ y (entry a e p ∷ E) → byName n y < length (g .starts) * suc n
-      fits y j = let u = placed y (List·Memᴰ·cases-cons j) in pair-below (length (g .starts)) n (y .who) (y .since) (u .1) (u .0)
-
-  -- so at most as many wait
-  pub few-by-name : {G : List ℕ} {c i : ℕ} {S : List ℕ} {E : List Entry} (n : ℕ) → Below g G S E c i → i ≤ n
-      → length E ≤ length (g .starts) * suc n
-  few-by-name n ground l = omega arith
-  few-by-name n (wait x f b) l = all-by-name n x b l .1
-
   -- ---- the topmost not counted: at most ⌈P / 2⌉ · (n + 1) entries wait, if nonterminals are faced at places below P only
   pub few-by-place : {G : List ℕ} {c i : ℕ} {S : List ℕ} {E : List Entry} (n P : ℕ) → Ordered g
       → ((p d : ℕ) → facing g p ≡ Nonterminal d → p < P)
@@ -159,9 +126,6 @@ pub depth : (g : Grammar) → Ordered g → (w : List ℕ) (n : ℕ) → Reads g
     → (p i : ℕ) (S : List ℕ) → Steps g w (f ∷ G) 0 (p ∷ S) i → length S ≤ (suc P / 2) * suc n + length G
 depth g ordered w n reads G silent sound P within a b f d p i S x =
     frames sound ordered P within (open-steps g ordered w n reads G silent (open-start g ordered w n reads G silent a b f d) x)
-
-pub reads-note : (g : Grammar) (w : List ℕ) → Reads g w (length w)
-reads-note g w a b f p k i t d o e h c = get-below w i h
 
 -- what stands in a marked note is a token of the note, or the mark
 pub marked-get : (v : List ℕ) (i t : ℕ) → getElem? (v ++ (endMark ∷ [])) i ≡ some t → (i < length v) ⊎ (t ≡ endMark)

@@ -1,16 +1,15 @@
 -- How many steps of the machine are enough, under any chooser: more change nothing. And what was accepted in some steps is accepted in more.
 use mathlib.Core.Path.{_≡_, refl, ap}
-use mathlib.Core.List.{List, [], _∷_}
+use mathlib.Core.List.{List, _∷_}
 use Prim.Native.Nat.{ℕ, zero, suc, pred, _+_, _-_, _*_, _≤_, _<_}
 use native.Mathlib.Omega.{arith}
 use lib.ListN.{length}
 use Rattle.base.proofs.Booleans.{clash}
 use Rattle.base.proofs.Lists.{get-below}
-use Rattle.grammar.specs.Limits.{endPlace}
 use Rattle.grammar.specs.Grammar.{Grammar}
-use Rattle.derivation.specs.Machine.{Chooser, accepted, Action, halt, move, pick, prefixed, followStep, run, runCall, step, onCall, reading}
+use Rattle.derivation.specs.Machine.{Chooser, accepted, Action, halt, move, pick, prefixed, followStep, run, runCall, step, onCall}
 use Rattle.derivation.specs.inside.Choosers.{names}
-use Rattle.derivation.proofs.MachineLaws.{Names, Called, no-room, unnamed, absent, taken, call-seen, prefix-accepted, Seen, ended}
+use Rattle.derivation.proofs.MachineLaws.{Names, prefix-accepted, Seen, ended}
 use Rattle.derivation.proofs.MachineLaws.{halted, crammed, popped, matched, picked, see}
 
 -- one for each open place, two for each alternative that there is room for, one for each token that is left
@@ -43,26 +42,6 @@ module _ {C : Type 0} (g : Grammar) (w : List ℕ) (choose : Chooser C) where
   run-more (suc k) (suc l) S i room c m n =
       let x = step g w choose c S i room in
       follow-more k l (run-more k) (names choose c) S i room (x .state) (x .step) (see g w choose c S i room) (omega arith) (omega arith)
-
-  call-follow : (k l : ℕ) (named : Names) (S : List ℕ) (a i room : ℕ) (c : C) (x : Action) → Called g named S a i room x
-      → enough w S i room ≤ k → enough w S i room ≤ l → followStep (run g w choose k) i room x c ≡ followStep (run g w choose l) i room x c
-  call-follow k l named S a i room c x no-room m n = refl
-  call-follow k l named S a i room c x (unnamed e) m n = refl
-  call-follow k l named S a i room c x (absent e d) m n = refl
-  call-follow k l named S a i room c x (taken {b = b} {f = f} {room = room₀} e d) m n =
-      ap (prefixed b) (run-more k l (f ∷ S) i room₀ c (omega arith) (omega arith))
-
-  pub call-more : (k l : ℕ) (S : List ℕ) (a i room : ℕ) (c : C) → enough w S i room ≤ k → enough w S i room ≤ l
-      → runCall g w choose k S a i room c ≡ runCall g w choose l S a i room c
-  unfolding runCall
-  call-more k l S a i room c m n =
-      let x = onCall g choose c S a i room in
-      call-follow k l (names choose c) S a i room (x .state) (x .step) (call-seen g choose c S a i room) m n
-
-  -- so the steps of a whole reading are enough
-  pub reading-more : (k room : ℕ) (c : C) → suc (2 * room + length w) ≤ k → reading g w choose room c ≡ runCall g w choose k (endPlace ∷ []) 0 0 room c
-  unfolding reading
-  reading-more k room c m = call-more (suc (2 * room + length w)) k (endPlace ∷ []) 0 0 room c (omega arith) (omega arith)
 
   -- what was accepted in fewer steps is accepted alike in more
   abbrev Longer : ℕ → Type 0

@@ -90,19 +90,6 @@ module _ {C : Type 0} (g : Grammar) (w : List ℕ) (choose : Chooser C) (k : ℕ
   unfolding runCall onCall onChoice
   call-pick room z d q = rw (z, d, q)
 
-module _ {C : Type 0} (g : Grammar) (w : List ℕ) (choose : Chooser C) (k p : ℕ) (S : List ℕ) (i room : ℕ) (c : C) {a : ℕ}
-    (e : facing g p ≡ Nonterminal a) where
-  pub run-full : room ≡ 0 → run g w choose (suc k) (p ∷ S) i room c ≡ ended full c
-  run-full z = run-calls g w choose k p S i room c e ∙ call-full g w choose k (suc p ∷ S) a i c room z
-
-  pub run-unserved : {r : ℕ} → room ≡ suc r → names choose c (suc p ∷ S) a i ≡ none
-      → run g w choose (suc k) (p ∷ S) i room c ≡ ended stuck (thence choose c (suc p ∷ S) a i)
-  run-unserved z d = run-calls g w choose k p S i room c e ∙ call-unserved g w choose k (suc p ∷ S) a i c room z d
-
-  pub run-pick : {b f r : ℕ} → room ≡ suc r → names choose c (suc p ∷ S) a i ≡ some b → first g a b ≡ some f
-      → run g w choose (suc k) (p ∷ S) i room c ≡ prefixed b (run g w choose k (f ∷ suc p ∷ S) i r (thence choose c (suc p ∷ S) a i))
-  run-pick z d q = run-calls g w choose k p S i room c e ∙ call-pick g w choose k (suc p ∷ S) a i c room z d q
-
 pub run-nothing : {C : Type 0} (g : Grammar) (w : List ℕ) (choose : Chooser C) (k i room : ℕ) (c : C) → i ≡ length w
     → run g w choose (suc k) [] i room c ≡ ended (accepted []) c
 unfolding run step

@@ -11,7 +11,7 @@ use native.Mathlib.Decide.{decLe, decLt}
 use lib.Dec.{T, leb, ltb, leb→le, le→leb}
 use lib.ListN.{length, length-append}
 use Rattle.base.specs.Rounds.{rounds}
-use Rattle.base.proofs.Booleans.{clash, and-T, T-and, same}
+use Rattle.base.proofs.Booleans.{clash, and-T, T-and}
 use Rattle.base.proofs.Fixpoint.{Within, settle}
 use Rattle.grammar.specs.declared.Symbol.the-variants.{End}
 use Rattle.grammar.specs.Grammar.{Grammar, facing}
@@ -130,10 +130,3 @@ module _ (g : Grammar) (w : List ℕ) where
   pub reach-iff : (p i : ℕ) → T (reach? g w p i) ↔ Reach g w p i
   unfolding reach?
   reach-iff p i = (steps-add held (rounds-sound (suc (pointCount g w))) (point p i), closed-reach held held-closed)
-
-  -- ---- for the code: a set of points that is sound, and to which a round adds nothing, is right on every place
-  pub reach-exact : (X : Point → Bool) → SoundPoints X → Within (reachRound g w X) X → (p i : ℕ) → p < length (g .places) → X (point p i)
-      ≡ reach? g w p i
-  reach-exact X sound closed p i l =
-      same (X (point p i)) (reach? g w p i) (λ t. reach-iff p i .1 (sound (point p i) t))
-      (λ t. let x = reach-iff p i .0 t in closed (point p i) (round-in X (point p i) l (reach-in x) (closed-reach X closed x)))

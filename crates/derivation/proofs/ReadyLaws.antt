@@ -72,10 +72,6 @@ module _ (s : List ℕ) {v : Verdict} {t : List ℕ} (c : Compiled s v t) where
       let j = sound-judged e in
       sound-passes s (j .rules) (j .mark) (j .decoded) (sym (c .verdict) ∙ e) ∙ ap passed (sym (j .says))
 
-  pub compiled-gate-refuses : (w : List ℕ) (space : ℕ) {r : Refusal} → v ≡ Refused r → gate s w space ≡ shutBy r
-  unfolding gate
-  compiled-gate-refuses w space e = rw (compiled-refuses e)
-
   pub compiled-gate : (w : List ℕ) (space : ℕ) → v ≡ Sound → gate s w space ≡ noteGate (grammarIn t) w space
   unfolding gate
   compiled-gate w space e = rw (compiled-passes e)

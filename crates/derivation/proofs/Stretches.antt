@@ -52,9 +52,6 @@ take-slice w i j h = rw (← take-take i j w h) (take-append-drop i (take j w))
 abbrev pub Alike : List ℕ → List ℕ → ℕ → Type 0
 Alike w w′ k = (n : ℕ) → n < k → getElem? w n ≡ getElem? w′ n
 
-pub same-alike : (w w′ : List ℕ) (k : ℕ) → take k w ≡ take k w′ → Alike w w′ k
-same-alike w w′ k e n l = sym (get-take k n w l) ∙ (ap (λ (l : List ℕ). getElem? l n) e ∙ get-take k n w′ l)
-
 pub alike-take : (w v : List ℕ) (k : ℕ) → k ≤ length w → Alike (take k w ++ v) w k
 alike-take w v k h n l = get-append (take k w) v n (omega (arith, length-take-le k w h)) ∙ get-take k n w l
 

@@ -126,10 +126,6 @@ module _ {g : Syntax} where
       ∙ take-append-drop k (take m w) in
       viable-front (take k w) (drop k (take m w)) (rw e h)
 
-  -- the beginnings of a sentence begin a sentence
-  pub sentence-viable : (w : List ℕ) (k : ℕ) → Sentence g w → Viable g (take k w)
-  sentence-viable w k (r, x) = (drop k w, (r, rw (take-append-drop k w) x))
-
   wrong-most : {w : List ℕ} {k m : ℕ} → WrongAt g w k → WrongAt g w m → ¬ (k < m)
   wrong-most {w} {k} {m} x y l = let n = y .inside in x .ends (omega arith) (viable-shorter w (suc k) m l (y .begins))
 
@@ -141,19 +137,3 @@ module _ {g : Syntax} where
       go (yes l) b = absurd (wrong-most x y l)
       go (no l) (yes h) = absurd (wrong-most y x h)
       go (no l) (no h) = omega arith
-
-  -- another note that begins alike up to n goes wrong at the same position, if that is before n
-  pub wrong-alike : {w w′ : List ℕ} {k n : ℕ} → k < n → n ≤ length w → n ≤ length w′ → take n w ≡ take n w′ → WrongAt g w k
-      → WrongAt g w′ k
-  wrong-alike {w} {w′} {k} {n} l b b′ e x = record {
-    no-sentence = λ s. never (sentence-viable w′ (suc k) s);
-    inside = omega arith;
-    begins = rw (shorter k (omega arith)) at (x .begins);
-    ends = λ h s. never s;
-  }
-    where
-      shorter : (m : ℕ) → m ≤ n → take m w ≡ take m w′
-      shorter m h = sym (take-take m n w h) ∙ (ap (λ (u : List ℕ). take m u) e ∙ take-take m n w′ h)
-
-      never : ¬ Viable g (take (suc k) w′)
-      never s = x .ends (omega arith) (rw (shorter (suc k) l) s)

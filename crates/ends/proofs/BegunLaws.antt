@@ -19,7 +19,7 @@ use Rattle.cells.specs.inside.Chart.{spot}
 use Rattle.cells.specs.inside.Matches.{matchesAt}
 use Rattle.cells.specs.inside.Through.{throughOf, Through}
 use Rattle.cells.proofs.Spots.{cell-member}
-use Rattle.ends.specs.inside.Ends.{endHas, leadBy, lead}
+use Rattle.ends.specs.inside.Ends.{endHas, leadBy}
 use Rattle.ends.specs.inside.Row.{cellsIn, leadsTo, LedTo}
 use Rattle.ends.proofs.LeadLaws.{lead-place}
 use Rattle.ends.proofs.PlaceLaws.{eqb-comm, by-end, by-other, by-token, by-call, end-member, end-through}

@@ -21,7 +21,7 @@ use Rattle.positions.specs.inside.Words.{memberAt, putAt}
 use Rattle.positions.proofs.WordLaws.{put-same, put-other}
 use Rattle.derivation.proofs.ReadyLaws.{ready-kept}
 use Rattle.cells.specs.inside.Chart.{ChartedFrom}
-use Rattle.ends.specs.inside.Ends.{endWords, endHas, lead, endsAt, SoundEnds, RightEnds}
+use Rattle.ends.specs.inside.Ends.{endWords, endHas, endsAt, SoundEnds, RightEnds}
 use Rattle.ends.specs.inside.Row.{Row, cellsIn, leadsTo, offers}
 use Rattle.ends.specs.inside.Judged.{ClosedAt, Looked}
 use Rattle.ends.proofs.LeadLaws.{Known, lead-sound, ends-in, ends-exact}

@@ -11,7 +11,7 @@ use Rattle.base.specs.Rounds.{anyOf}
 use Rattle.base.proofs.Bits.{same?}
 use Rattle.base.proofs.Booleans.{same, clash}
 use Rattle.lookahead.specs.Configs.{Config, In}
-use Rattle.lookahead.specs.Order.{stackKey, key, Packable}
+use Rattle.lookahead.specs.Order.{stackKey, Packable}
 use Rattle.lookahead.specs.Outcomes.{conflicts}
 use Rattle.lookahead.proofs.KeyLaws.{key-stack}
 use Rattle.lookahead.proofs.ListLaws.{get-in}

@@ -16,7 +16,6 @@ use Rattle.soundness.specs.Check.{checkOf}
 use Rattle.soundness.specs.inside.Compiled.{Compiled}
 use Rattle.soundness.proofs.CheckLaws.{check-refuses}
 use Rattle.measuring.specs.declared.answer.Sizes.{Sizes}
-use Rattle.measuring.specs.declared.answer.Measure.{Measure}
 use Rattle.measuring.specs.declared.answer.Measure.the-variants.{Measured, Refused}
 use Rattle.measuring.specs.Measuring.{sizesOf, measureOf}
 

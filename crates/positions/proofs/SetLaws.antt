@@ -2,18 +2,18 @@
 use mathlib.Core.Path.{_≡_, refl, sym, ap, _∙_}
 use mathlib.Core.Logic.{_⊎_, inl, inr, ⊎-elim}
 use mathlib.Core.Bool.{true, false, false≢true, _||_, not}
-use mathlib.Core.List.{List, [], _∷_}
+use mathlib.Core.List.{List}
 use Prim.Native.Nat.{ℕ, zero, suc, _+_, _-_, _*_, _/_, _%_, _^_, _≤_, _<_}
 use native.Mathlib.Omega.{arith}
 use native.Mathlib.Decide.{decLt}
-use lib.ListN.{length, getD, set, length-set}
+use lib.ListN.{length, getD, length-set}
 use lib.Seq.{getD-set-same, getD-set-other}
-use lib.Bits.{bitOr, bitXor, and-le-l, or-lt}
+use lib.Bits.{bitOr, bitXor, and-le-l}
 use lib.Count.{trailingZeros}
 use lib.Dec.{T, eqb, ltb}
 use borrow.Author.Tests.{ne-eqb, eqb-false, not-true, not-false, ltb-true, lt-ltb}
 use Rattle.base.specs.Bits.{wordBits, testBit}
-use Rattle.base.proofs.Bits.{same?, eqb-iff, test-or, test-and, test-set, test-none, test-high, or-ge, or-ge-r, or-pos, set-fits, trailing-found}
+use Rattle.base.proofs.Bits.{same?, eqb-iff, test-or, test-and, test-set, test-none, test-high, or-ge, or-ge-r, or-pos, trailing-found}
 use Rattle.base.proofs.Bits.{test-opposite}
 use Rattle.base.proofs.Booleans.{T→true, true→T, and-T, T-and, or-none}
 use Rattle.positions.specs.inside.Positions.{positionCount, setWords, emptySet, member, withOf, unionOf, meetsOf, allWords, common, oppositeOf}
@@ -169,30 +169,6 @@ module _ (a b : List ℕ) where
       let u : T (testBit (common a b i) k) = rw test-and (T-and (member a j) (member b j) s t) in
       let n : common a b i ≡ 0 → ⊥ = λ z. absurd (rw (z, test-none k) at u) in
       rw (ne-eqb (allWords (common a b)) 0 (λ z. n (omega (arith, word-le (common a b) i (omega arith))))) tt
-
--- ---- the words of sets have wordBits bits
-pub fit-empty : Fit emptySet
-fit-empty k = omega (arith, empty-word k)
-
-pub fit-store : (s : List ℕ) (i v : ℕ) → v < 2 ^ wordBits → Fit s → Fit (set s i v)
-fit-store [] i v l h k = h k
-fit-store (x ∷ s) zero v l h zero = l
-fit-store (x ∷ s) zero v l h (suc k) = h (suc k)
-fit-store (x ∷ s) (suc i) v l h zero = h 0
-fit-store (x ∷ s) (suc i) v l h (suc k) = fit-store s i v l (λ k. h (suc k)) k
-
-pub fit-with : (s : List ℕ) (j : ℕ) → Fit s → Fit (withOf s j)
-unfolding withOf
-fit-with s j h = fit-store s (j / wordBits) _ (set-fits _ _ (h (j / wordBits)) (omega arith)) h
-
-pub fit-union : (a b : List ℕ) → Fit a → Fit b → Fit (unionOf a b)
-unfolding unionOf
-fit-union a b f g zero = or-lt wordBits _ _ (f 0) (g 0)
-fit-union a b f g (suc zero) = or-lt wordBits _ _ (f 1) (g 1)
-fit-union a b f g (suc (suc zero)) = or-lt wordBits _ _ (f 2) (g 2)
-fit-union a b f g (suc (suc (suc zero))) = or-lt wordBits _ _ (f 3) (g 3)
-fit-union a b f g (suc (suc (suc (suc zero)))) = or-lt wordBits _ _ (f 4) (g 4)
-fit-union a b f g (suc (suc (suc (suc (suc k))))) = omega arith
 
 -- ---- what a set does not hold
 opposite-word : (s : List ℕ) (i : ℕ) → i < setWords → getD (oppositeOf s) i 0 ≡ bitXor (getD s i 0) (2 ^ wordBits - 1)

@@ -1,7 +1,7 @@
 -- Laws of sets of positions in a list of words: what a set that is put or joined changes, and that the sum of the words grows with a join.
-use mathlib.Core.Path.{_≡_, refl, _∙_, ap}
+use mathlib.Core.Path.{_≡_, refl, _∙_}
 use mathlib.Core.Logic.{_⊎_, inl, inr, ⊎-elim}
-use mathlib.Core.Bool.{Bool, true, false, _||_}
+use mathlib.Core.Bool.{Bool, _||_}
 use mathlib.Core.List.{List, [], _∷_}
 use Prim.Native.Nat.{ℕ, zero, suc, _+_, _*_, _/_, _^_, _≤_, _<_}
 use native.Mathlib.Omega.{arith}
@@ -10,7 +10,7 @@ use lib.Seq.{sets, length-sets, getD-set-same, getD-set-other}
 use Rattle.base.specs.Bits.{wordBits}
 use Rattle.positions.specs.inside.Positions.{positionCount, setWords, five, member, unionOf}
 use Rattle.positions.specs.inside.Words.{memberAt, setAt, putAt, total, Joined}
-use Rattle.positions.proofs.SetLaws.{Fit, fit-store, member-union}
+use Rattle.positions.proofs.SetLaws.{Fit, member-union}
 
 -- ---- words that are written
 sets-out : (ws : List ℕ) (at : ℕ) (vs : List ℕ) (k : ℕ) → (k < at) ⊎ (at + length vs ≤ k) → getD (sets ws at vs) k 0 ≡ getD ws k 0
@@ -38,10 +38,6 @@ set-word ws at (suc (suc zero)) h = refl
 set-word ws at (suc (suc (suc zero))) h = refl
 set-word ws at (suc (suc (suc (suc zero)))) h = refl
 set-word ws at (suc (suc (suc (suc (suc i))))) h = absurd (omega arith)
-
-pub length-at : (ws : List ℕ) (at : ℕ) → length (setAt ws at) ≡ 5
-unfolding setAt
-length-at ws at = refl
 
 pub member-set : (ws : List ℕ) (at j : ℕ) → j < positionCount → member (setAt ws at) j ≡ memberAt ws at j
 unfolding member memberAt
@@ -75,10 +71,6 @@ unfolding memberAt
 put-other ws at at′ s j l h = rw (put-word ws at (at′ + j / wordBits) s (⊎-elim (λ b. inl (omega arith)) (λ b. inr (omega arith)) h))
 
 -- ---- words of wordBits bits stay such
-fit-sets : (ws : List ℕ) (at : ℕ) (vs : List ℕ) → Fit ws → Fit vs → Fit (sets ws at vs)
-fit-sets ws at [] f g = f
-fit-sets ws at (v ∷ vs) f g = fit-sets (set ws at v) (suc at) vs (fit-store ws at v (g 0) f) (λ k. g (suc k))
-
 pub fit-at : (ws : List ℕ) (at : ℕ) → Fit ws → Fit (setAt ws at)
 unfolding setAt
 fit-at ws at f zero = f at
@@ -88,18 +80,6 @@ fit-at ws at f (suc (suc (suc zero))) = f (at + 3)
 fit-at ws at f (suc (suc (suc (suc zero)))) = f (at + 4)
 fit-at ws at f (suc (suc (suc (suc (suc k))))) = omega arith
 
-pub fit-put : (ws : List ℕ) (at : ℕ) (s : List ℕ) → Fit ws → Fit s → Fit (putAt ws at s)
-unfolding putAt
-fit-put ws at s f g = fit-sets ws at (five s) f five-fit
-  where
-    five-fit : Fit (five s)
-    five-fit zero = g 0
-    five-fit (suc zero) = g 1
-    five-fit (suc (suc zero)) = g 2
-    five-fit (suc (suc (suc zero))) = g 3
-    five-fit (suc (suc (suc (suc zero)))) = g 4
-    five-fit (suc (suc (suc (suc (suc k))))) = omega arith
-
 -- ---- sums
 pub total-le : (ws : List ℕ) → ((k : ℕ) → getD ws k 0 < 2 ^ wordBits) → total ws ≤ length ws * 2 ^ wordBits
 unfolding total
@@ -108,20 +88,6 @@ total-le (x ∷ ws) h = omega (arith, h 0, total-le ws (λ k. h (suc k)))
 
 -- ---- a set that is joined to another
 module _ {r : Bool} {ws after : List ℕ} {at : ℕ} {s : List ℕ} (h : Joined r ws after at s) where
-  pub joined-length : length after ≡ length ws
-  joined-length = rw (h .words) (length-put ws at _)
-
-  pub joined-word : (k : ℕ) → (k < at) ⊎ (at + setWords ≤ k) → getD after k 0 ≡ getD ws k 0
-  joined-word k l = rw (h .words) (put-word ws at k _ l)
-
-  -- whether anything changed or not, the sum is no less
-  pub joined-total : total ws ≤ total after
-  joined-total = go r refl
-    where
-      go : (b : Bool) → r ≡ b → total ws ≤ total after
-      go true e = omega (arith, h .grown e)
-      go false e = omega (arith, ap total (h .same e))
-
   pub joined-other : (at′ j : ℕ) → j < positionCount → (at′ + setWords ≤ at) ⊎ (at + setWords ≤ at′) → memberAt after at′ j
       ≡ memberAt ws at′ j
   joined-other at′ j l d = rw (h .words) (put-other ws at at′ _ j l d)

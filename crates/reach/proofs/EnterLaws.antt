@@ -3,11 +3,11 @@ use mathlib.Core.Path.{_≡_, sym, ap, _∙_}
 use mathlib.Core.Logic.{_⊎_, inl, inr}
 use mathlib.Core.Bool.{Bool, true, false, _||_}
 use mathlib.Core.Option.{some}
-use mathlib.Core.List.{List, [], _∷_}
+use mathlib.Core.List.{List}
 use Prim.Native.Nat.{ℕ, zero, suc, _+_, _-_, _≤_, _<_}
 use native.Mathlib.Omega.{arith}
 use native.Mathlib.Decide.{decLt}
-use lib.ListN.{length, getD, getElem?}
+use lib.ListN.{length, getD}
 use Rattle.base.proofs.Booleans.{clash}
 use Rattle.base.proofs.Lists.{slice-from}
 use Rattle.grammar.specs.Limits.{maxPlaces}
@@ -21,12 +21,6 @@ use Rattle.derivation.proofs.FirstLaws.{rule-within, rules-are, first-at, first
 use Rattle.reach.specs.inside.Sets.{Added, PointOf}
 use Rattle.reach.specs.inside.Passes.{Opening}
 use Rattle.reach.proofs.AddLaws.{added-as, none-added, both-added, or-first, or-second}
-
--- ---- elements of a list by their numbers
-pub get-is : (l : List ℕ) (n : ℕ) {x : ℕ} → getElem? l n ≡ some x → x ≡ getD l n 0
-get-is [] n e = clash (cc)
-get-is (y ∷ l) zero e = cc
-get-is (y ∷ l) (suc n) e = get-is l n e
 
 -- ---- the productions of nonterminal a
 module _ (t : List ℕ) (ready : Ready t) (a : ℕ) {s e : ℕ} (l : a < nonterminalsIn t) (ps : s ≡ ruleAt t a) (pe : e ≡ ruleAt t (a + 1)) where

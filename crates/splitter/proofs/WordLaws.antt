@@ -136,15 +136,3 @@ pub kind-most : (k : ℕ) (ws : List (List ℕ)) (u : List ℕ) → 1 < k → ki
 unfolding kindFrom
 kind-most k [] u h = omega arith
 kind-most k (w ∷ ws) u h = most-step k w ws u (sameBytes? w u) refl (kind-most (suc k) ws u (omega arith))
-
-some-step : (k : ℕ) (w : List ℕ) (ws : List (List ℕ)) (u : List ℕ) (x : Bool) → sameBytes? w u ≡ x → 0 < k → 0 < kindFrom (suc k) ws u
-    → 0 < kindFrom k (w ∷ ws) u
-unfolding kindFrom
-some-step k w ws u true e h r = rw (e, kindFrom) h
-some-step k w ws u false e h r = rw (e, kindFrom) r
-
--- no kind is 0
-pub kind-some : (k : ℕ) (ws : List (List ℕ)) (u : List ℕ) → 0 < k → 0 < kindFrom k ws u
-unfolding kindFrom
-kind-some k [] u h = omega arith
-kind-some k (w ∷ ws) u h = some-step k w ws u (sameBytes? w u) refl h (kind-some (suc k) ws u (omega arith))

@@ -1,5 +1,5 @@
 -- What a beginning that answers 0 means: the bytes are a sound grammar, the cache is long enough, and its words have begun.
-use mathlib.Core.Path.{_≡_, refl, sym, ap, _∙_}
+use mathlib.Core.Path.{_≡_, refl}
 use mathlib.Core.Bool.{Bool, true, false, cond}
 use mathlib.Core.List.{List}
 use Prim.Native.Nat.{ℕ, _≤_}

@@ -1,7 +1,7 @@
 -- `chart::write_row` meets its contract: each cell follows from the one of the place behind it, which is written before; no cell of a later position and
 -- nothing behind the cells is changed.
 use mathlib.Core.Path.{_≡_, refl}
-use Prim.Native.Nat.{_-_, _≤_}
+use Prim.Native.Nat.{_≤_}
 use native.Mathlib.Omega.{arith}
 use lib.ListN.{length}
 use borrow.Author.Needs.{needs}

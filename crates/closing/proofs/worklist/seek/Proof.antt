@@ -1,6 +1,6 @@
 -- `closing::worklist::seek` meets its contract: up to q nothing is found, and nothing is passed over from within a block.
 use borrow.Author.Needs.{needs}
-use mathlib.Core.Path.{refl, _∙_}
+use mathlib.Core.Path.{refl}
 use Prim.Native.Nat.{_-_}
 use native.Mathlib.Omega.{arith}
 use Rattle.grammar.specs.inside.Tables.{grammarIn}

@@ -1,7 +1,7 @@
 -- `configurations::members::among` meets its contract: members from k on are left to compare, and they have c exactly if all have it; one with another
 -- head is another configuration.
 use borrow.Author.Needs.{needs}
-use mathlib.Core.Path.{_≡_, refl, sym, _∙_, ap}
+use mathlib.Core.Path.{_≡_, refl}
 use Prim.Native.Nat.{_-_, _≤_}
 use native.Mathlib.Omega.{arith}
 use Rattle.lookahead.specs.Closing.{member?}

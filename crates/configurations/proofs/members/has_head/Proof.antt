@@ -1,5 +1,4 @@
 -- `configurations::members::has_head` meets its contract: whoever has another head is another configuration.
-use borrow.Author.Needs.{needs}
 use native.Mathlib.Omega.{arith}
 use Rattle.base.proofs.Booleans.{clash}
 use Rattle.configurations.proofs.SearchLaws.{part-has, block-none}

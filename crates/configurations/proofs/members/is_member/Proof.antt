@@ -1,6 +1,6 @@
 -- `configurations::members::is_member` meets its contract: members from k on are left to compare, and they have c exactly if all have it.
 use borrow.Author.Needs.{needs}
-use mathlib.Core.Path.{_≡_, refl, sym, ap, _∙_}
+use mathlib.Core.Path.{_≡_, ap}
 use Prim.Native.Nat.{_-_, _≤_}
 use native.Mathlib.Omega.{arith}
 use Rattle.lookahead.specs.Closing.{member?}
