@@ -59,13 +59,11 @@ module _ (t : List ℕ) (fits : TablesFit t) where
 
   -- whose production it is, as the code tells
   module _ (k f : ℕ) (l : firstsAt ≤ k) (m : k < ruleAt t (nonterminalsIn t)) (q : f ≡ getD t k 0) {x : Place} (e : x ≡ placeAt (grammarIn t) f) where
-    pub owner-below : x .owner % maxNonterminals < nonterminalsIn t
-    owner-below =
-        let o : owner (grammarIn t) f < nonterminalsIn t = rw q (word-owner k l m) in omega (arith, owner-of (grammarIn t) f e, fits .few)
-
-    pub owner-told : owner (grammarIn t) f ≡ x .owner % maxNonterminals
+    pub owner-told : (owner (grammarIn t) f ≡ x .owner % maxNonterminals) × (x .owner % maxNonterminals < nonterminalsIn t)
     owner-told =
-        let o : owner (grammarIn t) f < nonterminalsIn t = rw q (word-owner k l m) in omega (arith, owner-of (grammarIn t) f e, fits .few)
+        let o : owner (grammarIn t) f < nonterminalsIn t = rw q (word-owner k l m) in
+        let y = owner-of (grammarIn t) f e in
+        (omega (arith, fits .few), omega (arith, fits .few))
 
   -- all productions of a nonterminal are met, and no others are taken for its own
   module _ (a : ℕ) (s : Symbol) where

@@ -6,7 +6,7 @@ use Prim.Native.Nat.{_≤_, _-_}
 use native.Mathlib.Omega.{arith}
 use Rattle.grammar.specs.inside.Tables.{firstsAt}
 use Rattle.grammar.proofs.WordLaws.{faces-end, faces-token, faces-nonterminal}
-use Rattle.corners.proofs.RuleLaws.{rules-begin, rules-within, owner-below, owner-told}
+use Rattle.corners.proofs.RuleLaws.{rules-begin, rules-within, owner-told}
 use Rattle.corners.proofs.FirstLaws.{Looked, looked-none, looked-token, looked-end, looked-nonterminal, looked-all}
 use Rattle.corners.proofs.firsts.all_firsts.Statement.{statement}
 use Rattle.corners.proofs.firsts.all_firsts.Tie as tie
@@ -66,7 +66,9 @@ loop-again c =
     let at-nonterminals = at-rule-at .before in
     let at-entry = at-nonterminals .before .before .before in
     let end = rw (at-nonterminals .nonterminals .ensures) at (at-rule-at .rule-at .ensures) in
-    let told = owner-told _ (at-entry .pre .0) _ _ (at-loop .loop .inv .0) (omega (arith, end)) (at-first-place .first-place .ensures) (at-place-at .place-at .ensures) in (
+    let (told, below) =
+    owner-told _ (at-entry .pre .0) _ _ (at-loop .loop .inv .0) (omega (arith, end)) (at-first-place .first-place .ensures)
+    (at-place-at .place-at .ensures) in (
       omega arith,
       omega arith,
       looked-end _ _ _ _ _ (at-loop .loop .inv .2) _ _ (at-loop .loop .inv .0) (at-first-place .first-place .ensures) told
@@ -116,10 +118,9 @@ loop-again-2 c =
     let at-nonterminals = at-rule-at .before in
     let at-entry = at-nonterminals .before .before .before in
     let end = rw (at-nonterminals .nonterminals .ensures) at (at-rule-at .rule-at .ensures) in
-    let told =
-    owner-told _ (at-entry .pre .0) _ _ (at-loop .loop .inv .0) (omega (arith, end)) (at-first-place .first-place .ensures) (at-place-at .place-at .ensures) in
-    let below =
-    owner-below _ (at-entry .pre .0) _ _ (at-loop .loop .inv .0) (omega (arith, end)) (at-first-place .first-place .ensures) (at-place-at .place-at .ensures) in (
+    let (told, below) =
+    owner-told _ (at-entry .pre .0) _ _ (at-loop .loop .inv .0) (omega (arith, end)) (at-first-place .first-place .ensures)
+    (at-place-at .place-at .ensures) in (
       omega arith,
       omega arith,
       looked-nonterminal _ _ _ _ _ (at-loop .loop .inv .2) _ _ (at-loop .loop .inv .0) (at-first-place .first-place .ensures) told below (omega arith)
