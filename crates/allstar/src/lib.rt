@@ -48,6 +48,8 @@
 //
 // A note of so many tokens by a grammar of so many places takes SPACE_WORDS + SPACE_WORDS_EACH * places * (tokens + 1) words of workspace; a cache of so
 // many slots has FIXED_WORDS + SLOT_WORDS * slots words, at least MIN_WORDS, and no more than MAX_SLOTS slots are used.
+#![tactic(auto)]
+
 pub use audit::{Audit, audit};
 pub use batch::{Batch, MAX_NOTES, batch};
 pub use cache::{Beginning, begin};

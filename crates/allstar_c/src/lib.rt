@@ -1,4 +1,6 @@
 // The library's calls for C and Rust: thin, with numbers and slices alone.
+#![tactic(auto)]
+
 ghost use Rattle.std.specs.Prelude.{length, ◌≡◌};
 ghost use Rattle.soundness.specs.Check.{CheckDid};
 ghost use Rattle.words.specs.Begin.{BeginDid};

@@ -5,7 +5,7 @@ ghost use Rattle.audit.specs.Contract.{audit_number, audit_place};
 use number::Refusal;
 
 // What an audit answers.
-#[derive(Drop)]
+#[derive(Clone, Copy)]
 pub enum Audit {
     // The words are coherent: over this cache quick readings by this grammar answer as plain ones do.
     Yes,

@@ -1,4 +1,6 @@
 // An audit for caches that another program wrote.
+#![tactic(auto)]
+
 mod answer;
 mod judging;
 

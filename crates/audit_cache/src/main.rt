@@ -1,6 +1,8 @@
 // Reads a grammar and a cache on standard input and prints `yes` if quick readings by the grammar may be trusted over the cache, or `no`, the refusal's number
 // and the place. The input is the number of grammar bytes as four bytes, the lowest first; the grammar; and the cache's words, four bytes each, the lowest
 // first.
+#![tactic(auto)]
+
 ghost use Rattle.std.specs.Prelude.{◌≤◌, length};
 
 use allstar::Audit;

@@ -1,5 +1,7 @@
 // Casts, single bits of a word and words as sets, each a tiny function whose contract is arithmetic: no proof above this crate sees a shift or a mask. And
 // the zeros behind what is written into a row.
+#![tactic(auto)]
+
 ghost use Rattle.std.specs.Prelude.{◌≡◌, true, ◌++◌, ◌-◌, ◌^◌, ◌≤◌, ◌<◌, length, take, replicate};
 ghost use Rattle.std.specs.Int.Bits.{bit_xor};
 ghost use Rattle.base.specs.Bits.{word_bits, test_bit, set_bit, is_subset, HighestIs};

@@ -5,7 +5,7 @@ ghost use Rattle.batch.specs.Contract.{batch_number, batch_place};
 use number::Refusal;
 
 // What a batch answers.
-#[derive(Drop)]
+#[derive(Clone, Copy)]
 pub enum Batch {
     // Every note has its answers.
     Read,

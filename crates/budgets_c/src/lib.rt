@@ -1,4 +1,6 @@
 // The readings with a bound on what ends on demand may spend, as calls for the tests: whatever it is, the contracts are those of the library's calls.
+#![tactic(auto)]
+
 ghost use Rattle.std.specs.Prelude.{length};
 ghost use Rattle.plain.specs.Contract.{PlainDid};
 ghost use Rattle.quick.specs.Contract.{QuickDid};

@@ -1,4 +1,6 @@
 // The lookahead cache: what is looked up and recorded in it, and what it predicts. How its words begin is `words`.
+#![tactic(auto)]
+
 mod asking;
 mod following;
 mod prediction;

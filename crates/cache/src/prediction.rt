@@ -13,14 +13,14 @@ ghost use Rattle.cache.specs.Predict.{predict};
 use words::layout::{FULL, STATES};
 
 // One of the nonterminal's alternatives, or FULL: lookahead does not tell.
-#[derive(Drop)]
+#[derive(Clone, Copy)]
 pub enum Forecast {
     Alternative(usize),
     Full,
 }
 
 // What a prediction answers.
-#[derive(Drop)]
+#[derive(Clone, Copy)]
 pub struct Prediction {
     pub forecast: Forecast,
 }

@@ -11,7 +11,7 @@ use learning::Outcome;
 use words::layout::{COUNT_AT, FULL, HELD_AT, SLOT_HEAD, STATES};
 
 // What a search for a state finds.
-#[derive(Drop)]
+#[derive(Clone, Copy)]
 pub enum Found {
     Slot(usize),
     Nowhere,

@@ -1,6 +1,8 @@
 // The derivation cells in the working space: for each place p of the grammar and each position i of the note the positions up to which what is left of
 // p's production derives the note from i on. Five words a cell, the cells of a position side by side. Here they are read and written one by one, and
 // gone on by from sets of positions; what they hold is worked out in crate chart.
+#![tactic(auto)]
+
 ghost use Rattle.std.specs.Prelude.{◌≡◌, ◌+◌, ◌≤◌, ◌<◌, length};
 ghost use Rattle.grammar.specs.inside.Tables.{grammar_in};
 ghost use Rattle.positions.specs.inside.Positions.{set_words};

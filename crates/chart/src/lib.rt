@@ -1,5 +1,7 @@
 // The derivation cells worked out. Positions are settled from the note's end to its beginning: at each one first the ends of every nonterminal, then every
 // cell once, the last place first.
+#![tactic(auto)]
+
 ghost use Rattle.std.specs.Prelude.{◌≡◌, length};
 ghost use Rattle.grammar.specs.Grammar.{facing};
 ghost use Rattle.grammar.specs.inside.Tables.{grammar_in, table_words};

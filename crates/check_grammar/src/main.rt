@@ -1,4 +1,6 @@
 // Reads a grammar's bytes on standard input and prints `ok` if it is sound, or `no`, the refusal's number and the place.
+#![tactic(auto)]
+
 use libc::{STDIN_FILENO, STDOUT_FILENO};
 
 // A grammar is complete, or refused, within its first 870 bytes, and the buffer has 4,096: what lies behind them changes neither the verdict nor its place

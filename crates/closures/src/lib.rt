@@ -1,4 +1,6 @@
 // Which nonterminals derive some row of tokens, and which the empty row.
+#![tactic(auto)]
+
 mod closure;
 mod rounds;
 

@@ -1,4 +1,6 @@
 // Packed configurations, the members of a closed set in a row of words, and the kept ones of them in order.
+#![tactic(auto)]
+
 mod config;
 mod kept;
 mod members;

@@ -13,7 +13,7 @@ pub const MEMBERS: usize = 256;
 pub const MEMBER_WORDS: usize = crate::words::CONFIG_WORDS * MEMBERS;
 
 // How many members there are now, or that there would be too many, or one too deep.
-#[derive(Drop)]
+#[derive(Clone, Copy)]
 pub enum Added {
     Count(usize),
     Full,

@@ -6,14 +6,14 @@ ghost use Rattle.closures.specs.inside.Steps.{DerivingIs};
 ghost use Rattle.corners.specs.inside.Steps.{FirstsAre, Found};
 
 // What stands first in all productions, as sets of nonterminals: those with an empty production, and those with a production that begins with a nonterminal.
-#[derive(Drop)]
+#[derive(Clone, Copy)]
 struct Firsts {
     empty: u32,
     led: u32,
 }
 
 // The nonterminals that derive the empty row, and those with a production that begins with a nonterminal.
-#[derive(Drop)]
+#[derive(Clone, Copy)]
 pub struct HeadSets {
     pub nullable: u32,
     pub led: u32,

@@ -1,4 +1,6 @@
 // Left recursion: for each nonterminal the set of those that one move leads to, and of those that one or more lead to, as one row of bits each.
+#![tactic(auto)]
+
 mod ending;
 mod firsts;
 mod moves;

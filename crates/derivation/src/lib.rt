@@ -1,5 +1,7 @@
 // Derivations, the table that decides them, and the readings stand here as definitions and laws, which the crates above cite. What runs is what every
 // reader asks: the token at a position of a note, and how many alternatives a nonterminal has.
+#![tactic(auto)]
+
 ghost use Rattle.std.specs.Prelude.{◌≡◌, ◌≤◌, ◌<◌, length};
 ghost use Rattle.std.proofs.Math.Option.{some};
 ghost use Rattle.std.proofs.Math.ListN.{get_elem?};

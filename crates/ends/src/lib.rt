@@ -1,5 +1,7 @@
 // Where the productions that begin at one position end, nonterminal by nonterminal: a set of positions each. A look along a production reads only the
 // symbols up to the first that does not vanish here, so each nonterminal is judged once, behind its left corners.
+#![tactic(auto)]
+
 ghost use Rattle.ends.specs.inside.Ends.{RightEnds};
 ghost use Rattle.ends.specs.inside.Row.{LooksFrom, LooksAlong, Settles, LedTo};
 ghost use Rattle.ends.specs.inside.Judged.{Looked};

@@ -1,4 +1,6 @@
 // The gate before every reading: the scope's refusals 1 to 9 and 11, in their order, once.
+#![tactic(auto)]
+
 pub mod passing;
 pub mod reading;
 pub mod tokens;

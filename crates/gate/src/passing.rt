@@ -17,7 +17,7 @@ pub const SPACE_WORDS: usize = 8192;
 pub const SPACE_WORDS_EACH: usize = 8;
 
 // What the gate answers: passed, or shut with the refusal as a reading answers it.
-#[derive(Drop)]
+#[derive(Clone, Copy)]
 pub enum Gate {
     Passed,
     Shut(Reading),

@@ -5,7 +5,7 @@ ghost use Rattle.gate.specs.Reading.{reading_number, reading_place, reading_coun
 use number::Refusal;
 
 // What a reading answers.
-#[derive(Drop)]
+#[derive(Clone, Copy)]
 pub enum Reading {
     // The note is read: so many entries of the row are its derivation.
     Accepted(usize),

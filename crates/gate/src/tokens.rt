@@ -3,7 +3,7 @@ ghost use Rattle.std.specs.Prelude.{◌≡◌};
 ghost use Rattle.derivation.specs.Gate.{first_unknown};
 ghost use Rattle.gate.specs.Reading.{tokens_of};
 
-#[derive(Drop)]
+#[derive(Clone, Copy)]
 pub enum Tokens {
     Known,
     Unknown(usize),

@@ -1,4 +1,6 @@
 // A grammar in tables of 16-bit words, and the places in it: what each faces, and whose production it is in.
+#![tactic(auto)]
+
 ghost use Rattle.std.specs.Prelude.{◌≡◌, suc, ◌+◌, ◌≤◌, ◌<◌, length, get_or};
 ghost use Rattle.grammar.specs.Grammar.{place_at, facing, admits};
 ghost use Rattle.grammar.specs.inside.Tables.{codes, word_of, symbol_of, place_of, grammar_in, nonterminals_in, rule_at, table_words, corner_row, with_corners};
@@ -52,7 +54,7 @@ const OWNERS: usize = 64;
 const TURN: usize = OWNERS - NOBODY;
 
 // What a place faces: a token, a nonterminal, or its production's end.
-#[derive(Drop)]
+#[derive(Clone, Copy)]
 pub enum Symbol {
     Token(usize),
     Nonterminal(usize),
@@ -60,7 +62,7 @@ pub enum Symbol {
 }
 
 // A place: the nonterminal in whose production it stands, and the symbol that it faces.
-#[derive(Drop)]
+#[derive(Clone, Copy)]
 pub struct Place {
     pub owner: usize,
     pub symbol: Symbol,

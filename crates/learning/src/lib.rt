@@ -3,6 +3,8 @@
 //
 // A closed set is a row of words, lent by the caller: `learn` gathers the first members, `closing` makes the moves of each, `configurations` sorts those
 // to keep at the row's end, and `rules` judges them; a state's words are left there.
+#![tactic(auto)]
+
 mod learn;
 mod rules;
 

@@ -9,7 +9,7 @@ ghost use Rattle.learning.specs.inside.Told.{Tells, Judges};
 use configurations::Packed;
 
 // FULL, an alternative, or a state: from which member on its configurations stand, and how many they are.
-#[derive(Drop)]
+#[derive(Clone, Copy)]
 pub enum Outcome {
     Full,
     Alternative(u32),

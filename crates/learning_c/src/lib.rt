@@ -1,5 +1,7 @@
 // Single questions to a cache, as calls for the tests: the start of a decision, the step from a state over a token. A question that makes no sense is
 // answered by 0, and changes nothing.
+#![tactic(auto)]
+
 ghost use Rattle.std.specs.Prelude.{◌≡◌};
 ghost use Rattle.grammar.specs.inside.Tables.{grammar_in};
 ghost use Rattle.derivation.specs.inside.Ready.{Ready};

@@ -1,4 +1,6 @@
 // The lines of the programs: what a line of `notes` says, and the part of a line that is kept while it is read.
+#![tactic(auto)]
+
 ghost use Rattle.std.specs.Prelude.{◌≡◌, ◌++◌, ◌∷◌, [], ◌≤◌, length, take};
 ghost use Rattle.lines.specs.Line.{max_line_tokens, line_of};
 ghost use Rattle.lines.specs.inside.Parsed.{note_in, line_count};
@@ -14,7 +16,7 @@ const MAX_TOKEN: usize = 65535;
 pub const KEPT_BYTES: usize = MAX_TOKENS * (MAX_DIGITS + 1);
 
 // What a line says.
-#[derive(Drop)]
+#[derive(Clone, Copy)]
 pub enum Line {
     // A note of so many tokens.
     Note(usize),

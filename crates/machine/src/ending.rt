@@ -11,7 +11,7 @@ use gate::Reading;
 use positions::Positions;
 
 // How the machine stops: with so many entries of the row written; where nothing fits; where the row is full and a nonterminal waits.
-#[derive(Drop)]
+#[derive(Clone, Copy)]
 pub enum Conclusion {
     Accepted(usize),
     Stuck,

@@ -1,5 +1,7 @@
 // The machine that reads a note, step by step: a place over the open frames, at a position of the note. Every reading runs it; they differ in how they
 // choose an alternative where a nonterminal waits.
+#![tactic(auto)]
+
 pub mod choice;
 pub mod ending;
 pub mod frames;

@@ -16,7 +16,7 @@ use grammar::Symbol;
 use positions::Positions;
 
 // Where the machine stands: a place, a position of the note, and how many frames are open. Where a nonterminal waits, the place is the one behind it.
-#[derive(Drop)]
+#[derive(Clone, Copy)]
 pub struct At {
     pub place: usize,
     pub position: usize,
@@ -24,14 +24,14 @@ pub struct At {
 }
 
 // How the working space is laid out: the places of the grammar, and where the frames begin.
-#[derive(Drop)]
+#[derive(Clone, Copy)]
 pub struct Space {
     pub places: usize,
     pub base: usize,
 }
 
 // What the machine comes to without a choice: a nonterminal that waits; a place where nothing fits; the end of the last production, and of the note.
-#[derive(Drop)]
+#[derive(Clone, Copy)]
 pub enum Turn {
     Calls(At, usize),
     Stuck,

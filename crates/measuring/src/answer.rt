@@ -5,7 +5,7 @@ ghost use Rattle.measuring.specs.Measuring.{measure_number, measure_place, measu
 use number::Refusal;
 
 // The sizes of a sound grammar: its highest token kind T, its nonterminals N, and the places P of all its productions.
-#[derive(Drop)]
+#[derive(Clone, Copy)]
 pub struct Sizes {
     pub kinds: usize,
     pub nonterminals: usize,
@@ -13,7 +13,7 @@ pub struct Sizes {
 }
 
 // What measuring answers: the sizes of a sound grammar, or why it is refused.
-#[derive(Drop)]
+#[derive(Clone, Copy)]
 pub enum Measure {
     Measured(Sizes),
     Refused(Refusal),

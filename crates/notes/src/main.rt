@@ -1,5 +1,7 @@
 // Reads notes on standard input, one to a line, and prints a line for each: `ok` and the entries of the row, or `no`, the refusal's number and the place,
 // or `bad` where the line is no note. Each is read quickly by grammar G1, over one cache throughout.
+#![tactic(auto)]
+
 ghost use Rattle.std.specs.Prelude.{◌≡◌, ◌≤◌, length, take};
 ghost use Rattle.lines.specs.Line.{max_kept_bytes};
 ghost use Rattle.lines.specs.Kept.{kept_on, kept_after};

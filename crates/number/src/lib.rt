@@ -1,11 +1,13 @@
 // Numbers in groups of seven bits, lowest group first; only the shortest form, at most three bytes, at most 65,535.
+#![tactic(auto)]
+
 ghost use Rattle.std.specs.Prelude.{◌≡◌, ◌+◌, ◌*◌, ◌%◌, ◌<◌, length};
 ghost use Rattle.number.specs.Refusals.{refusal_number, refusal_place};
 ghost use Rattle.number.specs.Fetching.{Tallied, fetch_at};
 ghost use Rattle.number.specs.Number.{number_at, limited_at, legal, symbol_at};
 
 // Why an input is refused, each with its place. `refusal_number` of specs/Refusals gives the scope's numbers.
-#[derive(Drop)]
+#[derive(Clone, Copy)]
 pub enum Refusal {
     Unfinished(usize),
     Malformed(usize),
@@ -64,21 +66,21 @@ impl Refusal {
 }
 
 // Where reading goes on in the grammar's bytes, and how many of them were fetched. A reader starts at byte 0 with none, and `fetch` moves both on.
-#[derive(Drop)]
+#[derive(Clone, Copy)]
 pub struct Cursor {
     pub at: usize,
     pub count: usize,
 }
 
 // What a reader of grammar bytes answers: a number, or why there is none; and the cursor behind the last byte that it fetched.
-#[derive(Drop)]
+#[derive(Clone, Copy)]
 pub enum Read {
     Value(usize, Cursor),
     Refused(Refusal, Cursor),
 }
 
 // What a fetch gives: a byte, and the cursor behind it.
-#[derive(Drop)]
+#[derive(Clone, Copy)]
 pub struct Fetch {
     pub byte: usize,
     pub behind: Cursor,

@@ -6,7 +6,7 @@ ghost use Rattle.opening.specs.inside.Choice.{MayChoose, Chosen, AskedFor, Taken
 use search::{Meter, Size, Tag};
 
 // An alternative, 0 for none; of how many frames the marks stand; and what is left of the budget, 0 where it is out and nothing is said.
-#[derive(Drop)]
+#[derive(Clone, Copy)]
 pub struct Found {
     pub alternative: usize,
     pub known: usize,
@@ -14,7 +14,7 @@ pub struct Found {
 }
 
 // An alternative, 0 for none, and what is left of the budget.
-#[derive(Drop)]
+#[derive(Clone, Copy)]
 pub struct Pick {
     pub alternative: usize,
     pub left: usize,

@@ -7,7 +7,7 @@ use search::{Meter, Size, Way};
 
 // Whether a place and all frames derive the rest; whether each frame was come to at one position, so that all have marks if they do; and what is left of
 // the budget, 0 where it is out and nothing is said.
-#[derive(Drop)]
+#[derive(Clone, Copy)]
 pub struct Descent {
     pub yes: bool,
     pub single: bool,

@@ -7,14 +7,14 @@ use positions::Positions;
 use search::{Meter, Size, Walked, Way};
 
 // Where a production leads; where the budget is out, nothing is left of it.
-#[derive(Drop)]
+#[derive(Clone, Copy)]
 pub struct Course {
     pub way: Way,
     pub meter: Meter,
 }
 
 // Where a set of positions leads, likewise.
-#[derive(Drop)]
+#[derive(Clone, Copy)]
 pub struct Scatter {
     pub to: Positions,
     pub meter: Meter,

@@ -1,5 +1,7 @@
 // The nonterminals of a sound grammar in an order: each behind its left corners, the nonterminals that may stand first in what it derives. There is
 // such an order, because no nonterminal of a sound grammar is left recursive: as long as some have no place, one of them has only corners that have.
+#![tactic(auto)]
+
 ghost use Rattle.std.specs.Prelude.{◌≡◌, suc, ◌<◌, length, set};
 ghost use Rattle.base.specs.Bits.{set_bit};
 ghost use Rattle.grammar.specs.Limits.{max_nonterminals};
@@ -8,7 +10,7 @@ ghost use Rattle.order.specs.inside.Order.{InOrder};
 ghost use Rattle.order.specs.inside.Placing.{ripe_of, turn_of, Placing, Sweeps};
 
 // Nonterminals that have a place: which, and how many.
-#[derive(Drop)]
+#[derive(Clone, Copy)]
 struct Placed {
     set: u32,
     count: usize,

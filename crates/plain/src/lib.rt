@@ -1,4 +1,6 @@
 // The plain reading: each alternative is the lowest that serves.
+#![tactic(auto)]
+
 pub mod reading;
 
 pub use gate::Reading;

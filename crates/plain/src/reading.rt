@@ -13,7 +13,7 @@ use machine::{At, Conclusion, Turn};
 use serving::Judged;
 
 // How the machine stopped, and of how many open frames marks or sets stood.
-#[derive(Drop)]
+#[derive(Clone, Copy)]
 pub struct Stop {
     pub outcome: Conclusion,
     pub known: usize,

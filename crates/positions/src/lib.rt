@@ -1,4 +1,6 @@
 // Sets of positions of a note, each below COUNT, as the bits of five words: by value, and in lent words. No proof above this crate sees a bit of them.
+#![tactic(auto)]
+
 ghost use Rattle.std.specs.Prelude.{◌≡◌, ◌+◌, ◌≤◌, ◌<◌, length};
 ghost use Rattle.base.specs.Bits.{word_bits};
 ghost use Rattle.positions.specs.inside.Positions.{position_count, set_words, empty_set, member, with_of, union_of, meets_of, opposite_of};
@@ -12,7 +14,7 @@ pub const WORDS: usize = 5;
 // Positions that a set can hold: no note has more.
 pub const COUNT: usize = WORDS * base::WORD_BITS;
 
-#[derive(Drop)]
+#[derive(Clone, Copy)]
 pub struct Positions {
     pub words: [u32; WORDS],
 }

@@ -1,4 +1,6 @@
 // The quick reading: alternatives are predicted by what the lookahead cache has learned; the lowest that serves is asked for only where that says nothing.
+#![tactic(auto)]
+
 mod reading;
 mod running;
 

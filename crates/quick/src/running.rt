@@ -8,7 +8,7 @@ ghost use Rattle.quick.specs.inside.Run.{QuickRan};
 use machine::{At, Conclusion, Turn};
 
 // How the machine stopped, and of how many open frames marks or sets stood.
-#[derive(Drop)]
+#[derive(Clone, Copy)]
 pub struct Stop {
     pub outcome: Conclusion,
     pub known: usize,

@@ -1,5 +1,7 @@
 // The place of refusal 10: how far into the note some sentence allows the tokens read. For each place of the grammar the set of positions at which a
 // reader of the note can stand there, five words each, from the note's beginning on; the last position at which anything stands is the place.
+#![tactic(auto)]
+
 ghost use Rattle.std.specs.Prelude.{◌≡◌, ◌≤◌, ◌<◌, length};
 ghost use Rattle.grammar.specs.Limits.{max_places};
 ghost use Rattle.grammar.specs.inside.Tables.{grammar_in};

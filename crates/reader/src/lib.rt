@@ -1,5 +1,7 @@
 // One pass over the grammar's bytes: it checks refusals 1 to 5 as the bytes come, counts them, and writes the compiled tables. After it only beginning a cache
 // and refusal 13 look at the bytes.
+#![tactic(auto)]
+
 ghost use Rattle.std.specs.Prelude.{◌≡◌, ◌+◌, ◌≤◌, length};
 ghost use Rattle.grammar.specs.Limits.{max_productions};
 ghost use Rattle.grammar.specs.inside.Tables.{table_words};

@@ -1,4 +1,6 @@
 // The pass over a grammar's bytes as a call for the tests: how many bytes it fetched, whatever it found.
+#![tactic(auto)]
+
 ghost use Rattle.std.specs.Prelude.{◌≡◌};
 ghost use Rattle.reader.specs.Counting.{bytes_fetched};
 

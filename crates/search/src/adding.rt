@@ -10,7 +10,7 @@ use crate::words::Tag;
 use positions::Positions;
 
 // The ends so far: a tag, and the set of all where it says that there are several.
-#[derive(Drop)]
+#[derive(Clone, Copy)]
 pub struct Ends {
     pub tag: Tag,
     pub set: Positions,

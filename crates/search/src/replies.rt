@@ -7,7 +7,7 @@ ghost use Rattle.search.specs.inside.Searching.{reply_in, MayAsk, KnownIs};
 use crate::words::{Size, Tag};
 
 // The ends of a pair, as far as they are known: not worked out; none; a single one; those of the set that stands for it.
-#[derive(Drop)]
+#[derive(Clone, Copy)]
 pub enum Reply {
     Unknown,
     Nowhere,

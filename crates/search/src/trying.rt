@@ -8,7 +8,7 @@ use crate::ways::Way;
 use crate::words::{Meter, Size};
 
 // Its ends are known; or a pair is needed first; or the budget is out.
-#[derive(Drop)]
+#[derive(Clone, Copy)]
 pub enum Tried {
     Known,
     Needs(usize, usize),
@@ -16,7 +16,7 @@ pub enum Tried {
 }
 
 // The same with the ends, which say nothing in the other two cases.
-#[derive(Drop)]
+#[derive(Clone, Copy)]
 pub struct Trial {
     pub tried: Tried,
     pub ends: Ends,

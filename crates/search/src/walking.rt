@@ -9,7 +9,7 @@ use grammar::Symbol;
 use positions::Positions;
 
 // Where the positions lead: to others; a pair is not worked out; the budget is out.
-#[derive(Drop)]
+#[derive(Clone, Copy)]
 pub enum Walked {
     To,
     Needs(usize, usize),
@@ -17,7 +17,7 @@ pub enum Walked {
 }
 
 // The same with the others, which say nothing in the other two cases.
-#[derive(Drop)]
+#[derive(Clone, Copy)]
 pub struct Passage {
     pub walked: Walked,
     pub to: Positions,

@@ -7,7 +7,7 @@ use grammar::Symbol;
 
 // Where a production leads: it ends at a position, and nowhere else; it ends nowhere, and came so far; a pair is not worked out; or it goes on at a place
 // from the several ends of a pair.
-#[derive(Drop)]
+#[derive(Clone, Copy)]
 pub enum Way {
     Ends(usize),
     Nowhere(usize),

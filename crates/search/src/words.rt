@@ -15,21 +15,21 @@ ghost use Rattle.search.specs.inside.Searching.{Sized};
 use positions::Positions;
 
 // What is looked up on the way: the note's length, and how many nonterminals there are.
-#[derive(Drop)]
+#[derive(Clone, Copy)]
 pub struct Size {
     pub n: usize,
     pub nonterminals: usize,
 }
 
 // What the search may still cost, and how far into the note it came.
-#[derive(Drop)]
+#[derive(Clone, Copy)]
 pub struct Meter {
     pub left: usize,
     pub high: usize,
 }
 
 // What is known of the ends of a pair: there is none; a single one, with the lowest alternative that gives it, and whether another one does too; several.
-#[derive(Drop)]
+#[derive(Clone, Copy)]
 pub enum Tag {
     None,
     One(usize, usize, bool),

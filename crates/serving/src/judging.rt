@@ -8,7 +8,7 @@ ghost use Rattle.serving.specs.inside.Judging.{MayJudge, MayStart, Started, Judg
 use search::{Reply, Size};
 
 // Whether it is, each with the place where a note that is none goes wrong; or the budget is out.
-#[derive(Drop)]
+#[derive(Clone, Copy)]
 pub enum Judged {
     Sentence(usize),
     Wrong(usize),

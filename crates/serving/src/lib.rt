@@ -1,5 +1,7 @@
 // The lowest alternative that serves where a nonterminal waits: by which the rest of the note can be derived with what is open. Ends on demand
 // tell it as long as their budget lasts, then the derivation cells; until it is first asked for, a frame is a return place alone.
+#![tactic(auto)]
+
 mod aids;
 mod judging;
 mod picking;

@@ -8,7 +8,7 @@ use machine::{At, Space};
 use search::Meter;
 
 // An alternative, 0 for none, and of how many open frames the marks or the sets stand after it.
-#[derive(Drop)]
+#[derive(Clone, Copy)]
 pub struct Pick {
     pub alternative: usize,
     pub known: usize,

@@ -13,7 +13,7 @@ ghost use Rattle.soundness.specs.inside.Own.{OwnIs};
 use number::{Read, Refusal};
 
 // What the check answers.
-#[derive(Drop)]
+#[derive(Clone, Copy)]
 pub enum Verdict {
     Sound,
     Refused(Refusal),

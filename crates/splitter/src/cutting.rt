@@ -12,21 +12,21 @@ pub const MAX_TOKENS: usize = 128;
 const NUMBER: u16 = 2;
 
 // What is found among the bytes of a line: none foreign, or the first.
-#[derive(Drop)]
+#[derive(Clone, Copy)]
 pub enum Scan {
     Clean,
     Foreign(usize),
 }
 
 // One item: its kind and its end.
-#[derive(Drop)]
+#[derive(Clone, Copy)]
 pub struct Item {
     pub kind: u16,
     pub end: usize,
 }
 
 // The tokens of a line: so many, or more than MAX_TOKENS.
-#[derive(Drop)]
+#[derive(Clone, Copy)]
 pub enum Cutting {
     Tokens(usize),
     Many,

@@ -22,7 +22,7 @@ pub const STARTS: usize = MAX_WORDS + 1;
 pub const LINKS: usize = MAX_WORDS + crate::runs::BUCKETS;
 
 // What a list is: so many words, or anything else.
-#[derive(Drop)]
+#[derive(Clone, Copy)]
 pub enum Listing {
     Words(usize),
     Bad,

@@ -5,7 +5,7 @@ ghost use Rattle.splitter.specs.Items.{digit_run, number_bytes};
 ghost use Rattle.splitter.specs.inside.Index.{run_of};
 
 // The end of a run of letters and digits, and its bucket.
-#[derive(Drop)]
+#[derive(Clone, Copy)]
 pub struct Run {
     pub end: usize,
     pub bucket: usize,

@@ -12,7 +12,7 @@ use crate::listing::Listing;
 pub const MAX_LINE: usize = 512;
 
 // What splitting a line answers.
-#[derive(Drop)]
+#[derive(Clone, Copy)]
 pub enum Splitting {
     // The line is split: so many entries of the row are its kinds.
     Split(usize),

@@ -1,5 +1,7 @@
 // Makes tokens of typed lines. The first line on standard input is a list of words that have kinds of their own; for each line behind it a line is printed:
 // the kinds of its tokens, or `no`, the refusal's number and the place.
+#![tactic(auto)]
+
 ghost use Rattle.std.specs.Prelude.{◌≡◌, ◌≤◌, length, take};
 ghost use Rattle.lines.specs.Headed.{headed, headed_on, headed_after};
 ghost use Rattle.tokens.specs.Sizes.{max_list, max_kept_line};
@@ -16,7 +18,7 @@ const LINE_BYTES: usize = allstar::MAX_LINE + 1;
 const ROW_ENTRIES: usize = allstar::MAX_TOKENS;
 
 // How far the input has come: whether the list's line is open, and how many bytes are kept of it and of the open line behind it.
-#[derive(Drop)]
+#[derive(Clone, Copy)]
 struct Progress {
     in_list: bool,
     listed: usize,

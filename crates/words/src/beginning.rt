@@ -11,7 +11,7 @@ use number::Refusal;
 use soundness::Verdict;
 
 // What beginning answers.
-#[derive(Drop)]
+#[derive(Clone, Copy)]
 pub enum Beginning {
     // The cache has begun.
     Ready,

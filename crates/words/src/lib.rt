@@ -1,4 +1,6 @@
 // The words of the lookahead cache: by named fields, how they begin, and whether they have begun for a grammar.
+#![tactic(auto)]
+
 mod beginning;
 mod bytes;
 pub mod layout;

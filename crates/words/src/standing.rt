@@ -3,7 +3,7 @@ ghost use Rattle.std.specs.Prelude.{◌≡◌};
 ghost use Rattle.words.specs.inside.Standings.{standing_of};
 
 // What may be done with a cache by a grammar.
-#[derive(Drop)]
+#[derive(Clone, Copy)]
 pub enum Standing {
     // It has begun for the grammar at this length.
     Begun,
