@@ -160,13 +160,13 @@ module _ (s : List ℕ) (bytes : Bytes s) where
   rules-came t n k d (got l m) (e, q, k', d') =
       let u : two t n ++ flat_map nonterminal_parts l ≡ parts_of (rules t l) = rw (← e) in
       let z : InLimits t n 0 (parts_of (rules t l)) = subst (InLimits t n 0) u (limits-append t n 0 (two t n) (flat_map nonterminal_parts l) k k') in
-      whole-came (rules t l) m (rw (← e) at z) (q ∙ after-append origin (two t n) (flat_map nonterminal_parts l) ∙ ap (after_parts origin) u)
+      whole-came (rules t l) m (subst (λ (j : ℕ). InLimits t j 0 (parts_of (rules t l))) (sym e) z) (q ∙ after-append origin (two t n) (flat_map nonterminal_parts l) ∙ ap (after_parts origin) u)
       (d ∙ ap (λ (y : List ℕ). bytes_of (two t n) ++ y) d' ∙ sym (bytes-join (two t n) (flat_map nonterminal_parts l) (drop m.byte s))
       ∙ ap (λ (y : List Part). bytes_of y ++ drop m.byte s) u)
   rules-came t n k d (refused f) (l, e, z) =
       let u : parts_of (rules t l) ≡ two t n ++ flat_map nonterminal_parts l = rw e in
       let y : Stop s t n origin (parts_of (rules t l)) f = stop-after s t n origin (two t n) (flat_map nonterminal_parts l) (parts_of (rules t l)) f u k d z in
-      stop-faulty s (rules t l) f (rw (← e) at y)
+      stop-faulty s (rules t l) f (subst (λ (j : ℕ). Stop s t j origin (parts_of (rules t l)) f) (sym e) y)
 
   count-came : (t : ℕ) → InLimits t 0 0 (highest_kind t ∷ []) → s ≡ bytes_of (highest_kind t ∷ []) ++ drop (after_parts origin (highest_kind t ∷ [])).byte s
       → (x : Parsed ℕ) → Came s t 0 (after_parts origin (highest_kind t ∷ [])) (λ v. Unit {0}) (λ v. nonterminal_count v ∷ []) x

@@ -1,0 +1,30 @@
+-- `auditing::records::says` meets its contract: each of the three outcomes is said by its own words.
+use mathlib.Core.Path.{refl}
+use native.Mathlib.Omega.{arith}
+use Rattle.cache.proofs.AskSteps.{room-state, room-part}
+use Rattle.auditing.proofs.RecordSteps.{says-full, says-alternative, says-state}
+use Rattle.auditing.proofs.records.says.Goals as goal
+
+pub overflow_mul-first : goal.overflow_mul-first
+overflow_mul-first c = omega (arith, (room-state _ c.args.members.now c.in-State.is c.requires.1).0)
+
+pub offset_bounds-members-first : goal.offset_bounds-members-first
+offset_bounds-members-first c = omega (arith, (room-state _ c.args.members.now c.in-State.is c.requires.1).0)
+
+pub slice_bounds-names-count : goal.slice_bounds-names-count
+slice_bounds-names-count c = omega (arith, (room-state _ c.args.members.now c.in-State.is c.requires.1).0)
+
+pub slice_bounds-names-start : goal.slice_bounds-names-start
+slice_bounds-names-start c = omega (arith, (room-state _ c.args.members.now c.in-State.is c.requires.1).0)
+
+pub names-requires : goal.names-requires
+names-requires c = (c.requires.0, room-part _ c.args.members.now c.in-State.is c.requires.1)
+
+pub returns-in-Full : goal.returns-in-Full
+returns-in-Full c = says-full _ _ _ _ _ c.in-Full.is refl
+
+pub returns-in-Alternative : goal.returns-in-Alternative
+returns-in-Alternative c = says-alternative _ _ _ _ _ c.in-Alternative.is refl
+
+pub returns-in-State : goal.returns-in-State
+returns-in-State c = says-state _ _ _ _ _ c.in-State.is c.names.ensures

@@ -1,0 +1,22 @@
+-- The goals of `auditing::states::new` that are not found.
+use Prim.Native.Nat.{◌-◌}
+use native.Mathlib.Omega.{arith}
+use Rattle.base.proofs.AllLaws.{all-next, all-fails, all_done}
+use Rattle.auditing.proofs.StateSteps.{new-begin, found-equal, found-other, other-print}
+use Rattle.auditing.proofs.states.new.Goals as goal
+
+pub loop-p-init : goal.loop-p-init
+loop-p-init c = new-begin _ _
+
+pub returns-then-equal : goal.returns-then-equal
+returns-then-equal c = all-fails _ _ _ (omega arith) (found-equal _ _ _ c.equal.ensures c.if-equal.true) c.loop-p.invariant
+
+pub loop-p-preserved-else-equal : goal.loop-p-preserved-else-equal
+loop-p-preserved-else-equal c = all-next _ _ _ (omega arith) (found-other _ _ _ c.equal.ensures c.if-equal.false) c.loop-p.invariant
+
+pub loop-p-preserved : goal.loop-p-preserved
+loop-p-preserved c =
+    all-next _ _ _ (omega arith) (other-print _ _ _ c.args.prints.now c.requires.1 (omega arith) c.if-prints-here.false) c.loop-p.invariant
+
+pub returns : goal.returns
+returns c = all_done _ _ _ (omega arith) c.loop-p.invariant

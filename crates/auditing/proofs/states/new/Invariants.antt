@@ -1,0 +1,13 @@
+-- `auditing::states::new` meets its contract: a state with another print is another state, and one with the same print is compared.
+use mathlib.Core.Path.{◌≡◌}
+use mathlib.Core.Bool.{not}
+use Prim.Native.Nat.{ℕ, ◌-◌}
+use Rattle.base.specs.Search.{all_from}
+use Rattle.auditing.specs.Coherence.{equal?, new?}
+use Rattle.auditing.proofs.states.new.Given as goal
+
+abbrev pub invariant-loop-p : goal.invariant-loop-p
+invariant-loop-p l = all_from (λ (p : ℕ). not (equal? l.cache p l.s)) p (l.s - p) ≡ new? l.cache l.s
+
+abbrev pub decreases-loop-p : goal.decreases-loop-p
+decreases-loop-p l = l.s - l.p

@@ -1,0 +1,18 @@
+-- The goals of `corners::reaching::through` that are not found.
+use mathlib.Core.Path.{refl, ap, ◌∙◌}
+use Prim.Native.Nat.{ℕ, ◌-◌}
+use native.Mathlib.Omega.{arith}
+use lib.ListN.{length-set}
+use Rattle.corners.specs.inside.Steps.{pivot_below}
+use Rattle.corners.proofs.LeftSteps.{through-more}
+use Rattle.corners.proofs.reaching.through.Goals as goal
+
+pub loop-a-init : goal.loop-a-init
+unfolding pivot_below
+loop-a-init c = (omega arith, refl, refl)
+
+pub loop-a-preserved : goal.loop-a-preserved
+loop-a-preserved c = (omega arith, simp length-set (omega arith), through-more _ _ _ _ _ c.loop-a.invariant.2 c.joined.ensures)
+
+pub returns : goal.returns
+returns c = c.loop-a.invariant.2 ∙ ap (λ (k : ℕ). pivot_below c.args.row c.args.b k c.args.rows.now) (omega arith)

@@ -1,0 +1,7 @@
+-- `grammar::size` meets its contract: the word of the size lies in the tables, and it is what `grammar_in` reads.
+use Rattle.grammar.specs.inside.Tables.{grammar_in}
+use Rattle.grammar.proofs.size.Goals as goal
+
+pub returns : goal.returns
+unfolding grammar_in
+returns c = c.index.ensures

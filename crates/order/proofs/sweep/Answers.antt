@@ -1,0 +1,60 @@
+-- The goals of `order::sweep` that are not found.
+use mathlib.Core.Path.{refl}
+use Prim.Native.Nat.{◌-◌}
+use native.Mathlib.Omega.{arith}
+use Rattle.order.proofs.PlacingLaws.{placing-on, placing-fits}
+use Rattle.order.proofs.SweepLaws.{none_yet, none_more, turn-named, sweep-grows}
+use Rattle.order.proofs.sweep.Goals as goal
+
+pub nonterminals-n-requires : goal.nonterminals-n-requires
+nonterminals-n-requires c = c.requires.ready.fits.long
+
+pub loop-k-init : goal.loop-k-init
+loop-k-init c = (refl, omega arith, c.requires.placing, λ _. none_yet _ _ _ _)
+
+pub corner_row-row-requires : goal.corner_row-row-requires
+corner_row-row-requires c =
+    let l = turn-named _ _ _ c.turn-a.ensures c.loop-k-test.true c.nonterminals-n.ensures in
+    (omega (arith, c.requires.ready.fits.few), c.requires.ready.fits.long)
+
+pub ripe-requires : goal.ripe-requires
+ripe-requires c =
+    let l = turn-named _ _ _ c.turn-a.ensures c.loop-k-test.true c.nonterminals-n.ensures in
+    omega (arith, c.requires.ready.fits.few)
+
+pub place-placed-requires : goal.place-placed-requires
+place-placed-requires c =
+    let l = turn-named _ _ _ c.turn-a.ensures c.loop-k-test.true c.nonterminals-n.ensures in (
+      placing-fits _ _ _ _ _ c.requires.ready c.loop-k.invariant.2 l c.corner_row-row.ensures
+          c.ripe.ensures c.if-ripe.true,
+      omega (arith, c.requires.ready.fits.few),
+    )
+
+pub loop-k-preserved-then-ripe : goal.loop-k-preserved-then-ripe
+loop-k-preserved-then-ripe c =
+    let l = turn-named _ _ _ c.turn-a.ensures c.loop-k-test.true c.nonterminals-n.ensures in
+    let more = c.place-placed.ensures in (
+      omega arith,
+      omega (arith, c.loop-k.invariant.1, more.1),
+      placing-on _ _ _ _ _ c.requires.ready c.loop-k.invariant.2 l c.corner_row-row.ensures
+          c.ripe.ensures c.if-ripe.true more.0 more.1 more.2,
+      λ e. absurd (omega (arith, c.loop-k.invariant.1, more.1)),
+    )
+
+pub loop-k-preserved : goal.loop-k-preserved
+loop-k-preserved c =
+    let row = c.corner_row-row.ensures in (
+      c.loop-k.invariant.0,
+      c.loop-k.invariant.1,
+      c.loop-k.invariant.2,
+      λ e. none_more _ _ _ _ _ (c.loop-k.invariant.3 e) c.turn-a.ensures row c.ripe.ensures c.if-ripe.false,
+    )
+
+pub returns : goal.returns
+returns c =
+    (
+      c.loop-k.invariant.2,
+      sweep-grows _ _ _ _ _ _ _ c.requires.ready c.loop-k.invariant.2 c.nonterminals-n.ensures c.requires.left
+          c.loop-k.invariant.1
+          c.loop-k.invariant.3 (omega arith),
+    )

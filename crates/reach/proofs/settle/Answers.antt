@@ -1,0 +1,38 @@
+-- The goals of `reach::settle` that are not found.
+use mathlib.Core.Bool.{not}
+use mathlib.Core.Path.{refl, ◌∙◌, ap}
+use Prim.Native.Nat.{◌-◌}
+use native.Mathlib.Omega.{arith}
+use borrow.Author.Tests.{not-true, not-false}
+use Rattle.positions.proofs.WordLaws.{total-le}
+use Rattle.reach.proofs.PassLaws.{grown-none, grown-both, settle-end, stepped-none}
+use Rattle.reach.proofs.settle.Goals as goal
+
+pub loop-stepped-init : goal.loop-stepped-init
+loop-stepped-init c = (refl, grown-none _ _ _ _, stepped-none _ _ _ _)
+
+pub pass-requires : goal.pass-requires
+pass-requires c =
+    let start = c.requires in
+    (record { given = start.given; here = start.here; long = c.loop-stepped.invariant.0 ∙ start.long }, c.loop-stepped.invariant.2)
+
+pub shape_of-sets-then-not-pass : goal.shape_of-sets-then-not-pass
+shape_of-sets-then-not-pass c = omega (arith, c.pass.auto.sets)
+
+pub returns-then-not-pass : goal.returns-then-not-pass
+returns-then-not-pass c = settle-end c.loop-stepped.invariant.1 c.pass.ensures (not-true _ (ap not c.if-not-pass.true))
+
+pub loop-stepped-smaller : goal.loop-stepped-smaller
+loop-stepped-smaller c =
+    let pass = c.pass in
+    omega (
+      arith,
+      pass.ensures.to.grown (not-false _ (ap not c.if-not-pass.false)),
+      pass.auto.sets,
+      total-le pass.new.1.1.1.0 (λ i. (c.slice_known-in-loop-stepped-1.given i).fits),
+    )
+
+pub loop-stepped-preserved : goal.loop-stepped-preserved
+loop-stepped-preserved c =
+    let pass = c.pass in
+    (omega (arith, pass.auto.sets), grown-both _ _ _ c.loop-stepped.invariant.1 pass.ensures.to.sets, pass.ensures.stepped)
