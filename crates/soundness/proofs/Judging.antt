@@ -103,10 +103,11 @@ module _ {t₀ t : List ℕ} {v : Verdict} (seven : Judgement v (left_recursive_
 
   pub judge-second : v ≡ Sound → {w : Verdict} → w ≡ unproductive_of (grammar_in t) → Judgement w (judge_of (grammar_in t₀)) t₀ t
   unfolding judge_of
-  judge-second h d =
+  judge-second h {w} d =
       let e = seven.verdict in
       let same = seven.kept.says in
-      record { verdict = rw (← e, h, d, same); kept = seven.kept; cornered = seven.cornered }
+      let second : w ≡ unproductive_of (grammar_in t₀) = d ∙ ap unproductive_of same in
+      record { verdict = rw (← e, h) second; kept = seven.kept; cornered = seven.cornered }
 
 -- ---- the bytes
 module _ (s t₀ : List ℕ) {x : Read} {t : List ℕ} (z : t₀ ≡ replicate table_words 0) (e : out x t ≡ whole_pass s t₀) where

@@ -8,7 +8,7 @@ use Rattle.base.specs.Search.{lowest_from}
 use Rattle.soundness.proofs.judgement.lowest_missing.Given as goal
 
 abbrev pub invariant-loop-a : goal.invariant-loop-a
-invariant-loop-a l = (a ≤ l.n) × (lowest_from (λ a. not (test_bit l.set a)) a (l.n - a) ≡ lowest_from (λ a. not (test_bit l.set a)) 0 l.n)
+invariant-loop-a l = (l.a ≤ l.n) × (lowest_from (λ a. not (test_bit l.set a)) l.a (l.n - l.a) ≡ lowest_from (λ a. not (test_bit l.set a)) 0 l.n)
 
 abbrev pub decreases-loop-a : goal.decreases-loop-a
 decreases-loop-a l = l.n - l.a
