@@ -51,10 +51,9 @@ loop-k-preserved c =
     )
 
 pub returns : goal.returns
-returns c =
-    (
-      c.loop-k.invariant.2,
-      sweep-grows _ _ _ _ _ _ _ c.requires.ready c.loop-k.invariant.2 c.nonterminals-n.ensures c.requires.left
-          c.loop-k.invariant.1
-          c.loop-k.invariant.3 (omega arith),
-    )
+returns c = (
+  c.loop-k.invariant.2,
+  sweep-grows _ _ _ _ _ _ _ c.requires.ready c.loop-k.invariant.2 c.nonterminals-n.ensures c.requires.left
+      c.loop-k.invariant.1
+      c.loop-k.invariant.3 (omega arith),
+)

@@ -27,22 +27,20 @@ mark-requires c =
     }
 
 pub loop-k-preserved-then-mark : goal.loop-k-preserved-then-mark
-loop-k-preserved-then-mark c =
-    (
-      omega arith,
-      omega (arith, c.mark.auto.sets),
-      enter-new c.args.tables.now _ _ _ _ c.first_place-f.ensures c.loop-k.invariant.0 (omega arith) c.loop-k.invariant.2
-          c.mark.ensures c.if-mark.true,
-    )
+loop-k-preserved-then-mark c = (
+  omega arith,
+  omega (arith, c.mark.auto.sets),
+  enter-new c.args.tables.now _ _ _ _ c.first_place-f.ensures c.loop-k.invariant.0 (omega arith) c.loop-k.invariant.2
+      c.mark.ensures c.if-mark.true,
+)
 
 pub loop-k-preserved : goal.loop-k-preserved
-loop-k-preserved c =
-    (
-      omega arith,
-      omega (arith, c.mark.auto.sets),
-      enter-old c.args.tables.now _ _ _ _ c.first_place-f.ensures c.loop-k.invariant.0 (omega arith) c.loop-k.invariant.2
-          c.mark.ensures c.if-mark.false,
-    )
+loop-k-preserved c = (
+  omega arith,
+  omega (arith, c.mark.auto.sets),
+  enter-old c.args.tables.now _ _ _ _ c.first_place-f.ensures c.loop-k.invariant.0 (omega arith) c.loop-k.invariant.2
+      c.mark.ensures c.if-mark.false,
+)
 
 pub returns : goal.returns
 returns c =

@@ -19,11 +19,10 @@ pub returns-then-not-steps : goal.returns-then-not-steps
 returns-then-not-steps c = all-fails _ _ _ (omega arith) (failed c.steps.ensures (ap not c.if-not-steps.true)) c.loop-s.invariant.0
 
 pub loop-s-preserved : goal.loop-s-preserved
-loop-s-preserved c =
-    (
-      all-next _ _ _ (omega arith) (passed c.steps.ensures (ap not c.if-not-steps.false)) c.loop-s.invariant.0,
-      omega (arith, c.steps.auto.members, c.loop-s.invariant.1),
-    )
+loop-s-preserved c = (
+  all-next _ _ _ (omega arith) (passed c.steps.ensures (ap not c.if-not-steps.false)) c.loop-s.invariant.0,
+  omega (arith, c.steps.auto.members, c.loop-s.invariant.1),
+)
 
 pub returns : goal.returns
 returns c = all_done _ _ _ (omega arith) c.loop-s.invariant.0

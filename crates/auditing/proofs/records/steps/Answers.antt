@@ -30,11 +30,10 @@ pub overflow_add-t : goal.overflow_add-t
 overflow_add-t c = omega (arith, ready-kinds c.requires.0.ready, c.kinds-n.ensures)
 
 pub loop-t-preserved : goal.loop-t-preserved
-loop-t-preserved c =
-    (
-      all-next _ _ _ (omega arith) (passed c.step.ensures (ap not c.if-not-step.false)) c.loop-t.invariant.0,
-      omega (arith, c.step.auto.members, c.loop-t.invariant.1),
-    )
+loop-t-preserved c = (
+  all-next _ _ _ (omega arith) (passed c.step.ensures (ap not c.if-not-step.false)) c.loop-t.invariant.0,
+  omega (arith, c.step.auto.members, c.loop-t.invariant.1),
+)
 
 pub returns : goal.returns
 returns c = all_done _ _ _ (omega arith) c.loop-t.invariant.0

@@ -18,15 +18,14 @@ pub rule_at-end-requires : goal.rule_at-end-requires
 rule_at-end-requires c = (omega (arith, c.requires.1.named, c.requires.0.ready.fits.few), c.requires.0.ready.fits.long)
 
 pub loop-k-init : goal.loop-k-init
-loop-k-init c =
-    (
-      omega arith,
-      record {
-        room = c.requires.0.room;
-        same =
-            ap (add_all _) (entering-all _ c.requires.0.ready _ c.requires.1.named _ c.rule_at-start.ensures c.rule_at-end.ensures);
-      },
-    )
+loop-k-init c = (
+  omega arith,
+  record {
+    room = c.requires.0.room;
+    same =
+        ap (add_all _) (entering-all _ c.requires.0.ready _ c.requires.1.named _ c.rule_at-start.ensures c.rule_at-end.ensures);
+  },
+)
 
 pub first_place-f-requires : goal.first_place-f-requires
 first_place-f-requires c =

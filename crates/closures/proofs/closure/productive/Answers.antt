@@ -9,11 +9,10 @@ pub loop-left-init : goal.loop-left-init
 loop-left-init c = nullable-derive _ _ c.requires.1
 
 pub pass-next-requires : goal.pass-next-requires
-pass-next-requires c =
-    (
-      c.requires.0,
-      all-candidates _ _ _ _ _ c.requires.0.few c.opposite.ensures c.nonterminals-n.ensures c.below-all.ensures,
-    )
+pass-next-requires c = (
+  c.requires.0,
+  all-candidates _ _ _ _ _ c.requires.0.few c.opposite.ensures c.nonterminals-n.ensures c.below-all.ensures,
+)
 
 pub returns-then-next-set : goal.returns-then-next-set
 returns-then-next-set c =

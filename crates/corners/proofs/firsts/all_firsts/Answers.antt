@@ -50,13 +50,12 @@ loop-k-preserved-else-code-eq0-2 c =
     )
 
 pub loop-k-preserved : goal.loop-k-preserved
-loop-k-preserved c =
-    (
-      omega arith,
-      omega arith,
-      looked-token _ _ _ _ _ c.loop-k.invariant.2 _ _ c.loop-k.invariant.0 c.first_place-first.ensures refl
-          (faces-token _ _ _ c.code_at-code.ensures c.if-code-eq0.false),
-    )
+loop-k-preserved c = (
+  omega arith,
+  omega arith,
+  looked-token _ _ _ _ _ c.loop-k.invariant.2 _ _ c.loop-k.invariant.0 c.first_place-first.ensures refl
+      (faces-token _ _ _ c.code_at-code.ensures c.if-code-eq0.false),
+)
 
 pub returns : goal.returns
 returns c =

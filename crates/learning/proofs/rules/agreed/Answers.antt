@@ -16,12 +16,11 @@ pub returns-then-alternative-b : goal.returns-then-alternative-b
 returns-then-alternative-b c = agreed-not _ _ _ _ c.loop-k.invariant.1 c.loop-k-test.true c.member-c.ensures c.alternative.ensures (omega arith)
 
 pub loop-k-preserved : goal.loop-k-preserved
-loop-k-preserved c =
-    (
-      omega arith,
-      agreed-next _ _ _ _ c.loop-k.invariant.1 c.loop-k-test.true c.member-c.ensures c.alternative.ensures
-          (omega arith),
-    )
+loop-k-preserved c = (
+  omega arith,
+  agreed-next _ _ _ _ c.loop-k.invariant.1 c.loop-k-test.true c.member-c.ensures c.alternative.ensures
+      (omega arith),
+)
 
 pub returns : goal.returns
 returns c = agreed-end _ _ _ _ c.loop-k.invariant.1 (omega arith)

@@ -17,12 +17,11 @@ pub returns-then-rivals : goal.returns-then-rivals
 returns-then-rivals c = alone-not _ _ _ _ c.loop-k.invariant.1 c.loop-k-test.true c.member-d.ensures c.rivals.ensures c.if-rivals.true
 
 pub loop-k-preserved : goal.loop-k-preserved
-loop-k-preserved c =
-    (
-      omega arith,
-      alone-next _ _ _ _ c.loop-k.invariant.1 c.loop-k-test.true c.member-d.ensures c.rivals.ensures
-          c.if-rivals.false,
-    )
+loop-k-preserved c = (
+  omega arith,
+  alone-next _ _ _ _ c.loop-k.invariant.1 c.loop-k-test.true c.member-d.ensures c.rivals.ensures
+      c.if-rivals.false,
+)
 
 pub returns : goal.returns
 returns c = alone-end _ _ _ _ c.loop-k.invariant.1 (omega arith)

@@ -15,12 +15,11 @@ pub returns-then-alone : goal.returns-then-alone
 returns-then-alone c = settled-hit _ _ _ _ c.loop-k.invariant.1 c.loop-k-test.true c.member-c.ensures c.alone.ensures c.if-alone.true
 
 pub loop-k-preserved : goal.loop-k-preserved
-loop-k-preserved c =
-    (
-      omega arith,
-      settled-next _ _ _ _ c.loop-k.invariant.1 c.loop-k-test.true c.member-c.ensures c.alone.ensures
-          c.if-alone.false,
-    )
+loop-k-preserved c = (
+  omega arith,
+  settled-next _ _ _ _ c.loop-k.invariant.1 c.loop-k-test.true c.member-c.ensures c.alone.ensures
+      c.if-alone.false,
+)
 
 pub returns : goal.returns
 returns c = settled-end _ _ _ _ c.loop-k.invariant.1 (omega arith)

@@ -9,18 +9,17 @@ pub loop-m-init : goal.loop-m-init
 loop-m-init c = adding-begins _ _ _ _ _ _ _ c.requires.fits c.next-m.ensures
 
 pub add_allowed-r-requires : goal.add_allowed-r-requires
-add_allowed-r-requires c =
-    (
-      record {
-        masked = c.requires.masked;
-        short = c.requires.short;
-        kinds = c.requires.kinds;
-        named = c.requires.named;
-        alternative = c.requires.alternative;
-        fits = c.loop-m.invariant.fits;
-      },
-      omega arith,
-    )
+add_allowed-r-requires c = (
+  record {
+    masked = c.requires.masked;
+    short = c.requires.short;
+    kinds = c.requires.kinds;
+    named = c.requires.named;
+    alternative = c.requires.alternative;
+    fits = c.loop-m.invariant.fits;
+  },
+  omega arith,
+)
 
 pub loop-m-smaller : goal.loop-m-smaller
 loop-m-smaller c =

@@ -21,12 +21,11 @@ loop-m-smaller-then-matches c =
     omega (arith, c.next-m-in-loop-m.ensures.most)
 
 pub loop-m-preserved-then-matches : goal.loop-m-preserved-then-matches
-loop-m-preserved-then-matches c =
-    (
-      omega (arith, c.loop-m.invariant.0),
-      tokens-with c.requires c.loop-m.invariant.1 c.loop-m-test.true c.next-m-in-loop-m.ensures c.matches.ensures
-          c.if-matches.true c.with-to.ensures c.farther-high.ensures,
-    )
+loop-m-preserved-then-matches c = (
+  omega (arith, c.loop-m.invariant.0),
+  tokens-with c.requires c.loop-m.invariant.1 c.loop-m-test.true c.next-m-in-loop-m.ensures c.matches.ensures
+      c.if-matches.true c.with-to.ensures c.farther-high.ensures,
+)
 
 pub loop-m-smaller : goal.loop-m-smaller
 loop-m-smaller c =
@@ -35,12 +34,11 @@ loop-m-smaller c =
     omega (arith, c.next-m-in-loop-m.ensures.most)
 
 pub loop-m-preserved : goal.loop-m-preserved
-loop-m-preserved c =
-    (
-      omega (arith, c.loop-m.invariant.0),
-      tokens-other c.requires c.loop-m.invariant.1 c.loop-m-test.true c.next-m-in-loop-m.ensures c.matches.ensures
-          c.if-matches.false,
-    )
+loop-m-preserved c = (
+  omega (arith, c.loop-m.invariant.0),
+  tokens-other c.requires c.loop-m.invariant.1 c.loop-m-test.true c.next-m-in-loop-m.ensures c.matches.ensures
+      c.if-matches.false,
+)
 
 pub returns : goal.returns
 returns c =

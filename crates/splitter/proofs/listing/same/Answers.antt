@@ -13,12 +13,11 @@ returns-then-a-i c =
     same-other _ _ _ _ c.args.n c.loop-k.k c.loop-k.invariant.0 (omega arith) (omega arith) (omega arith) refl refl c.if-a-i.true
 
 pub loop-k-preserved : goal.loop-k-preserved
-loop-k-preserved c =
-    (
-      same-on _ _ _ _ c.args.n c.loop-k.k c.loop-k.invariant.0 (omega arith) (omega arith) (omega arith) refl refl
-          c.if-a-i.false,
-      omega arith,
-    )
+loop-k-preserved c = (
+  same-on _ _ _ _ c.args.n c.loop-k.k c.loop-k.invariant.0 (omega arith) (omega arith) (omega arith) refl refl
+      c.if-a-i.false,
+  omega arith,
+)
 
 pub returns : goal.returns
 returns c = same_end _ _ _ _ c.args.n c.loop-k.k c.loop-k.invariant.0 (omega arith)

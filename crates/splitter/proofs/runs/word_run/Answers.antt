@@ -16,13 +16,12 @@ pub overflow_add-bucket : goal.overflow_add-bucket
 overflow_add-bucket c = omega (arith, c.shared_slice_known-2-1.given c.loop-i.i)
 
 pub loop-i-preserved : goal.loop-i-preserved
-loop-i-preserved c =
-    (
-      run_on _ _ _ c.loop-i.invariant.0 (omega arith) refl c.class.ensures c.if-class-lt-DIGIT.false
-          c.wide.ensures refl,
-      omega arith,
-      mod-lt _ (omega arith),
-    )
+loop-i-preserved c = (
+  run_on _ _ _ c.loop-i.invariant.0 (omega arith) refl c.class.ensures c.if-class-lt-DIGIT.false
+      c.wide.ensures refl,
+  omega arith,
+  mod-lt _ (omega arith),
+)
 
 pub returns : goal.returns
 returns c = run_end _ _ _ c.loop-i.invariant.0 (omega arith)
