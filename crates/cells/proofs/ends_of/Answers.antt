@@ -1,6 +1,5 @@
 -- The goals of `cells::ends_of` that are not found.
 use mathlib.Core.Path.{sym, ◌∙◌}
-use Prim.Native.Nat.{◌-◌}
 use native.Mathlib.Omega.{arith}
 use Rattle.cells.proofs.Spots.{spot_in, cell-member, sized, lent-sized}
 use Rattle.derivation.proofs.FirstLaws.{rule-within, first-in}

@@ -1,6 +1,4 @@
 -- The goals of `cells::onward` that are not found.
-use mathlib.Core.Bool.{true}
-use Prim.Native.Nat.{◌-◌}
 use native.Mathlib.Omega.{arith}
 use Rattle.cells.proofs.Spots.{spot_in}
 use Rattle.cells.proofs.ThroughLaws.{going-begins, going_on, going-ends, next-behind}

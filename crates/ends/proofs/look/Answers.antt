@@ -1,5 +1,4 @@
 -- The goals of `ends::look` that are not found.
-use Prim.Native.Nat.{◌-◌}
 use native.Mathlib.Omega.{arith}
 use Rattle.derivation.proofs.FirstLaws.{rule-within, first-in}
 use Rattle.cells.proofs.GatherLaws.{gather-begins, gather-more, gather-ends}

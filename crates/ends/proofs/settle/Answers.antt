@@ -1,6 +1,5 @@
 -- The goals of `ends::settle` that are not found.
 use mathlib.Core.Path.{refl, ap}
-use Prim.Native.Nat.{◌-◌}
 use native.Mathlib.Omega.{arith}
 use lib.ListN.{length}
 use Rattle.ends.proofs.LookLaws.{sound_none}

@@ -1,6 +1,5 @@
 -- The goals of `lines::parse` that are not found.
 use mathlib.Core.Path.{refl}
-use Prim.Native.Nat.{◌-◌}
 use native.Mathlib.Omega.{arith}
 use lib.ListN.{length-set}
 use Rattle.lines.proofs.LineLaws.{nothing, going-begins, blank-first, blank-many}

@@ -1,6 +1,5 @@
 -- The goals of `order::sweep` that are not found.
 use mathlib.Core.Path.{refl}
-use Prim.Native.Nat.{◌-◌}
 use native.Mathlib.Omega.{arith}
 use Rattle.order.proofs.PlacingLaws.{placing-on, placing-fits}
 use Rattle.order.proofs.SweepLaws.{none_yet, none_more, turn-named, sweep-grows}

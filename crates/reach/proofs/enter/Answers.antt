@@ -1,7 +1,6 @@
 -- The goals of `reach::enter` that are not found.
 use native.Mathlib.Omega.{arith}
 use mathlib.Core.Path.{refl}
-use Prim.Native.Nat.{◌-◌}
 use Rattle.derivation.proofs.FirstLaws.{rule-within}
 use Rattle.reach.proofs.EnterLaws.{first_small, enter-begin, enter-new, enter-old, enter-end}
 use Rattle.reach.proofs.enter.Goals as goal

@@ -1,6 +1,6 @@
 -- The goals of `reach::wrong_place` that are not found.
 use mathlib.Core.Path.{refl}
-use Prim.Native.Nat.{ℕ, ◌-◌}
+use Prim.Native.Nat.{ℕ}
 use native.Mathlib.Omega.{arith}
 use lib.ListN.{length-replicate}
 use Rattle.derivation.proofs.ReadyLaws.{ready-size}

@@ -1,7 +1,6 @@
 -- The goals of `reader::rules` that are not found.
 use native.Mathlib.Omega.{arith}
 use mathlib.Core.Path.{refl}
-use Prim.Native.Nat.{◌-◌}
 use native.Mathlib.Nat.{sub-zero}
 use lib.ListN.{length-set}
 use Rattle.number.proofs.NumberLaws.{limited-is}

@@ -1,7 +1,6 @@
 -- The goals of `auditing::layout::kept` that are not found.
 use mathlib.Core.Bool.{not}
 use mathlib.Core.Path.{ap}
-use Prim.Native.Nat.{◌-◌}
 use native.Mathlib.Omega.{arith}
 use Rattle.base.proofs.AllLaws.{all-next, all-fails, all_done}
 use Rattle.auditing.proofs.KeptSteps.{kept_by, unfit, fit, first, below, above, exact-fit, fit_next}

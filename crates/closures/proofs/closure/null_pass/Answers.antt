@@ -1,6 +1,5 @@
 -- The goals of `closures::closure::null_pass` that are not found.
 use mathlib.Core.Path.{refl, sym}
-use mathlib.Core.Bool.{false}
 use native.Mathlib.Omega.{arith}
 use Rattle.closures.proofs.ClosureSteps.{less-left, judging-begins, judging-below, judging-stays, judging-adds, judging-ends, row-misses}
 use Rattle.closures.proofs.closure.null_pass.Goals as goal

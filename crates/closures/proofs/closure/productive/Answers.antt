@@ -1,5 +1,4 @@
 -- The goals of `closures::closure::productive` that are not found.
-use mathlib.Core.Bool.{true}
 use mathlib.Core.Path.{sym, ◌∙◌}
 use Rattle.grammar.proofs.WordLaws.{length-starts-in}
 use Rattle.closures.proofs.ClosureSteps.{nullable-derive, all-candidates, closure-exact, closure-full}

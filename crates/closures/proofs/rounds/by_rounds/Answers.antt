@@ -1,6 +1,5 @@
 -- The goals of `closures::rounds::by_rounds` that are not found.
 use mathlib.Core.Path.{sym, ◌∙◌}
-use Prim.Native.Nat.{◌-◌}
 use native.Mathlib.Omega.{arith}
 use Rattle.closures.proofs.RoundSteps.{round-grows, round-holds, round_keeps, round_exact}
 use Rattle.closures.proofs.rounds.by_rounds.Goals as goal

@@ -1,6 +1,5 @@
 -- The goals of `closures::rounds::note_rules` that are not found.
 use mathlib.Core.Path.{◌≡◌}
-use Prim.Native.Nat.{◌-◌}
 use native.Mathlib.Omega.{arith}
 use Rattle.grammar.specs.inside.Tables.{nonterminals_in}
 use Rattle.closures.specs.inside.Steps.{row_words}

@@ -1,6 +1,5 @@
 -- The goals of `configurations::members::among` that are not found.
 use mathlib.Core.Path.{refl}
-use Prim.Native.Nat.{◌-◌}
 use native.Mathlib.Omega.{arith}
 use Rattle.configurations.proofs.HeldLaws.{exact-at, find-hit, find-next, find-end}
 use Rattle.configurations.proofs.SearchLaws.{part-has}

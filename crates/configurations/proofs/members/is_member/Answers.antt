@@ -1,6 +1,5 @@
 -- The goals of `configurations::members::is_member` that are not found.
 use mathlib.Core.Path.{ap}
-use Prim.Native.Nat.{◌-◌}
 use native.Mathlib.Omega.{arith}
 use Rattle.lookahead.specs.Closing.{member?}
 use Rattle.configurations.proofs.HeldLaws.{held_all}

@@ -1,6 +1,5 @@
 -- The goals of `corners::firsts::all_firsts` that are not found.
 use mathlib.Core.Path.{refl}
-use Prim.Native.Nat.{◌-◌}
 use native.Mathlib.Omega.{arith}
 use Rattle.grammar.proofs.WordLaws.{faces-end, faces-token, faces-nonterminal}
 use Rattle.corners.proofs.RuleLaws.{rules-begin, rules-within, owner-told}

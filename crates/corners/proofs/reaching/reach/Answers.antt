@@ -1,6 +1,6 @@
 -- The goals of `corners::reaching::reach` that are not found.
 use mathlib.Core.Path.{refl, ap, ◌∙◌}
-use Prim.Native.Nat.{ℕ, ◌-◌}
+use Prim.Native.Nat.{ℕ}
 use native.Mathlib.Omega.{arith}
 use Rattle.corners.specs.inside.Steps.{reach_of}
 use Rattle.corners.proofs.LeftSteps.{reach-pivot, reach-empty}

@@ -1,5 +1,4 @@
 -- The goals of `first_follow::gathering::gather` that are not found.
-use Prim.Native.Nat.{◌-◌}
 use native.Mathlib.Omega.{arith}
 use Rattle.first_follow.proofs.TurnLaws.{turn-begin, turn-named, turn-owned, turn-kind, turn_end, turn-token, turn-over, turn-stop, turn-done}
 use Rattle.first_follow.proofs.gathering.gather.Goals as goal

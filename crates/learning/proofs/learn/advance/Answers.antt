@@ -1,6 +1,5 @@
 -- The goals of `learning::learn::advance` that are not found.
 use mathlib.Core.Path.{refl}
-use Prim.Native.Nat.{◌-◌}
 use native.Mathlib.Omega.{arith}
 use Rattle.configurations.proofs.GrowSteps.{left_by, left-on, left-stop, left-none}
 use Rattle.learning.proofs.StartLaws.{blank-left}

@@ -1,5 +1,4 @@
 -- The goals of `learning::learn::begin` that are not found.
-use Prim.Native.Nat.{◌-◌}
 use native.Mathlib.Omega.{arith}
 use Rattle.derivation.proofs.FirstLaws.{rule-within}
 use Rattle.configurations.proofs.GrowSteps.{grow-packs, left-on, left-stop, left-none}

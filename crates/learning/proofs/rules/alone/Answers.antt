@@ -1,8 +1,6 @@
 -- The goals of `learning::rules::alone` that are not found.
 use mathlib.Core.Path.{refl}
-use Prim.Native.Nat.{◌-◌}
 use native.Mathlib.Omega.{arith}
-use Rattle.lookahead.specs.Outcomes.{rivals}
 use Rattle.configurations.proofs.HeldLaws.{member-has}
 use Rattle.learning.proofs.JudgeLaws.{alone-not, alone-next, alone-end}
 use Rattle.learning.proofs.rules.alone.Goals as goal

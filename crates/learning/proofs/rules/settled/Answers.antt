@@ -1,5 +1,4 @@
 -- The goals of `learning::rules::settled` that are not found.
-use Prim.Native.Nat.{◌-◌}
 use native.Mathlib.Omega.{arith}
 use Rattle.configurations.proofs.HeldLaws.{member-has}
 use Rattle.learning.proofs.JudgeLaws.{settled-whole, settled-hit, settled-next, settled-end}

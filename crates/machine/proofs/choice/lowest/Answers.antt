@@ -1,6 +1,5 @@
 -- The goals of `machine::choice::lowest` that are not found.
 use mathlib.Core.Path.{refl}
-use Prim.Native.Nat.{◌-◌}
 use native.Mathlib.Omega.{arith}
 use Rattle.cells.proofs.Spots.{spot_in}
 use Rattle.derivation.proofs.FirstLaws.{rule-within, first-in}

@@ -1,5 +1,4 @@
 -- The goals of `opening::empties::empty` that are not found.
-use Prim.Native.Nat.{◌-◌}
 use native.Mathlib.Omega.{arith}
 use Rattle.derivation.proofs.FirstLaws.{rule-within}
 use Rattle.opening.proofs.EmptyLaws.{empty-begins, empty-found, empty-on, empty-ends}

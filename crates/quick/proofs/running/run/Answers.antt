@@ -1,6 +1,5 @@
 -- The goals of `quick::running::run` that are not found.
 use mathlib.Core.Path.{refl, ◌∙◌}
-use Prim.Native.Nat.{◌-◌}
 use native.Mathlib.Omega.{arith}
 use lib.ListN.{length-set}
 use Rattle.quick.proofs.RunLaws.{turning-begins, turning-decides, out-full, out_none, taken-small, taken-room, out-stuck}

@@ -1,5 +1,4 @@
 -- The goals of `search::adding::add_all` that are not found.
-use Prim.Native.Nat.{◌-◌}
 use native.Mathlib.Omega.{arith}
 use Rattle.cells.proofs.ThroughLaws.{next-behind}
 use Rattle.search.proofs.AddLaws.{adding-begins, adding-next, adding-ends}

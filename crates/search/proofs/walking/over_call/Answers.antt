@@ -1,7 +1,6 @@
 -- The goals of `search::walking::over_call` that are not found.
 use mathlib.Core.Path.{refl}
 use mathlib.Core.Logic.{inl}
-use Prim.Native.Nat.{◌-◌}
 use native.Mathlib.Omega.{arith}
 use Rattle.cells.proofs.ThroughLaws.{next-behind}
 use Rattle.search.proofs.OverLaws.{calls-begin, calls-none, calls-one, calls-some, calls-wants, calls-end, only-inside, may_read, set_is}

@@ -1,5 +1,4 @@
 -- The goals of `search::walking::over_token` that are not found.
-use Prim.Native.Nat.{◌-◌}
 use native.Mathlib.Omega.{arith}
 use Rattle.cells.proofs.ThroughLaws.{next-behind}
 use Rattle.search.proofs.OverLaws.{tokens-begin, tokens-with, tokens-other, tokens-end}

@@ -1,6 +1,5 @@
 -- The goals of `search::walking::walk` that are not found.
 use mathlib.Core.Path.{refl}
-use Prim.Native.Nat.{◌-◌}
 use native.Mathlib.Omega.{arith}
 use Rattle.grammar.proofs.WordLaws.{facing-of}
 use Rattle.derivation.proofs.ReadyLaws.{ready-size}

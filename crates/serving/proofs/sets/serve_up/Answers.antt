@@ -1,6 +1,5 @@
 -- The goals of `serving::sets::serve_up` that are not found.
 use mathlib.Core.Path.{refl}
-use Prim.Native.Nat.{◌-◌}
 use native.Mathlib.Omega.{arith}
 use Rattle.cells.proofs.Spots.{lent-kept}
 use Rattle.serving.proofs.ServeLaws.{serving-begins, serving-place, serving-more, serving-ends}

@@ -1,6 +1,5 @@
 -- The goals of `splitter::listing::same` that are not found.
 use mathlib.Core.Path.{refl}
-use Prim.Native.Nat.{◌-◌}
 use native.Mathlib.Omega.{arith}
 use Rattle.splitter.proofs.WordLaws.{same-begins, same_end, same-other, same-on}
 use Rattle.splitter.proofs.listing.same.Goals as goal

@@ -1,7 +1,6 @@
 -- The goals of `splitter::runs::word_run` that are not found.
 use native.Mathlib.Nat.{mod-lt}
 use mathlib.Core.Path.{refl}
-use Prim.Native.Nat.{◌-◌}
 use native.Mathlib.Omega.{arith}
 use Rattle.splitter.proofs.RunLaws.{run-begins, run_end, run-stop, run_on}
 use Rattle.splitter.proofs.runs.word_run.Goals as goal

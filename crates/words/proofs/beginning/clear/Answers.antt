@@ -3,7 +3,7 @@ use Rattle.words.proofs.SizeLaws.{cleared}
 use borrow.Author.Fill.{fill_more}
 use lib.ListN.{length-set, set}
 use native.Mathlib.Omega.{arith}
-use Prim.Native.Nat.{◌-◌, ℕ}
+use Prim.Native.Nat.{ℕ}
 use mathlib.Core.List.{List}
 use mathlib.Core.Path.{refl, ap, ◌∙◌}
 use Rattle.words.proofs.beginning.clear.Goals as goal
