@@ -25,6 +25,10 @@ while IFS=: read -r document name; do
             # a constructor behind its type
             grep -qxF -- "${part%%.*}" "$known" && grep -qxF -- "${part#*.}" "$known" && continue
             ;;
+        [a-z].[a-z]*)
+            # what is known of whatever the letter stands for
+            grep -qxF -- "${part#*.}" "$known" && continue
+            ;;
     esac
     grep -qxF -- "${part#../}" "$known" && continue
     echo "names: $document: \`$name\` is nowhere"
