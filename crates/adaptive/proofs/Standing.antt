@@ -70,6 +70,7 @@ module _ (g : Grammar) (ordered : Ordered g) where
   based-left (Run.match f d t x) h = omega (arith, run-le x)
   based-left (Run.expand f d x) floor = let h = ordered.marked_end in clash (cc)
   based-left (Run.expand f d x) (on h) = based-left x (on (on h))
+  based-left {w = w} (Run.done {i = i} _) h = elim h [ ]
 
   -- and a predictor may be asked
   pub waits-asks : (w S : List ℕ) (a i b f : ℕ) → Waits g S a i → first g a b ≡ some f → Opens g w (f ∷ S) i → Asks g w (f ∷ S) i

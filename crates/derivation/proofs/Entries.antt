@@ -106,6 +106,7 @@ module _ (g : Grammar) (ordered : Ordered g) (w : List ℕ) (n : ℕ) (reads : R
   quiet_step (Quiet.token e q) l (popped f) = clash (cc)
   quiet_step (Quiet.token e q) l (matched f d t) = quiet q l
   quiet_step (Quiet.token e q) l (picked b f d) = clash (cc)
+  quiet_step {i = i} Quiet.empty l x = elim x [ ]
 
   pub open-start : (a b f : ℕ) → first g a b ≡ some f → Open g G n (f ∷ G) 0
   open-start a b f d = inside {a = a} {e = 0} {i = 0} (omega arith) (entered 0 b d) ground
@@ -117,7 +118,7 @@ module _ (g : Grammar) (ordered : Ordered g) (w : List ℕ) (n : ℕ) (reads : R
       inside (reads a x.alternative x.start p k i t x.begins x.own f d h) (after-match f x) b
   open_step (inside l x b) (picked {i = i} c f d) = inside l (entered i c d) (wait x f b)
 
-  pub open-steps : {S₀ S : List ℕ} {i₀ i : ℕ} → Open g G n S₀ i₀ → Steps g w S₀ i₀ S i → Open g G n S i
+  pub open-steps : {S₀ : List ℕ} {i₀ : ℕ} {S : List ℕ} {i : ℕ} → Open g G n S₀ i₀ → Steps g w S₀ i₀ S i → Open g G n S i
   open-steps o Steps.stay = o
   open-steps o (Steps.then x s) = open_step (open-steps o x) s
 

@@ -47,6 +47,7 @@ module _ {g : Grammar} {w : List ℕ} (order : Ordered g) where
   quiet_step (Quiet.token e q) (popped f) = clash (cc)
   quiet_step (Quiet.token e q) (matched f d t) = quiet q
   quiet_step (Quiet.token e q) (picked b f d) = clash (cc)
+  quiet_step {i = i} Quiet.empty x = elim x [ ]
 
   pub stands-step : {S S' : List ℕ} {i i' : ℕ} → Stands g S → Step g w S i S' i' → Stands g S'
   stands-step (quiet q) s = quiet_step q s

@@ -50,6 +50,7 @@ module _ {g : Grammar} {t : ℕ} where
           → Starts g t (Nonterminal c ∷ β) ⊎ (T (nullable? g c && passes false (nullable? g) β) × Starts g t α)
       go (inl x) = inl (skip n x)
       go (inr (p, x)) = inr (T_and (nullable? g c) (passes false (nullable? g) β) n p, x)
+  starts-split (End ∷ β) α s = elim s [ ]
 
   -- what begins a production is in FIRST of its nonterminal
   starts_first : (a b f : ℕ) → first g a b ≡ some f → {α : List Symbol} → Starts g t α → (p : ℕ) → Skips g f p → α ≡ suffix g p → First g t a
@@ -134,7 +135,7 @@ module _ {g : Grammar} (L : Lined g) (fertile : (a : ℕ) → a < length g.start
 
   first-derives : {t a : ℕ} → First g t a → Begins t (Nonterminal a ∷ [])
   first-derives {t} {a} (First.token {f = f} {q = q} {k = k} b d s e m) =
-      by t a b d s (rw (suffix-is g q, e) (go (behind q (skips-within L s (L.Within-first a b f d)) (λ z. clash (cc)))))
+      by t a b d s (rw (suffix-is g q, e) (go (behind q (skips-within L s (L.within_first a b f d)) (λ z. clash (cc)))))
     where
       go : (w : List ℕ) × Derives (of_places g) (suffix g (suc q)) w → Begins t (Token k ∷ suffix g (suc q))
       go (w, (r, x)) = (w, (r, Leftmost.match m x))
@@ -146,6 +147,7 @@ module _ {g : Grammar} (L : Lined g) (fertile : (a : ℕ) → a < length g.start
 
   alone : (t a : ℕ) → Starts g t (Nonterminal a ∷ []) → First g t a
   alone t a (call x) = x
+  alone t a (skip _ x) = elim x [ ]
 
   pub first-iff : (t a : ℕ) → First g t a ↔ ((w : List ℕ) × Derives (of_places g) (Nonterminal a ∷ []) (t ∷ w))
   first-iff t a = (first-derives, λ h. alone t a (derives-starts h.1.1 refl))

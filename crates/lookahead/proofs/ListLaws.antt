@@ -32,7 +32,7 @@ module _ {A : Type 0} where
   get_in (y ∷ l) zero {x} e = Memᴰ.head {x = y} (cc)
   get_in (y ∷ l) (suc n) e = Memᴰ.tail (get_in l n e)
 
-  pub in-get : {l : List A} {x : A} → In x l → (n : ℕ) × (get_elem? l n ≡ some x)
+  pub in-get : {x : A} {l : List A} → In x l → (n : ℕ) × (get_elem? l n ≡ some x)
   in-get (Memᴰ.head e) = (zero, cc)
   in-get (Memᴰ.tail m) = let t = in-get m in (suc t.0, t.1)
 

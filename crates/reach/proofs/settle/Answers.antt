@@ -29,7 +29,7 @@ loop-stepped-smaller c =
       arith,
       pass.ensures.to.grown (not-false _ (ap not c.if-not-pass.false)),
       pass.auto.sets,
-      total-le pass.new.1.1.1.0 (λ i. (c.slice_known-in-loop-stepped-1.given i).fits),
+      total-le pass.new.sets (λ i. (c.slice_known-in-loop-stepped-1.given i).fits),
     )
 
 pub loop-stepped-preserved : goal.loop-stepped-preserved

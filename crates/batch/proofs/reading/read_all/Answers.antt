@@ -38,7 +38,7 @@ pub tell-requires : goal.tell-requires
 tell-requires c = omega (arith, c.loop-k-test.true, c.requires.fits.three, c.loop-k.invariant.0.answers-kept)
 
 pub overflow_add-at-in-loop-k : goal.overflow_add-at-in-loop-k
-overflow_add-at-in-loop-k c = omega (arith, add_read at-lent)
+overflow_add-at-in-loop-k c = omega (arith, part-fits _ _ _ _ _ c.loop-k.invariant.0.underway (omega arith))
 
 pub loop-k-preserved : goal.loop-k-preserved
 loop-k-preserved c =

@@ -26,7 +26,7 @@ shape_of-cache c =
     let args = c.args in
     let long = stored-long args.cache.now c.slot_at-at.result c.word.result c.word-2.result
     (take (config_words * args.n) args.ws.now) c.store_words.ensures in
-    length-set c.store_words.new.0 held_at c.word-3.result ∙ long
+    length-set c.store_words.new.cache held_at c.word-3.result ∙ long
 
 pub returns : goal.returns
 returns c =

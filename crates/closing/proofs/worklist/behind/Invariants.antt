@@ -1,4 +1,5 @@
 -- `closing::worklist::behind` meets its contract: the occurrences from place p on are left to go behind.
+use mathlib.Core.List.{[]}
 use mathlib.Core.List.{map}
 use Prim.Native.Nat.{ℕ, ◌≤◌, ◌-◌}
 use Rattle.grammar.specs.inside.Tables.{grammar_in}

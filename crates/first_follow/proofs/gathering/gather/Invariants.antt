@@ -7,7 +7,7 @@ use Rattle.first_follow.proofs.gathering.gather.Given as goal
 
 abbrev pub invariant-loop-p : goal.invariant-loop-p
 invariant-loop-p l =
-    (l.p ≤ l.size) × Passing (grammar_in l.tables) l.p l.lead l.ahead (record { l.masks = l.masks; l.above = l.above; l.before = l.before; l.last = l.last })
+    (l.p ≤ l.size) × Passing (grammar_in l.tables) l.p l.lead l.ahead (record { masks = l.masks; above = l.above; before = l.before; last = l.last })
 
 abbrev pub decreases-loop-p : goal.decreases-loop-p
 decreases-loop-p l = l.size - l.p

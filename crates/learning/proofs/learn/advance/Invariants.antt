@@ -1,4 +1,5 @@
 -- `learning::learn::advance` meets its contract: the configurations from number j on are left to pass.
+use mathlib.Core.List.{[]}
 use Prim.Native.Nat.{◌-◌, ◌≤◌}
 use Rattle.grammar.specs.inside.Tables.{grammar_in}
 use Rattle.lookahead.specs.Closing.{add_all}

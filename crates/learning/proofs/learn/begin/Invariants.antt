@@ -1,4 +1,5 @@
 -- `learning::learn::begin` meets its contract: the productions whose words stand from k on are left to begin, numbered from 1.
+use mathlib.Core.List.{[]}
 use Prim.Native.Nat.{◌-◌, ◌≤◌}
 use Rattle.grammar.specs.inside.Tables.{grammar_in}
 use Rattle.lookahead.specs.Closing.{add_all}

@@ -1,4 +1,5 @@
 -- The goals of `opening::descent::descend` that are not found.
+use Rattle.base.proofs.Booleans.{true→T}
 use mathlib.Core.Path.{refl}
 use native.Mathlib.Omega.{arith}
 use Rattle.opening.proofs.DescentLaws.{down-begins, down-go, down-kept, down-led, down-nowhere, down-set, spread-may, spread-did}

@@ -1,4 +1,5 @@
 -- The goals of `opening::descent::spread` that are not found.
+use Rattle.base.proofs.Booleans.{true→T}
 use mathlib.Core.Path.{refl}
 use native.Mathlib.Omega.{arith}
 use Rattle.opening.proofs.ScatterLaws.{spread-begins, spread-some, spread-walk, spread-kept, spread-room, spread-met, spread-lowest}

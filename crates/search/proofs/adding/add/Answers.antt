@@ -1,18 +1,18 @@
 -- `search::adding::add` meets its contract: what is kept is what `add` of the laws says, whatever was kept before; a set holds the positions that it did,
 -- and the new one.
 use mathlib.Core.Path.{ap}
-use mathlib.Core.Logic.{⊎_elim}
 use native.Mathlib.Omega.{arith}
 use lib.ListN.{length}
 use Rattle.search.proofs.TagWordLaws.{one-fits}
 use Rattle.search.proofs.AddLaws.{add_none, add-again, add-other, add-several, more-then, more-else, with-long}
 use Rattle.search.proofs.adding.add.Goals as goal
+use Rattle.search.proofs.adding.add.Goals.{then-more, else-more}
 
 pub returns-then-m-j : goal.returns-then-m-j
 returns-then-m-j c =
-    let more =
-    ⊎_elim (λ w. more-then _ _ w.0.taken w.1) (λ w. more-else _ _ w.0.left w.1) c.if-more.branch in (
-      add-again _ _ _ _ _ _ c.in-One.is (omega arith) more,
+    (
+      add-again _ _ _ _ _ _ c.in-One.is (omega arith)
+          (elim c.if-more.branch [ then-more w ↦ more-then _ _ w.if-more.true w.result-is | else-more w ↦ more-else _ _ w.if-more.false w.result-is ]),
       (one-fits c.in-One.is c.requires.0.0, c.requires.0.1),
     )
 

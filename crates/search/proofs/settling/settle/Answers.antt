@@ -62,7 +62,7 @@ wait_of-w-requires c =
     let given = c.requires.searching.given in
     let room = c.requires.searching.room in
     let sized = c.requires.sized in
-    may-wait _ _ _ _ _ _ _ c.loop-size.invariant c.store.new.0 given room sized (omega arith) c.store.ensures.0.long
+    may-wait _ _ _ _ _ _ _ c.loop-size.invariant c.store.new.ws given room sized (omega arith) c.store.ensures.0.long
 
 pub loop-size-smaller-in-Known : goal.loop-size-smaller-in-Known
 loop-size-smaller-in-Known c = omega (arith, c.attempt-trial.ensures.spent)
@@ -74,7 +74,7 @@ loop-size-preserved-in-Known c =
     let sized = c.requires.sized in
     let known = c.in-Known.is in
     settling-back _ _ _ _ _ _ _ c.loop-size.invariant c.attempt-trial.ensures known sized c.store.ensures.0 c.store.ensures.1
-    (omega arith) (read-wait c.store.new.0 _ (c.loop-size.waiting - 1) sized c.wait_of-w.ensures) (omega arith)
+    (omega arith) (read-wait c.store.new.ws _ (c.loop-size.waiting - 1) sized c.wait_of-w.ensures) (omega arith)
 
 pub shape_of-ws-then-waiting-room : goal.shape_of-ws-then-waiting-room
 shape_of-ws-then-waiting-room c = c.loop-size.invariant.kept.long

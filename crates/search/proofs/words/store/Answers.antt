@@ -43,4 +43,4 @@ returns-in-Several c =
     c.set_at.ensures c.put.ensures
 
 pub shape_of-ws-in-Several : goal.shape_of-ws-in-Several
-shape_of-ws-in-Several c = (returns-3 c).0.long
+shape_of-ws-in-Several c = (returns-in-Several c).0.long
