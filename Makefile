@@ -14,8 +14,8 @@ fill = sed -e 's|@PREFIX@|$(PREFIX)|; s|@LIBDIR@|$(libdir)|; s|@INCLUDEDIR@|$(in
 library = target/staticlib/liballstar_c.a
 programs = notes tokens check_grammar audit_cache
 
-# The files that a crate and all crates that it knows are proved from.
-proved = $(shell find $$(tools/knows $(1) | sed 's|^|crates/|') -name must-fail -prune -o -print)
+# The files that a crate and all crates that it knows are proved from, and the folders that they stand in.
+proved = $(shell find $$(tools/knows $(1) | sed -E 's|(.*)|crates/\1/src crates/\1/specs crates/\1/proofs|') 2> /dev/null)
 
 .PHONY: all install uninstall
 .NOTPARALLEL:
@@ -24,11 +24,10 @@ all: $(library) $(programs:%=target/bin/%) target/rust/liballstar.rlib
 
 .SECONDEXPANSION:
 target/staticlib/lib%.a: $$(call proved,$$*)
-	@tools/rt staticlib $*
+	@tools/rt $*
 
 target/bin/%: $$(call proved,$$*)
-	@tools/rt check $*
-	@touch $@
+	@tools/rt $*
 
 target/rust/liballstar.rlib: $(library) $(wildcard rust/allstar/src/*.rs)
 	@mkdir -p target/rust

@@ -46,25 +46,27 @@ awk -v typed="$typed" '
         who = ""
     }
 
+    # What is left of a line in which a contract stands; contract is how many of its braces are open.
+    function behind_contract(line,    k, c) {
+        for (k = 1; k <= length(line); k++) {
+            c = substr(line, k, 1)
+            if (c == "{") contract++
+            if (c == "}" && --contract == 0) return substr(line, k + 1)
+        }
+        return ""
+    }
+
     FNR == 1 { close_function(); split(FILENAME, path, "/"); crate = path[2]; type = ""; contract = 0 }
     {
         sub(/(^|[ \t])\/\/.*/, "")
-        # A contract stands between corners, and may go over several lines.
-        while (1) {
-            if (contract) {
-                if (!(end = index($0, "⌝"))) { $0 = ""; break }
-                $0 = substr($0, end + length("⌝")); contract = 0
-            }
-            if (!(start = index($0, "⌜"))) break
-            if (end = index($0, "⌝")) $0 = substr($0, 1, start - 1) substr($0, end + length("⌝"))
-            else { kept = substr($0, 1, start - 1); $0 = ""; contract = 1; text = text " " kept; break }
-        }
+        # A contract stands between the braces behind `requires` or `ensures`, and may go over several lines.
+        if (contract || $0 ~ /^[ \t]*(requires|ensures)( [a-z_]+)? \{/) $0 = behind_contract($0)
     }
     /^impl / { close_function(); type = $2 }
     /^}/ { close_function(); type = "" }
-    /(^|[ \t])fn [a-z_0-9]+\(/ {
+    /(^|[ \t])fn [a-z_0-9]+(<[^(]*>)?\(/ {
         close_function()
-        called = $0; sub(/^.*fn /, "", called); sub(/\(.*/, "", called)
+        called = $0; sub(/^.*fn /, "", called); sub(/[<(].*/, "", called)
         who = (type == "" ? crate : type) "::" called; text = ""
         sub(/^.*fn /, "")
     }

@@ -6,21 +6,22 @@ work=$(mktemp -d)
 trap 'rm -rf "$work"' EXIT
 mkdir -p "$work/repository" "$work/bin" "$work/elsewhere"
 cp -r run tools crates.txt "$work/repository"
+mkdir -p "$work/repository/crates/notes/src"
+touch "$work/repository/crates/notes/src/main.rt"
 printf '1 2\n' > "$work/elsewhere/mine"
 # It takes its time for two crates, and its notes prints what it is given.
 cat > "$work/bin/rt" <<'END'
 #!/usr/bin/env bash
-mkdir -p target/log target/stamp target/bin
+[ "$1" = run ] || exit 2
+mkdir -p out ../base/out
 for crate in base notes; do
-    echo failed > target/log/$crate.res
-    echo > target/log/$crate.say
+    echo "rt: chose --jobs 2 for $crate"
     sleep 0.9
-    echo proved > target/log/$crate.res
-    echo "rt: $crate ${VERDICT:-proved} (1 s)"
+    echo "logic=${VERDICT:-proved} functions=1"
 done
-printf '#!/bin/sh\necho notes:\ncat\n' > target/bin/notes
-chmod +x target/bin/notes
-[ -z "${VERDICT:-}" ]
+printf '#!/bin/sh\necho notes:\ncat\n' > out/notes
+chmod +x out/notes
+[ -z "${VERDICT:-}" ] && out/notes
 END
 chmod +x "$work/bin/rt"
 cd "$work/elsewhere"
@@ -35,11 +36,11 @@ crates=$(../repository/tools/knows notes | wc -l)
 if ../repository/run missing 2> /dev/null; then echo "run: a file that is not there"; exit 1; fi
 [ ! -e ../repository/target ] || { echo "run: proves before it has its file"; exit 1; }
 expect "a first run" "Everything is proved before it runs, $crates crates: about five minutes the first time." \
-    "TIME 0 of $crates crates proved, now: base " "TIME 1 of $crates crates proved, now: notes " "notes:" "1 2" \
+    "TIME 0 of $crates crates proved, now: base" "TIME 1 of $crates crates proved, now: notes" "notes:" "1 2" \
     < <(../repository/run mine 2>&1)
-touch ../repository/target/stamp/base
 status=0
-said=$(VERDICT="NOT PROVED" ../repository/run mine 2>&1) || status=$?
+said=$(VERDICT=not-proved ../repository/run mine 2>&1) || status=$?
 [ "$status" -eq 1 ] || { echo "run: a failure is not told"; exit 1; }
-expect "a run that fails" "rt: base NOT PROVED (1 s)" "rt: notes NOT PROVED (1 s)" < <(grep -v now: <<< "$said")
+expect "a run that fails" "rt: chose --jobs 2 for base" "logic=not-proved functions=1" "rt: chose --jobs 2 for notes" "logic=not-proved functions=1" \
+    < <(grep -v now: <<< "$said")
 echo "run: shows what is proved, and takes a file of another folder"

@@ -29,13 +29,20 @@ fn delimiter(c: char) -> bool {
     c.is_whitespace() || "(){}[],;|=".contains(c)
 }
 
-// The names in a line of antt, its comment left out. `a.b` is also the name `a.b`.
+// The names in a line of antt, its comment left out. `a.b` may be the name `b` of `a`, or a projection of `a`.
 fn words(line: &str) -> Vec<String> {
     let code = match line.find("-- ") {
         Some(at) => &line[..at],
         None => line,
     };
-    code.split(delimiter).filter(|w| !w.is_empty() && *w != ":" && !w.starts_with('.')).map(|w| w.to_string()).collect()
+    let mut found: Vec<String> = vec![];
+    for word in code.split(delimiter).filter(|w| !w.is_empty() && *w != ":" && !w.starts_with('.')) {
+        found.push(word.to_string());
+        if let Some((projected, _)) = word.split_once('.') {
+            found.push(projected.to_string());
+        }
+    }
+    found
 }
 
 // The name that a line begins to define, and whether it is a record or a data type, whose fields or constructors follow.
@@ -63,13 +70,11 @@ fn defines(line: &str) -> Option<(String, bool)> {
     None
 }
 
-// `Rattle·grammar·specs.specs.inside.Tables` as `grammar/inside/Tables`; none for libraries, `=grammar/Symbol` for types that the code declares.
+// `Rattle.grammar.specs.inside.Tables` as `grammar/inside/Tables`; `=grammar/Symbol` for types that the code declares. A library's module is no module here.
 fn module_of(path: &str) -> Option<String> {
-    let rest = path.strip_prefix("Rattle·")?;
-    let (head, inside) = rest.split_once(".specs.")?;
-    let name = head.trim_end_matches("·specs");
+    let (name, inside) = path.strip_prefix("Rattle.")?.split_once(".specs.")?;
     match inside.strip_prefix("declared.") {
-        Some(kind) => Some(format!("={}/{}", name, kind.trim_end_matches(".the-variants").rsplit('.').next()?)),
+        Some(kind) => Some(format!("={}/{}", name, kind.trim_end_matches(".TheVariants").rsplit('.').next()?)),
         None => Some(format!("{}/{}", name, inside.replace('.', "/"))),
     }
 }

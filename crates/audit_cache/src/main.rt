@@ -3,13 +3,17 @@
 // first.
 #![tactic(auto)]
 
-ghost use Rattle.std.specs.Prelude.{◌≤◌, length};
+ghost use Rattle.std.specs.Prelude.{◌≤◌, IfOk, length};
 
 use allstar::Audit;
-use libc::{STDIN_FILENO, STDOUT_FILENO};
+use std::io;
+use std::io::{Read, Write};
 
 // The words of the longest cache that is looked at: it has as many slots as are ever used.
 const CACHE_WORDS: usize = allstar::FIXED_WORDS + allstar::MAX_SLOTS * allstar::SLOT_WORDS;
+
+// The bytes of one reading of the input, and the grammar bytes that are kept.
+const READING_BYTES: usize = 4096;
 
 // What is answered for words that are torn: more than the cache takes, or a last one that is cut off.
 const TORN: usize = CACHE_WORDS + 1;
@@ -23,7 +27,8 @@ fn joined(a: u8, b: u8, c: u8, d: u8) -> u32 {
 // whole word are left out.
 fn put(bytes: &[u8], cache: &mut [u32], held: usize) -> usize
     requires { held ≤ length cache.old }
-    ensures { (held ≤ result) × (result ≤ length cache.new) }
+    ensures lower_bound { held ≤ result }
+    ensures upper_bound { result ≤ length cache.new }
 {
     let n = bytes.len();
     let room = cache.len();
@@ -40,103 +45,121 @@ fn put(bytes: &[u8], cache: &mut [u32], held: usize) -> usize
     k
 }
 
+// Reads until the bytes are full or the input ends, and answers how many were read.
+fn read_full<R: Read>(input: &mut R, bytes: &mut [u8]) -> io::Result<usize>
+    ensures { IfOk result (λ n. n ≤ length bytes.new) }
+{
+    let mut done = 0;
+    while done < bytes.len() {
+        let n = input.read(&mut bytes[done..])?;
+        if n == 0 {
+            break;
+        }
+        done += n;
+    }
+    Ok(done)
+}
+
 // Reads the words of the input, up to its end, and answers how many there are, or that they are torn.
-fn read_words(cache: &mut [u32]) -> usize {
-    let mut bytes = io::buffer();
+fn read_words<R: Read>(input: &mut R, cache: &mut [u32]) -> io::Result<usize> {
+    let mut bytes = [0u8; READING_BYTES];
     let room = cache.len();
     let mut held = 0;
     while held < room {
-        let n = io::read_full(STDIN_FILENO, &mut bytes);
+        let n = read_full(input, &mut bytes)?;
         let more = put(&bytes[..n], cache, held);
         if n % 4 != 0 {
-            return TORN;
+            return Ok(TORN);
         }
         if more - held != n / 4 {
-            return TORN;
+            return Ok(TORN);
         }
-        if n < 4096 {
-            return more;
+        if n < READING_BYTES {
+            return Ok(more);
         }
         held = more;
     }
-    if io::read_full(STDIN_FILENO, &mut bytes) == 0 {
-        return held;
+    if read_full(input, &mut bytes)? == 0 {
+        return Ok(held);
     }
-    TORN
+    Ok(TORN)
 }
 
 // Reads the number of grammar bytes: 0 where the input ends before that.
-fn read_count() -> usize {
+fn read_count<R: Read>(input: &mut R) -> io::Result<usize> {
     let mut head = [0u8; 4];
-    if io::read_full(STDIN_FILENO, &mut head) < 4 {
-        return 0;
+    if read_full(input, &mut head)? < 4 {
+        return Ok(0);
     }
-    joined(head[0], head[1], head[2], head[3]) as usize
+    Ok(joined(head[0], head[1], head[2], head[3]) as usize)
 }
 
 // How many of so many grammar bytes are kept.
 fn kept(count: usize) -> usize
     ensures { result ≤ 4096 }
 {
-    if count < 4096 {
+    if count < READING_BYTES {
         return count;
     }
-    4096
+    READING_BYTES
 }
 
 // Reads that many grammar bytes, as far as they are there and are kept, and answers how many these are.
-fn read_grammar(bytes: &mut [u8], count: usize) -> usize
+fn read_grammar<R: Read>(input: &mut R, bytes: &mut [u8], count: usize) -> io::Result<usize>
     requires { 4096 ≤ length bytes.old }
-    ensures { result ≤ length bytes.new }
+    ensures { IfOk result (λ n. n ≤ length bytes.new) }
 {
     let most = kept(count);
-    let got = io::read_full(STDIN_FILENO, &mut bytes[..most]);
-    kept(got)
+    read_full(input, &mut bytes[..most])
 }
 
 // Reads the words behind a grammar: none where fewer of its bytes were kept than it should have.
-fn read_behind(got: usize, count: usize, cache: &mut [u32]) -> usize {
+fn read_behind<R: Read>(
+    input: &mut R,
+    got: usize,
+    count: usize,
+    cache: &mut [u32],
+) -> io::Result<usize> {
     if got < count {
-        return 0;
+        return Ok(0);
     }
-    read_words(cache)
+    read_words(input, cache)
 }
 
 // Writes an answer.
-fn tell(number: u32, place: usize) {
+fn tell<W: Write>(out: &mut W, number: u32, place: usize) -> io::Result<()> {
     if number == 0 {
-        io::write_all(STDOUT_FILENO, b"yes\n");
-        return;
+        return out.write_all(b"yes\n");
     }
-    io::write_all(STDOUT_FILENO, b"no ");
-    io::print_decimal(STDOUT_FILENO, number as u64);
-    io::write_all(STDOUT_FILENO, b" ");
-    io::print_decimal(STDOUT_FILENO, place as u64);
-    io::write_all(STDOUT_FILENO, b"\n");
+    writeln!(out, "no {number} {place}")
 }
 
 // Answers for a grammar and the first so many words. A cache that is torn was not begun at a length that can be lent.
-fn answer(grammar: &[u8], cache: &[u32], words: usize) {
+fn answer<W: Write>(
+    out: &mut W,
+    grammar: &[u8],
+    cache: &[u32],
+    words: usize,
+) -> io::Result<()> {
     if words <= cache.len() {
         let audited = allstar::audit(grammar, &cache[..words]);
-        tell(audited.number(), audited.place());
-        return;
+        return tell(out, audited.number(), audited.place());
     }
     let verdict = allstar::check(grammar);
     if verdict.number() == 0 {
-        tell(Audit::ForeignCache.number(), Audit::ForeignCache.place());
-        return;
+        return tell(out, Audit::ForeignCache.number(), Audit::ForeignCache.place());
     }
-    tell(verdict.number(), verdict.place());
+    tell(out, verdict.number(), verdict.place())
 }
 
 // A grammar is complete, or refused, within its first 870 bytes (`check-first` of `soundness`), and 4,096 are kept: where there are more of them, or fewer than
 // the number says, no words are left for the cache.
-fn main() {
-    let mut grammar = io::buffer();
+fn main(rt: HostRuntime) -> io::Result<()> {
+    let mut grammar = [0u8; READING_BYTES];
     let mut cache = [0u32; CACHE_WORDS];
-    let count = read_count();
-    let n = read_grammar(&mut grammar, count);
-    let words = read_behind(n, count, &mut cache);
-    answer(&grammar[..n], &cache, words);
+    let mut input = rt.stdin();
+    let count = read_count(&mut input)?;
+    let n = read_grammar(&mut input, &mut grammar, count)?;
+    let words = read_behind(&mut input, n, count, &mut cache)?;
+    answer(&mut rt.stdout(), &grammar[..n], &cache, words)
 }

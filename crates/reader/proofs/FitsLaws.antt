@@ -10,7 +10,7 @@ use Rattle.base.proofs.Lists.{slice_get}
 use Rattle.reader.specs.inside.Types.{Symbol, Nonterminal}
 use Rattle.grammar.specs.Limits.{max_nonterminals, max_places, end_place}
 use Rattle.grammar.specs.Decode.{Rules}
-use Rattle.grammar.specs.Grammar.{Grammar, at, facing, owner, size_all, compile, Limited}
+use Rattle.grammar.specs.Grammar.{Grammar, facing, owner, size_all, compile, Limited}
 use Rattle.grammar.specs.Derivation.{oneth}
 use Rattle.grammar.specs.inside.Ordered.{Ordered}
 use Rattle.grammar.specs.inside.Tables.{rule_words, firsts_at, rules_at, corners_at, table_words, corner_at}

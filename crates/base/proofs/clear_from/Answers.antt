@@ -1,6 +1,5 @@
 -- The goals of `base::clear_from` that are not found.
 use mathlib.Core.Path.{refl}
-use Prim.Native.Nat.{◌-◌}
 use native.Mathlib.Omega.{arith}
 use lib.ListN.{length-set}
 use Rattle.base.proofs.ClearLaws.{zeros-next, zeros-end}

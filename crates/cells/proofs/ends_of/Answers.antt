@@ -1,6 +1,5 @@
 -- The goals of `cells::ends_of` that are not found.
 use mathlib.Core.Path.{sym, ◌∙◌}
-use Prim.Native.Nat.{◌-◌}
 use native.Mathlib.Omega.{arith}
 use Rattle.cells.proofs.Spots.{spot_in, cell-member, sized, lent-sized}
 use Rattle.derivation.proofs.FirstLaws.{rule-within, first-in}
@@ -8,12 +7,11 @@ use Rattle.cells.proofs.GatherLaws.{gather-begins, gather-more, gather-cells}
 use Rattle.cells.proofs.ends_of.Goals as goal
 
 pub loop-k-init : goal.loop-k-init
-loop-k-init c =
-    (
-      omega arith,
-      gather-begins _ _ _ c.requires.ready c.requires.named c.rule_at-start.ensures c.rule_at-end.ensures
-          c.empty-r.ensures,
-    )
+loop-k-init c = (
+  omega arith,
+  gather-begins _ _ _ c.requires.ready c.requires.named c.rule_at-start.ensures c.rule_at-end.ensures
+      c.empty-r.ensures,
+)
 
 pub first_place-f-requires : goal.first_place-f-requires
 first_place-f-requires c =
@@ -31,14 +29,13 @@ cell-t-requires c =
     )) c.requires.lent.here
 
 pub loop-k-preserved : goal.loop-k-preserved
-loop-k-preserved c =
-    (
-      omega arith,
-      gather-more _ _ _ _ _ _ _ c.loop-k.invariant.1 c.loop-k-test.true
-          (rule-within _ c.requires.ready _ c.requires.named c.rule_at-start.ensures c.rule_at-end.ensures)
-          c.first_place-f.ensures (λ j l. cell-member _ _ _ _ _ c.cell-t.ensures l ∙ sym (sized c.size-places.ensures _ _ _ _))
-          c.union-r.ensures,
-    )
+loop-k-preserved c = (
+  omega arith,
+  gather-more _ _ _ _ _ _ _ c.loop-k.invariant.1 c.loop-k-test.true
+      (rule-within _ c.requires.ready _ c.requires.named c.rule_at-start.ensures c.rule_at-end.ensures)
+      c.first_place-f.ensures (λ j l. cell-member _ _ _ _ _ c.cell-t.ensures l ∙ sym (sized c.size-places.ensures _ _ _ _))
+      c.union-r.ensures,
+)
 
 pub returns : goal.returns
 returns c = gather-cells _ _ _ _ _ _ _ c.loop-k.invariant.1 (omega arith)

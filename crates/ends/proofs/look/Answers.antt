@@ -1,5 +1,4 @@
 -- The goals of `ends::look` that are not found.
-use Prim.Native.Nat.{◌-◌}
 use native.Mathlib.Omega.{arith}
 use Rattle.derivation.proofs.FirstLaws.{rule-within, first-in}
 use Rattle.cells.proofs.GatherLaws.{gather-begins, gather-more, gather-ends}
@@ -8,12 +7,11 @@ use Rattle.ends.proofs.LookLaws.{looked}
 use Rattle.ends.proofs.look.Goals as goal
 
 pub loop-k-init : goal.loop-k-init
-loop-k-init c =
-    (
-      omega arith,
-      gather-begins _ _ _ c.requires.row.ready c.requires.named c.rule_at-start.ensures c.rule_at-end.ensures
-          c.empty-r.ensures,
-    )
+loop-k-init c = (
+  omega arith,
+  gather-begins _ _ _ c.requires.row.ready c.requires.named c.rule_at-start.ensures c.rule_at-end.ensures
+      c.empty-r.ensures,
+)
 
 pub first_place-f-requires : goal.first_place-f-requires
 first_place-f-requires c =
@@ -29,13 +27,12 @@ begun-t-requires c =
     record { row = c.requires.row; long = c.requires.long; within = within }
 
 pub loop-k-preserved : goal.loop-k-preserved
-loop-k-preserved c =
-    (
-      omega arith,
-      gather-more _ _ _ _ _ _ _ c.loop-k.invariant.1 c.loop-k-test.true
-          (rule-within _ c.requires.row.ready _ c.requires.named c.rule_at-start.ensures c.rule_at-end.ensures)
-          c.first_place-f.ensures (begun-members _ _ _ _ _ _ _ c.begun-t.ensures) c.union-r.ensures,
-    )
+loop-k-preserved c = (
+  omega arith,
+  gather-more _ _ _ _ _ _ _ c.loop-k.invariant.1 c.loop-k-test.true
+      (rule-within _ c.requires.row.ready _ c.requires.named c.rule_at-start.ensures c.rule_at-end.ensures)
+      c.first_place-f.ensures (begun-members _ _ _ _ _ _ _ c.begun-t.ensures) c.union-r.ensures,
+)
 
 pub overflow_mul-a : goal.overflow_mul-a
 overflow_mul-a c = omega (arith, c.requires.named, c.requires.row.ready.fits.few)

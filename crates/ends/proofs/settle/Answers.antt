@@ -1,6 +1,5 @@
 -- The goals of `ends::settle` that are not found.
 use mathlib.Core.Path.{refl, ap}
-use Prim.Native.Nat.{◌-◌}
 use native.Mathlib.Omega.{arith}
 use lib.ListN.{length}
 use Rattle.ends.proofs.LookLaws.{sound_none}
@@ -31,12 +30,11 @@ look-requires c =
     }
 
 pub loop-k-preserved : goal.loop-k-preserved
-loop-k-preserved c =
-    (
-      omega (arith, c.loop-k.invariant.0),
-      judged-on _ _ _ _ c.requires.row _ c.requires.lined _ _ _ (omega (arith, c.nonterminals-n.ensures)) c.loop-k.invariant.1 refl
-          c.look.ensures,
-    )
+loop-k-preserved c = (
+  omega (arith, c.loop-k.invariant.0),
+  judged-on _ _ _ _ c.requires.row _ c.requires.lined _ _ _ (omega (arith, c.nonterminals-n.ensures)) c.loop-k.invariant.1 refl
+      c.look.ensures,
+)
 
 pub shape_of-ends : goal.shape_of-ends
 shape_of-ends c = omega (arith, c.loop-k.invariant.0, ap length c.requires.empty)

@@ -1,6 +1,5 @@
 -- The goals of `lines::parse` that are not found.
 use mathlib.Core.Path.{refl}
-use Prim.Native.Nat.{◌-◌}
 use native.Mathlib.Omega.{arith}
 use lib.ListN.{length-set}
 use Rattle.lines.proofs.LineLaws.{nothing, going-begins, blank-first, blank-many}
@@ -34,15 +33,14 @@ returns-then-count-ge-MAX_TOKENS c =
     }
 
 pub loop-i-preserved-then-b-eq32 : goal.loop-i-preserved-then-b-eq32
-loop-i-preserved-then-b-eq32 c =
-    (
-      blank-on _ _ _ _ _ _ c.loop-i.invariant.0 (omega arith) c.wide-b.ensures c.if-b-eq32.true c.if-digits-eq0.false (omega arith)
-          c.narrow.ensures,
-      simp length-set (omega arith),
-      omega arith,
-      omega arith,
-      omega arith,
-    )
+loop-i-preserved-then-b-eq32 c = (
+  blank-on _ _ _ _ _ _ c.loop-i.invariant.0 (omega arith) c.wide-b.ensures c.if-b-eq32.true c.if-digits-eq0.false (omega arith)
+      c.narrow.ensures,
+  simp length-set (omega arith),
+  omega arith,
+  omega arith,
+  omega arith,
+)
 
 pub returns-then-b-lt48 : goal.returns-then-b-lt48
 returns-then-b-lt48 c =
@@ -74,15 +72,14 @@ returns-then-value-gt-MAX_TOKEN c =
     }
 
 pub loop-i-preserved : goal.loop-i-preserved
-loop-i-preserved c =
-    (
-      digit-on _ _ _ _ _ _ c.loop-i.invariant.0 (omega arith) c.wide-b.ensures c.if-b-eq32.false (omega arith) (omega arith) (omega arith)
-          (omega arith) (omega arith),
-      omega arith,
-      omega arith,
-      omega arith,
-      omega arith,
-    )
+loop-i-preserved c = (
+  digit-on _ _ _ _ _ _ c.loop-i.invariant.0 (omega arith) c.wide-b.ensures c.if-b-eq32.false (omega arith) (omega arith) (omega arith)
+      (omega arith) (omega arith),
+  omega arith,
+  omega arith,
+  omega arith,
+  omega arith,
+)
 
 pub returns-then-digits-eq0-2 : goal.returns-then-digits-eq0-2
 returns-then-digits-eq0-2 c =

@@ -9,6 +9,6 @@ returns-then-v-eq0-2 c = legal-zero _ _ _ c.if-v-eq0-2.true
 pub returns : goal.returns
 returns c =
     elim c.if-v-eq0.branch [
-      then-v-eq0 w ↦ rw w.limit-is (legal-token _ _ _ w.if-v-eq0.true c.if-v-eq0-2.false)
-    | else-v-eq0 w ↦ rw w.limit-is (legal-nonterminal _ _ _ w.if-v-eq0.false)
+      | then-v-eq0 w ↦ rw w.limit-is (legal-token _ _ _ w.if-v-eq0.true c.if-v-eq0-2.false)
+      | else-v-eq0 w ↦ rw w.limit-is (legal-nonterminal _ _ _ w.if-v-eq0.false)
     ]

@@ -1,6 +1,5 @@
 -- The goals of `order::line_up` that are not found.
 use mathlib.Core.Path.{refl}
-use Prim.Native.Nat.{◌-◌}
 use native.Mathlib.Omega.{arith}
 use Rattle.order.proofs.PlacingLaws.{placing-none, placing-all}
 use Rattle.order.proofs.line_up.Goals as goal

@@ -1,6 +1,5 @@
 -- The goals of `order::sweep` that are not found.
 use mathlib.Core.Path.{refl}
-use Prim.Native.Nat.{◌-◌}
 use native.Mathlib.Omega.{arith}
 use Rattle.order.proofs.PlacingLaws.{placing-on, placing-fits}
 use Rattle.order.proofs.SweepLaws.{none_yet, none_more, turn-named, sweep-grows}
@@ -51,10 +50,9 @@ loop-k-preserved c =
     )
 
 pub returns : goal.returns
-returns c =
-    (
-      c.loop-k.invariant.2,
-      sweep-grows _ _ _ _ _ _ _ c.requires.ready c.loop-k.invariant.2 c.nonterminals-n.ensures c.requires.left
-          c.loop-k.invariant.1
-          c.loop-k.invariant.3 (omega arith),
-    )
+returns c = (
+  c.loop-k.invariant.2,
+  sweep-grows _ _ _ _ _ _ _ c.requires.ready c.loop-k.invariant.2 c.nonterminals-n.ensures c.requires.left
+      c.loop-k.invariant.1
+      c.loop-k.invariant.3 (omega arith),
+)

@@ -1,5 +1,4 @@
 -- The goals of `positions::next` that are not found.
-use Prim.Native.Nat.{◌-◌}
 use native.Mathlib.Omega.{arith}
 use Rattle.positions.proofs.NextLaws.{clear_none, none_left, all-clear, word-found, word-clear}
 use Rattle.positions.proofs.next.Goals as goal

@@ -1,6 +1,5 @@
 -- The goals of `reach::anywhere` that are not found.
 use native.Mathlib.Omega.{arith}
-use Prim.Native.Nat.{◌-◌}
 use Rattle.reach.proofs.LastLaws.{any-begin, any_next, any-end}
 use Rattle.reach.proofs.anywhere.Goals as goal
 

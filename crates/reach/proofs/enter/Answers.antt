@@ -1,7 +1,6 @@
 -- The goals of `reach::enter` that are not found.
 use native.Mathlib.Omega.{arith}
 use mathlib.Core.Path.{refl}
-use Prim.Native.Nat.{◌-◌}
 use Rattle.derivation.proofs.FirstLaws.{rule-within}
 use Rattle.reach.proofs.EnterLaws.{first_small, enter-begin, enter-new, enter-old, enter-end}
 use Rattle.reach.proofs.enter.Goals as goal
@@ -27,22 +26,20 @@ mark-requires c =
     }
 
 pub loop-k-preserved-then-mark : goal.loop-k-preserved-then-mark
-loop-k-preserved-then-mark c =
-    (
-      omega arith,
-      omega (arith, c.mark.auto.sets),
-      enter-new c.args.tables.now _ _ _ _ c.first_place-f.ensures c.loop-k.invariant.0 (omega arith) c.loop-k.invariant.2
-          c.mark.ensures c.if-mark.true,
-    )
+loop-k-preserved-then-mark c = (
+  omega arith,
+  omega (arith, c.mark.auto.sets),
+  enter-new c.args.tables.now _ _ _ _ c.first_place-f.ensures c.loop-k.invariant.0 (omega arith) c.loop-k.invariant.2
+      c.mark.ensures c.if-mark.true,
+)
 
 pub loop-k-preserved : goal.loop-k-preserved
-loop-k-preserved c =
-    (
-      omega arith,
-      omega (arith, c.mark.auto.sets),
-      enter-old c.args.tables.now _ _ _ _ c.first_place-f.ensures c.loop-k.invariant.0 (omega arith) c.loop-k.invariant.2
-          c.mark.ensures c.if-mark.false,
-    )
+loop-k-preserved c = (
+  omega arith,
+  omega (arith, c.mark.auto.sets),
+  enter-old c.args.tables.now _ _ _ _ c.first_place-f.ensures c.loop-k.invariant.0 (omega arith) c.loop-k.invariant.2
+      c.mark.ensures c.if-mark.false,
+)
 
 pub returns : goal.returns
 returns c =

@@ -3,7 +3,6 @@ use mathlib.Core.Bool.{not}
 use native.Mathlib.Omega.{arith}
 use Rattle.derivation.proofs.ReadyLaws.{ready-size}
 use mathlib.Core.Path.{refl, ap}
-use Prim.Native.Nat.{◌-◌}
 use Rattle.reach.proofs.PassLaws.{holds-stands, pass-begin, pass-out, pass-new, pass-old, pass-before, pass-end, stepped-more}
 use Rattle.reach.proofs.pass.Goals as goal
 

@@ -1,6 +1,6 @@
 -- The goals of `reach::wrong_place` that are not found.
 use mathlib.Core.Path.{refl}
-use Prim.Native.Nat.{ℕ, ◌-◌}
+use Prim.Native.Nat.{ℕ}
 use native.Mathlib.Omega.{arith}
 use lib.ListN.{length-replicate}
 use Rattle.derivation.proofs.ReadyLaws.{ready-size}
@@ -15,12 +15,11 @@ enter-entered-requires c =
     record { ready = c.requires.ready; named = start-known _ c.requires.ready; position = omega arith; long = length-replicate {A = ℕ} sets_words 0 }
 
 pub loop-i-init : goal.loop-i-init
-loop-i-init c =
-    (
-      omega arith,
-      omega (arith, c.enter-entered.auto.sets, length-replicate {A = ℕ} sets_words 0),
-      found-begin _ _ c.requires.ready (omega (arith, c.requires.lent.short)) sets_words refl c.enter-entered.ensures,
-    )
+loop-i-init c = (
+  omega arith,
+  omega (arith, c.enter-entered.auto.sets, length-replicate {A = ℕ} sets_words 0),
+  found-begin _ _ c.requires.ready (omega (arith, c.requires.lent.short)) sets_words refl c.enter-entered.ensures,
+)
 
 pub settle-requires : goal.settle-requires
 settle-requires c = record { given = c.requires; here = omega arith; long = c.loop-i.invariant.1 }
@@ -29,12 +28,11 @@ pub overflow_add-i : goal.overflow_add-i
 overflow_add-i c = omega (arith, c.requires.lent.short)
 
 pub loop-i-preserved : goal.loop-i-preserved
-loop-i-preserved c =
-    (
-      omega arith,
-      omega (arith, c.settle.auto.sets),
-      found-next _ _ c.requires.ready (omega (arith, c.requires.lent.short)) _ (omega arith) c.loop-i.invariant.2 c.settle.ensures,
-    )
+loop-i-preserved c = (
+  omega arith,
+  omega (arith, c.settle.auto.sets),
+  found-next _ _ c.requires.ready (omega (arith, c.requires.lent.short)) _ (omega arith) c.loop-i.invariant.2 c.settle.ensures,
+)
 
 pub size-requires : goal.size-requires
 size-requires c = c.requires.ready.fits.long

@@ -2,7 +2,6 @@
 use native.Mathlib.Omega.{arith}
 use borrow.Author.Rules.{rules}
 use mathlib.Core.Path.{refl, ◌∙◌}
-use Prim.Native.Nat.{◌-◌}
 use lib.ListN.{length-set}
 use Rattle.number.proofs.NumberLaws.{limited-is}
 use Rattle.number.proofs.CountLaws.{limited-tallied}
@@ -28,11 +27,10 @@ returns-then-p-m-gt-MAX_PLACES c =
     productions-full _ _ _ _ _ _ _ _ _ (omega arith) c.loop-k.invariant.4 c.limited-n.ensures c.in-Value.is (omega arith)
 
 pub symbols-piece-requires : goal.symbols-piece-requires
-symbols-piece-requires c =
-    (
-      record { kinds-most = omega arith; few = omega arith; room = omega arith; long = simp length-set (omega arith) },
-      limited-tallied _ _ c.loop-k.invariant.5.1 _ _ c.limited-n.ensures c.in-Value.is,
-    )
+symbols-piece-requires c = (
+  record { kinds-most = omega arith; few = omega arith; room = omega arith; long = simp length-set (omega arith) },
+  limited-tallied _ _ c.loop-k.invariant.5.1 _ _ c.limited-n.ensures c.in-Value.is,
+)
 
 pub shape_of-tables-in_default-piece : goal.shape_of-tables-in_default-piece
 shape_of-tables-in_default-piece c = omega (arith, simp length-set at c.symbols-piece.auto.tables)

@@ -1,7 +1,6 @@
 -- The goals of `reader::rules` that are not found.
 use native.Mathlib.Omega.{arith}
 use mathlib.Core.Path.{refl}
-use Prim.Native.Nat.{◌-◌}
 use native.Mathlib.Nat.{sub-zero}
 use lib.ListN.{length-set}
 use Rattle.number.proofs.NumberLaws.{limited-is}
@@ -17,13 +16,12 @@ pub returns-in_default : goal.returns-in_default
 returns-in_default c = rules-refused _ _ _ _ _ _ _ _ _ (omega arith) c.loop-a.invariant.4 c.limited-n.ensures c.in_default.is
 
 pub productions-piece-requires : goal.productions-piece-requires
-productions-piece-requires c =
-    (
-      record { kinds-most = omega arith; few = omega arith; room = omega arith; long = simp length-set (omega arith) },
-      limited-tallied _ _ c.loop-a.invariant.5.1 _ _ c.limited-n.ensures c.in-Value.is,
-      omega arith,
-      omega (arith, limited-is _ _ _ _ c.limited-n.ensures c.in-Value.is),
-    )
+productions-piece-requires c = (
+  record { kinds-most = omega arith; few = omega arith; room = omega arith; long = simp length-set (omega arith) },
+  limited-tallied _ _ c.loop-a.invariant.5.1 _ _ c.limited-n.ensures c.in-Value.is,
+  omega arith,
+  omega (arith, limited-is _ _ _ _ c.limited-n.ensures c.in-Value.is),
+)
 
 pub shape_of-tables-in_default-piece : goal.shape_of-tables-in_default-piece
 shape_of-tables-in_default-piece c = omega (arith, simp length-set at c.productions-piece.auto.tables)

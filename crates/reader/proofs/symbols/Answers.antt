@@ -22,14 +22,13 @@ symbol_word-requires c =
     omega arith
 
 pub loop-p-preserved : goal.loop-p-preserved
-loop-p-preserved c =
-    (
-      omega arith,
-      simp length-set (omega arith),
-      symbols-left _ _ _ _ _ _ _ (omega arith)
-          ∙ symbols-more _ _ _ _ _ _ _ _ (omega arith) c.loop-p.invariant.2 c.symbol-n.ensures c.in-Value.is c.symbol_word.ensures,
-      symbol-tallied _ _ c.loop-p.invariant.3.1 _ _ c.symbol-n.ensures c.in-Value.is,
-    )
+loop-p-preserved c = (
+  omega arith,
+  simp length-set (omega arith),
+  symbols-left _ _ _ _ _ _ _ (omega arith)
+      ∙ symbols-more _ _ _ _ _ _ _ _ (omega arith) c.loop-p.invariant.2 c.symbol-n.ensures c.in-Value.is c.symbol_word.ensures,
+  symbol-tallied _ _ c.loop-p.invariant.3.1 _ _ c.symbol-n.ensures c.in-Value.is,
+)
 
 pub returns : goal.returns
 returns c = symbols-done _ _ _ _ _ _ _ _ c.loop-p.invariant.3 (omega arith) c.loop-p.invariant.2 c.end_word.ensures

@@ -1,7 +1,6 @@
 -- The goals of `auditing::layout::all_slots` that are not found.
 use mathlib.Core.Bool.{not}
 use mathlib.Core.Path.{ap}
-use Prim.Native.Nat.{◌-◌}
 use native.Mathlib.Omega.{arith}
 use Rattle.base.proofs.Booleans.{failed, passed}
 use Rattle.base.proofs.AllLaws.{all-begin, all-next, all-fails, all_done}

@@ -1,7 +1,6 @@
 -- The goals of `auditing::layout::kept` that are not found.
 use mathlib.Core.Bool.{not}
 use mathlib.Core.Path.{ap}
-use Prim.Native.Nat.{◌-◌}
 use native.Mathlib.Omega.{arith}
 use Rattle.base.proofs.AllLaws.{all-next, all-fails, all_done}
 use Rattle.auditing.proofs.KeptSteps.{kept_by, unfit, fit, first, below, above, exact-fit, fit_next}
@@ -15,11 +14,10 @@ returns-then-not-fits c =
     all-fails _ _ _ (omega arith) (unfit _ _ c.member-c.ensures c.fits.ensures (ap not c.if-not-fits.true)) c.loop-k.invariant.0
 
 pub precedes-requires : goal.precedes-requires
-precedes-requires c =
-    (
-      exact-fit _ _ c.member.ensures (c.loop-k.invariant.1 _ (omega arith)),
-      exact-fit _ _ c.member-c.ensures (fit _ _ c.member-c.ensures c.fits.ensures (ap not c.if-not-fits.false)),
-    )
+precedes-requires c = (
+  exact-fit _ _ c.member.ensures (c.loop-k.invariant.1 _ (omega arith)),
+  exact-fit _ _ c.member-c.ensures (fit _ _ c.member-c.ensures c.fits.ensures (ap not c.if-not-fits.false)),
+)
 
 pub returns-then-not-precedes : goal.returns-then-not-precedes
 returns-then-not-precedes c =
@@ -27,20 +25,18 @@ returns-then-not-precedes c =
     c.member.ensures c.precedes.ensures (ap not c.if-not-precedes.true)) c.loop-k.invariant.0
 
 pub loop-k-preserved-else-not-precedes : goal.loop-k-preserved-else-not-precedes
-loop-k-preserved-else-not-precedes c =
-    (
-      all-next _ _ _ (omega arith) (above _ _ c.member-c.ensures c.fits.ensures (ap not c.if-not-fits.false) (omega arith)
-          c.member.ensures c.precedes.ensures (ap not c.if-not-precedes.false)) c.loop-k.invariant.0,
-      fit_next _ _ c.loop-k.invariant.1 (fit _ _ c.member-c.ensures c.fits.ensures (ap not c.if-not-fits.false)),
-    )
+loop-k-preserved-else-not-precedes c = (
+  all-next _ _ _ (omega arith) (above _ _ c.member-c.ensures c.fits.ensures (ap not c.if-not-fits.false) (omega arith)
+      c.member.ensures c.precedes.ensures (ap not c.if-not-precedes.false)) c.loop-k.invariant.0,
+  fit_next _ _ c.loop-k.invariant.1 (fit _ _ c.member-c.ensures c.fits.ensures (ap not c.if-not-fits.false)),
+)
 
 pub loop-k-preserved : goal.loop-k-preserved
-loop-k-preserved c =
-    (
-      all-next _ _ _ (omega arith) (first _ _ c.member-c.ensures c.fits.ensures (ap not c.if-not-fits.false) (omega arith))
-          c.loop-k.invariant.0,
-      fit_next _ _ c.loop-k.invariant.1 (fit _ _ c.member-c.ensures c.fits.ensures (ap not c.if-not-fits.false)),
-    )
+loop-k-preserved c = (
+  all-next _ _ _ (omega arith) (first _ _ c.member-c.ensures c.fits.ensures (ap not c.if-not-fits.false) (omega arith))
+      c.loop-k.invariant.0,
+  fit_next _ _ c.loop-k.invariant.1 (fit _ _ c.member-c.ensures c.fits.ensures (ap not c.if-not-fits.false)),
+)
 
 pub returns : goal.returns
 returns c = all_done _ _ _ (omega arith) c.loop-k.invariant.0

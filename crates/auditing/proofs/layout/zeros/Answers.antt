@@ -1,5 +1,4 @@
 -- The goals of `auditing::layout::zeros` that are not found.
-use Prim.Native.Nat.{◌-◌}
 use native.Mathlib.Omega.{arith}
 use Rattle.auditing.proofs.LayoutSteps.{joined-begin, joined-next, joined-done}
 use Rattle.auditing.proofs.layout.zeros.Goals as goal

@@ -1,7 +1,6 @@
 -- The goals of `auditing::records::all_steps` that are not found.
 use mathlib.Core.Bool.{not}
 use mathlib.Core.Path.{ap}
-use Prim.Native.Nat.{◌-◌}
 use native.Mathlib.Omega.{arith}
 use Rattle.base.proofs.Booleans.{failed, passed}
 use Rattle.base.proofs.AllLaws.{all-next, all-fails, all_done}
@@ -19,11 +18,10 @@ pub returns-then-not-steps : goal.returns-then-not-steps
 returns-then-not-steps c = all-fails _ _ _ (omega arith) (failed c.steps.ensures (ap not c.if-not-steps.true)) c.loop-s.invariant.0
 
 pub loop-s-preserved : goal.loop-s-preserved
-loop-s-preserved c =
-    (
-      all-next _ _ _ (omega arith) (passed c.steps.ensures (ap not c.if-not-steps.false)) c.loop-s.invariant.0,
-      omega (arith, c.steps.auto.members, c.loop-s.invariant.1),
-    )
+loop-s-preserved c = (
+  all-next _ _ _ (omega arith) (passed c.steps.ensures (ap not c.if-not-steps.false)) c.loop-s.invariant.0,
+  omega (arith, c.steps.auto.members, c.loop-s.invariant.1),
+)
 
 pub returns : goal.returns
 returns c = all_done _ _ _ (omega arith) c.loop-s.invariant.0

@@ -1,7 +1,6 @@
 -- The goals of `auditing::records::starts` that are not found.
 use mathlib.Core.Bool.{not}
 use mathlib.Core.Path.{ap}
-use Prim.Native.Nat.{◌-◌}
 use native.Mathlib.Omega.{arith}
 use Rattle.base.proofs.Booleans.{failed, passed}
 use Rattle.base.proofs.AllLaws.{all-begin, all-next, all-fails, all_done}
@@ -17,11 +16,10 @@ pub returns-then-not-start : goal.returns-then-not-start
 returns-then-not-start c = all-fails _ _ _ (omega arith) (failed c.start.ensures (ap not c.if-not-start.true)) c.loop-a.invariant.0
 
 pub loop-a-preserved : goal.loop-a-preserved
-loop-a-preserved c =
-    (
-      all-next _ _ _ (omega arith) (passed c.start.ensures (ap not c.if-not-start.false)) c.loop-a.invariant.0,
-      omega (arith, c.start.auto.members, c.loop-a.invariant.1),
-    )
+loop-a-preserved c = (
+  all-next _ _ _ (omega arith) (passed c.start.ensures (ap not c.if-not-start.false)) c.loop-a.invariant.0,
+  omega (arith, c.start.auto.members, c.loop-a.invariant.1),
+)
 
 pub returns : goal.returns
 returns c = all_done _ _ _ (omega arith) c.loop-a.invariant.0

@@ -1,7 +1,6 @@
 -- The goals of `auditing::records::steps` that are not found.
 use mathlib.Core.Bool.{not}
 use mathlib.Core.Path.{ap}
-use Prim.Native.Nat.{◌-◌}
 use native.Mathlib.Omega.{arith}
 use Rattle.base.proofs.Booleans.{failed, passed}
 use Rattle.base.proofs.AllLaws.{all-next, all-fails, all_done}
@@ -30,11 +29,10 @@ pub overflow_add-t : goal.overflow_add-t
 overflow_add-t c = omega (arith, ready-kinds c.requires.0.ready, c.kinds-n.ensures)
 
 pub loop-t-preserved : goal.loop-t-preserved
-loop-t-preserved c =
-    (
-      all-next _ _ _ (omega arith) (passed c.step.ensures (ap not c.if-not-step.false)) c.loop-t.invariant.0,
-      omega (arith, c.step.auto.members, c.loop-t.invariant.1),
-    )
+loop-t-preserved c = (
+  all-next _ _ _ (omega arith) (passed c.step.ensures (ap not c.if-not-step.false)) c.loop-t.invariant.0,
+  omega (arith, c.step.auto.members, c.loop-t.invariant.1),
+)
 
 pub returns : goal.returns
 returns c = all_done _ _ _ (omega arith) c.loop-t.invariant.0

@@ -1,5 +1,4 @@
 -- The goals of `auditing::states::new` that are not found.
-use Prim.Native.Nat.{◌-◌}
 use native.Mathlib.Omega.{arith}
 use Rattle.base.proofs.AllLaws.{all-next, all-fails, all_done}
 use Rattle.auditing.proofs.StateSteps.{new-begin, found-equal, found-other, other-print}

@@ -1,5 +1,4 @@
 -- The goals of `auditing::states::print_from` that are not found.
-use Prim.Native.Nat.{◌-◌}
 use native.Mathlib.Omega.{arith}
 use Rattle.auditing.proofs.StateSteps.{print-begin, print-next, print-done}
 use Rattle.auditing.proofs.states.print_from.Goals as goal

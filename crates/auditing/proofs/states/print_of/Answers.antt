@@ -48,11 +48,10 @@ slice_bounds-print_from-end c =
     omega arith
 
 pub print_from-requires : goal.print_from-requires
-print_from-requires c =
-    (
-      omega (arith, c.number-decision.ensures, (c.shared_slice_known-2-1.given c.slot_at-at.result).fits),
-      part-few c.args.cache.now c.args.s _ c.kept_count-n.ensures,
-    )
+print_from-requires c = (
+  omega (arith, c.number-decision.ensures, (c.shared_slice_known-2-1.given c.slot_at-at.result).fits),
+  part-few c.args.cache.now c.args.s _ c.kept_count-n.ensures,
+)
 
 pub returns : goal.returns
 returns c =

@@ -1,7 +1,6 @@
 -- The goals of `auditing::states::single` that are not found.
 use mathlib.Core.Bool.{not}
 use mathlib.Core.Path.{refl, ap}
-use Prim.Native.Nat.{◌-◌}
 use native.Mathlib.Omega.{arith}
 use Rattle.base.proofs.Booleans.{failed, passed}
 use Rattle.base.proofs.AllLaws.{all-next, all-fails, all_done}

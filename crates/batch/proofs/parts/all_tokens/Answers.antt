@@ -1,5 +1,4 @@
 -- The goals of `batch::parts::all_tokens` that are not found.
-use Prim.Native.Nat.{◌-◌}
 use native.Mathlib.Omega.{arith}
 use Rattle.batch.proofs.PartLaws.{total-next, total-none}
 use Rattle.batch.proofs.parts.all_tokens.Goals as goal

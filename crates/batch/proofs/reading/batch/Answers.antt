@@ -17,9 +17,8 @@ pub returns-in-Refused : goal.returns-in-Refused
 returns-in-Refused c = (grammar-is _ _ _ _ _ _ _ c.compile-verdict.ensures c.in-Refused.is, λ n. refl)
 
 pub returns-else-not-fits : goal.returns-else-not-fits
-returns-else-not-fits c =
-    (
-      read_is _ _ _ _ _ _ _ c.compile-verdict.ensures c.in-Sound.is c.fits.ensures (ap not c.if-not-fits.false)
-          c.stands-standing.ensures c.read_all.ensures,
-      λ n. absurd (n refl),
-    )
+returns-else-not-fits c = (
+  read_is _ _ _ _ _ _ _ c.compile-verdict.ensures c.in-Sound.is c.fits.ensures (ap not c.if-not-fits.false)
+      c.stands-standing.ensures c.read_all.ensures,
+  λ n. absurd (n refl),
+)

@@ -1,6 +1,5 @@
 -- The goals of `batch::reading::read_all` that are not found.
 use mathlib.Core.Path.{refl, sym}
-use Prim.Native.Nat.{◌-◌}
 use native.Mathlib.Omega.{arith}
 use lib.Seq.{length-sets}
 use Rattle.batch.proofs.TurnLaws.{underway-first, note-fits, part-fits, underway-next, underway-last}

@@ -1,5 +1,4 @@
 -- The goals of `cache::following::recorded` that are not found.
-use Prim.Native.Nat.{◌-◌}
 use native.Mathlib.Omega.{arith}
 use Rattle.cache.proofs.PredictSteps.{token-small}
 use Rattle.cache.proofs.FollowSteps.{following-start, following-on, following-beyond, following-over, following-done}

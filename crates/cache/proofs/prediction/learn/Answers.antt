@@ -1,6 +1,5 @@
 -- The goals of `cache::prediction::learn` that are not found.
 use mathlib.Core.Path.{refl, ◌∙◌}
-use Prim.Native.Nat.{◌-◌}
 use native.Mathlib.Omega.{arith}
 use Rattle.words.specs.Layout as layout
 use Rattle.cache.proofs.PredictSteps.{asking-on, asking-beyond, asking-over, asking-done, predict-starts, start-slots, step-slots}

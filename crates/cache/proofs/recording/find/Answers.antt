@@ -1,7 +1,6 @@
 -- The goals of `cache::recording::find` that are not found.
 use Rattle.cache.proofs.StateSteps.{seek-begins, seek-ends, seek_hit, seek-next, searched-low}
 use native.Mathlib.Omega.{arith}
-use Prim.Native.Nat.{◌-◌}
 use Rattle.cache.proofs.recording.find.Goals as goal
 
 pub loop-s-init : goal.loop-s-init

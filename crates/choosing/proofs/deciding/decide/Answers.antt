@@ -11,11 +11,10 @@ pub alternatives-requires : goal.alternatives-requires
 alternatives-requires c = (c.requires.serve.told.ready, serve-named _ _ _ _ _ c.requires.serve)
 
 pub push-stand-requires : goal.push-stand-requires
-push-stand-requires c =
-    (
-      serve-room _ _ c.requires.serve,
-      omega (arith, waits-small _ c.requires.serve.told.ready _ c.requires.serve.waits),
-    )
+push-stand-requires c = (
+  serve-room _ _ c.requires.serve,
+  omega (arith, waits-small _ c.requires.serve.told.ready _ c.requires.serve.waits),
+)
 
 pub returns-then-alternatives-lt2 : goal.returns-then-alternatives-lt2
 returns-then-alternatives-lt2 c =
@@ -26,11 +25,10 @@ pub predict-prediction-requires : goal.predict-prediction-requires
 predict-prediction-requires c = deciding-predicts _ _ _ _ _ _ c.requires
 
 pub push-stand-requires-in-Alternative : goal.push-stand-requires-in-Alternative
-push-stand-requires-in-Alternative c =
-    (
-      serve-room _ _ c.requires.serve,
-      omega (arith, waits-small _ c.requires.serve.told.ready _ c.requires.serve.waits),
-    )
+push-stand-requires-in-Alternative c = (
+  serve-room _ _ c.requires.serve,
+  omega (arith, waits-small _ c.requires.serve.told.ready _ c.requires.serve.waits),
+)
 
 pub serve-requires : goal.serve-requires
 serve-requires c = c.requires.serve

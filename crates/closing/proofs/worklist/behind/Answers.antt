@@ -1,6 +1,5 @@
 -- The goals of `closing::worklist::behind` that are not found.
 use mathlib.Core.Path.{ap}
-use Prim.Native.Nat.{◌-◌}
 use native.Mathlib.Omega.{arith}
 use Rattle.derivation.proofs.ReadyLaws.{ready-size}
 use Rattle.lookahead.specs.Closing.{add_all}

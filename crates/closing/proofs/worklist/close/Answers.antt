@@ -1,6 +1,5 @@
 -- The goals of `closing::worklist::close` that are not found.
 use mathlib.Core.Path.{refl}
-use Prim.Native.Nat.{◌-◌}
 use native.Mathlib.Omega.{arith}
 use Rattle.configurations.proofs.HeldLaws.{member-has}
 use Rattle.configurations.proofs.GrowSteps.{grow-room}

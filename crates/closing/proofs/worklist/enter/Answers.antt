@@ -1,6 +1,5 @@
 -- The goals of `closing::worklist::enter` that are not found.
 use mathlib.Core.Path.{ap}
-use Prim.Native.Nat.{◌-◌}
 use native.Mathlib.Omega.{arith}
 use Rattle.derivation.proofs.FirstLaws.{rule-within}
 use Rattle.lookahead.specs.Closing.{add_all}
@@ -18,15 +17,14 @@ pub rule_at-end-requires : goal.rule_at-end-requires
 rule_at-end-requires c = (omega (arith, c.requires.1.named, c.requires.0.ready.fits.few), c.requires.0.ready.fits.long)
 
 pub loop-k-init : goal.loop-k-init
-loop-k-init c =
-    (
-      omega arith,
-      record {
-        room = c.requires.0.room;
-        same =
-            ap (add_all _) (entering-all _ c.requires.0.ready _ c.requires.1.named _ c.rule_at-start.ensures c.rule_at-end.ensures);
-      },
-    )
+loop-k-init c = (
+  omega arith,
+  record {
+    room = c.requires.0.room;
+    same =
+        ap (add_all _) (entering-all _ c.requires.0.ready _ c.requires.1.named _ c.rule_at-start.ensures c.rule_at-end.ensures);
+  },
+)
 
 pub first_place-f-requires : goal.first_place-f-requires
 first_place-f-requires c =

@@ -1,6 +1,5 @@
 -- The goals of `closing::worklist::seek` that are not found.
 use mathlib.Core.Path.{refl}
-use Prim.Native.Nat.{◌-◌}
 use native.Mathlib.Omega.{arith}
 use Rattle.closing.proofs.FollowLaws.{sought-on}
 use Rattle.closing.proofs.worklist.seek.Goals as goal

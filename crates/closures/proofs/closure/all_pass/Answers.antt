@@ -2,7 +2,6 @@
 use mathlib.Core.Bool.{not}
 use native.Mathlib.Omega.{arith}
 use mathlib.Core.Path.{ap}
-use Prim.Native.Nat.{◌-◌}
 use Rattle.grammar.proofs.WordLaws.{facing-of}
 use Rattle.closures.proofs.ClosureSteps.{pass-end, pass-past, pass-token-stops, pass-token, pass-stops, pass-goes}
 use Rattle.closures.proofs.closure.all_pass.Goals as goal

@@ -1,6 +1,5 @@
 -- The goals of `closures::closure::null_pass` that are not found.
 use mathlib.Core.Path.{refl, sym}
-use mathlib.Core.Bool.{false}
 use native.Mathlib.Omega.{arith}
 use Rattle.closures.proofs.ClosureSteps.{less-left, judging-begins, judging-below, judging-stays, judging-adds, judging-ends, row-misses}
 use Rattle.closures.proofs.closure.null_pass.Goals as goal
@@ -12,11 +11,10 @@ pub without-left-requires : goal.without-left-requires
 without-left-requires c = (c.highest-a.ensures.small, c.highest-a.ensures.member)
 
 pub some_passes-requires : goal.some_passes-requires
-some_passes-requires c =
-    (
-      c.requires.fits,
-      judging-below _ _ _ _ _ _ c.loop-left.invariant _ c.requires.candidates-fit _ _ c.highest-a.ensures c.without-left.ensures,
-    )
+some_passes-requires c = (
+  c.requires.fits,
+  judging-below _ _ _ _ _ _ c.loop-left.invariant _ c.requires.candidates-fit _ _ c.highest-a.ensures c.without-left.ensures,
+)
 
 pub with-set-requires : goal.with-set-requires
 with-set-requires c = c.highest-a.ensures.small

@@ -10,11 +10,10 @@ pub without-left-requires : goal.without-left-requires
 without-left-requires c = (c.highest-a.ensures.small, c.highest-a.ensures.member)
 
 pub some_passes-requires : goal.some_passes-requires
-some_passes-requires c =
-    (
-      c.requires.0,
-      judging-below _ _ _ _ _ _ c.loop-left.invariant _ c.requires.1 _ _ c.highest-a.ensures c.without-left.ensures,
-    )
+some_passes-requires c = (
+  c.requires.0,
+  judging-below _ _ _ _ _ _ c.loop-left.invariant _ c.requires.1 _ _ c.highest-a.ensures c.without-left.ensures,
+)
 
 pub with-set-requires : goal.with-set-requires
 with-set-requires c = c.highest-a.ensures.small

@@ -1,5 +1,4 @@
 -- The goals of `closures::closure::productive` that are not found.
-use mathlib.Core.Bool.{true}
 use mathlib.Core.Path.{sym, ◌∙◌}
 use Rattle.grammar.proofs.WordLaws.{length-starts-in}
 use Rattle.closures.proofs.ClosureSteps.{nullable-derive, all-candidates, closure-exact, closure-full}
@@ -9,11 +8,10 @@ pub loop-left-init : goal.loop-left-init
 loop-left-init c = nullable-derive _ _ c.requires.1
 
 pub pass-next-requires : goal.pass-next-requires
-pass-next-requires c =
-    (
-      c.requires.0,
-      all-candidates _ _ _ _ _ c.requires.0.few c.opposite.ensures c.nonterminals-n.ensures c.below-all.ensures,
-    )
+pass-next-requires c = (
+  c.requires.0,
+  all-candidates _ _ _ _ _ c.requires.0.few c.opposite.ensures c.nonterminals-n.ensures c.below-all.ensures,
+)
 
 pub returns-then-next-set : goal.returns-then-next-set
 returns-then-next-set c =

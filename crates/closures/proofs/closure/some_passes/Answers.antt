@@ -1,6 +1,5 @@
 -- The goals of `closures::closure::some_passes` that are not found.
 use native.Mathlib.Omega.{arith}
-use Prim.Native.Nat.{◌-◌}
 use Rattle.base.specs.Bits.{test_bit}
 use Rattle.grammar.specs.Grammar.{suffix}
 use Rattle.grammar.specs.inside.Tables.{grammar_in}

@@ -1,6 +1,5 @@
 -- The goals of `closures::rounds::by_rounds` that are not found.
 use mathlib.Core.Path.{sym, ◌∙◌}
-use Prim.Native.Nat.{◌-◌}
 use native.Mathlib.Omega.{arith}
 use Rattle.closures.proofs.RoundSteps.{round-grows, round-holds, round_keeps, round_exact}
 use Rattle.closures.proofs.rounds.by_rounds.Goals as goal
@@ -14,10 +13,9 @@ pub loop-set-smaller : goal.loop-set-smaller
 loop-set-smaller c = let h = round-grows _ _ _ _ c.round-next.ensures in omega (arith, c.round-next.type_inv)
 
 pub loop-set-preserved : goal.loop-set-preserved
-loop-set-preserved c =
-    (
-      c.round-next.type_inv,
-      round_keeps _ _ c.requires.0 _ _ _ _ c.note_rules-count.ensures.1 _ _ c.round-next.ensures
-          c.loop-set.invariant.1,
-      round-holds _ _ _ _ _ c.round-next.ensures c.loop-set.invariant.2,
-    )
+loop-set-preserved c = (
+  c.round-next.type_inv,
+  round_keeps _ _ c.requires.0 _ _ _ _ c.note_rules-count.ensures.1 _ _ c.round-next.ensures
+      c.loop-set.invariant.1,
+  round-holds _ _ _ _ _ c.round-next.ensures c.loop-set.invariant.2,
+)

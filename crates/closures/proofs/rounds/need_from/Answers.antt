@@ -1,7 +1,6 @@
 -- The goals of `closures::rounds::need_from` that are not found.
 use mathlib.Core.Bool.{not}
 use mathlib.Core.Path.{ap}
-use Prim.Native.Nat.{◌-◌}
 use native.Mathlib.Omega.{arith}
 use Rattle.grammar.proofs.WordLaws.{facing-of}
 use Rattle.closures.proofs.NoteSteps.{need-begin, need-end, need-past, need-never, need-token, need-more}

@@ -1,6 +1,6 @@
 -- The goals of `closures::rounds::round` that are not found.
 use mathlib.Core.Path.{refl, ap, ◌∙◌}
-use Prim.Native.Nat.{ℕ, ◌-◌}
+use Prim.Native.Nat.{ℕ}
 use native.Mathlib.Omega.{arith}
 use Rattle.closures.specs.inside.Steps.{round_of}
 use Rattle.closures.proofs.RoundSteps.{round-more}

@@ -1,6 +1,5 @@
 -- The goals of `configurations::members::among` that are not found.
 use mathlib.Core.Path.{refl}
-use Prim.Native.Nat.{◌-◌}
 use native.Mathlib.Omega.{arith}
 use Rattle.configurations.proofs.HeldLaws.{exact-at, find-hit, find-next, find-end}
 use Rattle.configurations.proofs.SearchLaws.{part-has}
@@ -23,12 +22,11 @@ pub returns-then-equals : goal.returns-then-equals
 returns-then-equals c = find-hit _ _ _ _ c.loop-k.invariant.1 c.member.ensures c.equals.ensures c.loop-k-test.true c.if-equals.true
 
 pub loop-k-preserved-else-equals : goal.loop-k-preserved-else-equals
-loop-k-preserved-else-equals c =
-    (
-      omega arith,
-      find-next _ _ _ _ c.loop-k.invariant.1 c.member.ensures c.equals.ensures c.loop-k-test.true
-          c.if-equals.false,
-    )
+loop-k-preserved-else-equals c = (
+  omega arith,
+  find-next _ _ _ _ c.loop-k.invariant.1 c.member.ensures c.equals.ensures c.loop-k-test.true
+      c.if-equals.false,
+)
 
 pub loop-k-preserved : goal.loop-k-preserved
 loop-k-preserved c =

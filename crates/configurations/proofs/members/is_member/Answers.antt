@@ -1,6 +1,5 @@
 -- The goals of `configurations::members::is_member` that are not found.
 use mathlib.Core.Path.{ap}
-use Prim.Native.Nat.{◌-◌}
 use native.Mathlib.Omega.{arith}
 use Rattle.lookahead.specs.Closing.{member?}
 use Rattle.configurations.proofs.HeldLaws.{held_all}
@@ -23,18 +22,16 @@ pub returns-then-among : goal.returns-then-among
 returns-then-among c = part-hit _ _ _ _ _ c.loop-k-test.true c.loop-k.invariant.1 (block-is _ _ _ _ c.among.ensures c.if-among.true)
 
 pub loop-k-preserved-else-among : goal.loop-k-preserved-else-among
-loop-k-preserved-else-among c =
-    (
-      c.loop-k-test.true,
-      part_none _ _ _ _ _ c.loop-k-test.true c.loop-k.invariant.1 (block-is _ _ _ _ c.among.ensures c.if-among.false),
-    )
+loop-k-preserved-else-among c = (
+  c.loop-k-test.true,
+  part_none _ _ _ _ _ c.loop-k-test.true c.loop-k.invariant.1 (block-is _ _ _ _ c.among.ensures c.if-among.false),
+)
 
 pub loop-k-preserved : goal.loop-k-preserved
-loop-k-preserved c =
-    (
-      c.loop-k-test.true,
-      part_none _ _ _ _ _ c.loop-k-test.true c.loop-k.invariant.1 (c.has_head.ensures c.if-has_head.false),
-    )
+loop-k-preserved c = (
+  c.loop-k-test.true,
+  part_none _ _ _ _ _ c.loop-k-test.true c.loop-k.invariant.1 (c.has_head.ensures c.if-has_head.false),
+)
 
 pub among-requires-2 : goal.among-requires-2
 among-requires-2 c = (part_of c.requires.0 _ _ c.loop-k.invariant.0 (omega arith), c.requires.1)

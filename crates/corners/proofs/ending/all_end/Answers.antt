@@ -1,6 +1,5 @@
 -- The goals of `corners::ending::all_end` that are not found.
 use mathlib.Core.Path.{◌∙◌}
-use Prim.Native.Nat.{◌-◌}
 use Rattle.base.proofs.Booleans.{clash}
 use Rattle.corners.proofs.EndingLaws.{ending-round, ending-all}
 use Rattle.corners.proofs.ending.all_end.Goals as goal

@@ -1,6 +1,6 @@
 -- The goals of `corners::ending::round` that are not found.
 use mathlib.Core.Path.{refl, ap, ◌∙◌}
-use Prim.Native.Nat.{ℕ, ◌-◌}
+use Prim.Native.Nat.{ℕ}
 use native.Mathlib.Omega.{arith}
 use Rattle.corners.specs.inside.Ending.{ended_below}
 use Rattle.corners.proofs.EndingLaws.{ended-more}

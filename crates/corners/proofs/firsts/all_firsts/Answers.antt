@@ -1,6 +1,5 @@
 -- The goals of `corners::firsts::all_firsts` that are not found.
 use mathlib.Core.Path.{refl}
-use Prim.Native.Nat.{◌-◌}
 use native.Mathlib.Omega.{arith}
 use Rattle.grammar.proofs.WordLaws.{faces-end, faces-token, faces-nonterminal}
 use Rattle.corners.proofs.RuleLaws.{rules-begin, rules-within, owner-told}
@@ -50,13 +49,12 @@ loop-k-preserved-else-code-eq0-2 c =
     )
 
 pub loop-k-preserved : goal.loop-k-preserved
-loop-k-preserved c =
-    (
-      omega arith,
-      omega arith,
-      looked-token _ _ _ _ _ c.loop-k.invariant.2 _ _ c.loop-k.invariant.0 c.first_place-first.ensures refl
-          (faces-token _ _ _ c.code_at-code.ensures c.if-code-eq0.false),
-    )
+loop-k-preserved c = (
+  omega arith,
+  omega arith,
+  looked-token _ _ _ _ _ c.loop-k.invariant.2 _ _ c.loop-k.invariant.0 c.first_place-first.ensures refl
+      (faces-token _ _ _ c.code_at-code.ensures c.if-code-eq0.false),
+)
 
 pub returns : goal.returns
 returns c =

@@ -34,29 +34,26 @@ pub with-done-requires : goal.with-done-requires
 with-done-requires c = omega (arith, c.nonterminals-n.ensures, c.requires.fits.few)
 
 pub loop-a-preserved-then-subset : goal.loop-a-preserved-then-subset
-loop-a-preserved-then-subset c =
-    (
-      omega arith,
-      widens-joined _ _ _ _ c.requires _ _ _ _ _ c.loop-a.invariant.1 (omega arith)
-          (omega (arith, c.nonterminals-n.ensures)) c.if-first-ne0.true _ c.widened-row.ensures c.put_corners.ensures
-          c.subset.ensures c.if-subset.true c.with-done.ensures,
-    )
+loop-a-preserved-then-subset c = (
+  omega arith,
+  widens-joined _ _ _ _ c.requires _ _ _ _ _ c.loop-a.invariant.1 (omega arith)
+      (omega (arith, c.nonterminals-n.ensures)) c.if-first-ne0.true _ c.widened-row.ensures c.put_corners.ensures
+      c.subset.ensures c.if-subset.true c.with-done.ensures,
+)
 
 pub loop-a-preserved-else-subset : goal.loop-a-preserved-else-subset
-loop-a-preserved-else-subset c =
-    (
-      omega arith,
-      widens-left _ _ _ _ c.requires _ _ _ _ _ c.loop-a.invariant.1 (omega arith)
-          (omega (arith, c.nonterminals-n.ensures)) c.if-first-ne0.true _ c.widened-row.ensures c.put_corners.ensures,
-    )
+loop-a-preserved-else-subset c = (
+  omega arith,
+  widens-left _ _ _ _ c.requires _ _ _ _ _ c.loop-a.invariant.1 (omega arith)
+      (omega (arith, c.nonterminals-n.ensures)) c.if-first-ne0.true _ c.widened-row.ensures c.put_corners.ensures,
+)
 
 pub loop-a-preserved : goal.loop-a-preserved
-loop-a-preserved c =
-    (
-      omega arith,
-      widens-none _ _ _ _ c.requires _ _ _ _ _ c.loop-a.invariant.1 (omega arith)
-          (omega (arith, c.nonterminals-n.ensures)) c.if-first-ne0.false,
-    )
+loop-a-preserved c = (
+  omega arith,
+  widens-none _ _ _ _ c.requires _ _ _ _ _ c.loop-a.invariant.1 (omega arith)
+      (omega (arith, c.nonterminals-n.ensures)) c.if-first-ne0.false,
+)
 
 pub shape_of-tables : goal.shape_of-tables
 shape_of-tables c = c.loop-a.invariant.1.kept.fits.long ∙ sym c.requires.fits.long

@@ -1,7 +1,6 @@
 -- The goals of `corners::moves::left_from` that are not found.
 use mathlib.Core.Bool.{not}
 use mathlib.Core.Path.{ap}
-use Prim.Native.Nat.{◌-◌}
 use native.Mathlib.Omega.{arith}
 use Rattle.grammar.proofs.WordLaws.{facing-of}
 use Rattle.corners.proofs.LeftSteps.{left_end, left-token, left-past, left-stops, left-goes}

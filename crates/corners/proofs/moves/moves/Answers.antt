@@ -1,5 +1,4 @@
 -- The goals of `corners::moves::moves` that are not found.
-use Prim.Native.Nat.{◌-◌}
 use native.Mathlib.Omega.{arith}
 use Rattle.closures.proofs.ClosureSteps.{rule-within}
 use Rattle.corners.proofs.LeftSteps.{moves-begin, moves_next, moves-done}

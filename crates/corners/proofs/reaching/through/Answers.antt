@@ -1,6 +1,6 @@
 -- The goals of `corners::reaching::through` that are not found.
 use mathlib.Core.Path.{refl, ap, ◌∙◌}
-use Prim.Native.Nat.{ℕ, ◌-◌}
+use Prim.Native.Nat.{ℕ}
 use native.Mathlib.Omega.{arith}
 use lib.ListN.{length-set}
 use Rattle.corners.specs.inside.Steps.{pivot_below}

@@ -1,5 +1,4 @@
 -- The goals of `first_follow::joining::joined` that are not found.
-use Prim.Native.Nat.{◌-◌}
 use native.Mathlib.Omega.{arith}
 use Rattle.first_follow.proofs.JoinLaws.{join-none, join-next, join-done, join_last}
 use Rattle.first_follow.proofs.joining.joined.Goals as goal

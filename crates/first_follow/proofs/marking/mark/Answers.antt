@@ -6,9 +6,8 @@ use Rattle.first_follow.proofs.ExactLaws.{exact, stored}
 use Rattle.first_follow.proofs.marking.mark.Goals as goal
 
 pub returns : goal.returns
-returns c =
-    (
-      exact (ready-lined _ c.requires.0) _ _ c.relate.ensures.0 c.nullable-nullable.ensures c.relate.ensures.1,
-      simp length-set c.relate.ensures.0,
-      stored (ready-lined _ c.requires.0) _ _ c.relate.ensures.0 c.nullable-nullable.ensures c.relate.ensures.1,
-    )
+returns c = (
+  exact (ready-lined _ c.requires.0) _ _ c.relate.ensures.0 c.nullable-nullable.ensures c.relate.ensures.1,
+  simp length-set c.relate.ensures.0,
+  stored (ready-lined _ c.requires.0) _ _ c.relate.ensures.0 c.nullable-nullable.ensures c.relate.ensures.1,
+)

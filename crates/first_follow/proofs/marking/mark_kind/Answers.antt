@@ -8,9 +8,8 @@ pub bounds-masks-t-4 : goal.bounds-masks-t-4
 bounds-masks-t-4 c = simp length-set (omega arith)
 
 pub returns : goal.returns
-returns c =
-    (
-      simp length-set c.requires.1.masks-long,
-      kind-done _ c.requires.1.masks-long _ _ _ _ c.requires.0 c.joined-starts.ensures
-          c.joined-behind.ensures c.joined.ensures,
-    )
+returns c = (
+  simp length-set c.requires.1.masks-long,
+  kind-done _ c.requires.1.masks-long _ _ _ _ c.requires.0 c.joined-starts.ensures
+      c.joined-behind.ensures c.joined.ensures,
+)

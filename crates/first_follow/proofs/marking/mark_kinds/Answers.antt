@@ -1,5 +1,4 @@
 -- The goals of `first_follow::marking::mark_kinds` that are not found.
-use Prim.Native.Nat.{◌-◌}
 use native.Mathlib.Omega.{arith}
 use Rattle.first_follow.proofs.JoinLaws.{kinds-none, kinds-next, kinds-upto}
 use Rattle.first_follow.proofs.marking.mark_kinds.Goals as goal

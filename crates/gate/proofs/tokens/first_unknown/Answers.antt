@@ -1,5 +1,4 @@
 -- The goals of `gate::tokens::first_unknown` that are not found.
-use Prim.Native.Nat.{◌-◌}
 use native.Mathlib.Omega.{arith}
 use Rattle.gate.proofs.SearchLaws.{looking-begins, found-zero, found-high, looking-on, looking-ends}
 use Rattle.gate.proofs.tokens.first_unknown.Goals as goal

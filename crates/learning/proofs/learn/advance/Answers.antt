@@ -1,6 +1,5 @@
 -- The goals of `learning::learn::advance` that are not found.
 use mathlib.Core.Path.{refl}
-use Prim.Native.Nat.{◌-◌}
 use native.Mathlib.Omega.{arith}
 use Rattle.configurations.proofs.GrowSteps.{left_by, left-on, left-stop, left-none}
 use Rattle.learning.proofs.StartLaws.{blank-left}
@@ -30,12 +29,11 @@ loop-j-preserved-then-passes c =
     (omega arith, left-on c.loop-j.invariant.1 first c.pass.ensures _ c.in-Count.is)
 
 pub loop-j-preserved : goal.loop-j-preserved
-loop-j-preserved c =
-    (
-      omega arith,
-      left_by c.loop-j.invariant.1
-          (stepping-by _ _ _ _ refl c.loop-j-test.true c.member-c.ensures c.passes.ensures c.if-passes.false),
-    )
+loop-j-preserved c = (
+  omega arith,
+  left_by c.loop-j.invariant.1
+      (stepping-by _ _ _ _ refl c.loop-j-test.true c.member-c.ensures c.passes.ensures c.if-passes.false),
+)
 
 pub returns : goal.returns
 returns c = left-none c.loop-j.invariant.1 (stepping-none _ _ _ _ refl (omega arith))

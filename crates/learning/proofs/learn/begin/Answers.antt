@@ -1,5 +1,4 @@
 -- The goals of `learning::learn::begin` that are not found.
-use Prim.Native.Nat.{◌-◌}
 use native.Mathlib.Omega.{arith}
 use Rattle.derivation.proofs.FirstLaws.{rule-within}
 use Rattle.configurations.proofs.GrowSteps.{grow-packs, left-on, left-stop, left-none}
@@ -17,12 +16,11 @@ pub rule_at-end-requires : goal.rule_at-end-requires
 rule_at-end-requires c = (omega (arith, c.requires.named, c.requires.ready.fits.few), c.requires.ready.fits.long)
 
 pub loop-k-init : goal.loop-k-init
-loop-k-init c =
-    (
-      omega arith,
-      blank-left _ c.requires.long
-          (starting-all _ c.requires.ready _ c.requires.named c.rule_at-start.ensures c.rule_at-end.ensures),
-    )
+loop-k-init c = (
+  omega arith,
+  blank-left _ c.requires.long
+      (starting-all _ c.requires.ready _ c.requires.named c.rule_at-start.ensures c.rule_at-end.ensures),
+)
 
 pub first_place-f-requires : goal.first_place-f-requires
 first_place-f-requires c =

@@ -1,8 +1,6 @@
 -- The goals of `learning::rules::alone` that are not found.
 use mathlib.Core.Path.{refl}
-use Prim.Native.Nat.{◌-◌}
 use native.Mathlib.Omega.{arith}
-use Rattle.lookahead.specs.Outcomes.{rivals}
 use Rattle.configurations.proofs.HeldLaws.{member-has}
 use Rattle.learning.proofs.JudgeLaws.{alone-not, alone-next, alone-end}
 use Rattle.learning.proofs.rules.alone.Goals as goal
@@ -17,12 +15,11 @@ pub returns-then-rivals : goal.returns-then-rivals
 returns-then-rivals c = alone-not _ _ _ _ c.loop-k.invariant.1 c.loop-k-test.true c.member-d.ensures c.rivals.ensures c.if-rivals.true
 
 pub loop-k-preserved : goal.loop-k-preserved
-loop-k-preserved c =
-    (
-      omega arith,
-      alone-next _ _ _ _ c.loop-k.invariant.1 c.loop-k-test.true c.member-d.ensures c.rivals.ensures
-          c.if-rivals.false,
-    )
+loop-k-preserved c = (
+  omega arith,
+  alone-next _ _ _ _ c.loop-k.invariant.1 c.loop-k-test.true c.member-d.ensures c.rivals.ensures
+      c.if-rivals.false,
+)
 
 pub returns : goal.returns
 returns c = alone-end _ _ _ _ c.loop-k.invariant.1 (omega arith)

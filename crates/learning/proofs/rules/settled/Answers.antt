@@ -1,5 +1,4 @@
 -- The goals of `learning::rules::settled` that are not found.
-use Prim.Native.Nat.{◌-◌}
 use native.Mathlib.Omega.{arith}
 use Rattle.configurations.proofs.HeldLaws.{member-has}
 use Rattle.learning.proofs.JudgeLaws.{settled-whole, settled-hit, settled-next, settled-end}
@@ -15,12 +14,11 @@ pub returns-then-alone : goal.returns-then-alone
 returns-then-alone c = settled-hit _ _ _ _ c.loop-k.invariant.1 c.loop-k-test.true c.member-c.ensures c.alone.ensures c.if-alone.true
 
 pub loop-k-preserved : goal.loop-k-preserved
-loop-k-preserved c =
-    (
-      omega arith,
-      settled-next _ _ _ _ c.loop-k.invariant.1 c.loop-k-test.true c.member-c.ensures c.alone.ensures
-          c.if-alone.false,
-    )
+loop-k-preserved c = (
+  omega arith,
+  settled-next _ _ _ _ c.loop-k.invariant.1 c.loop-k-test.true c.member-c.ensures c.alone.ensures
+      c.if-alone.false,
+)
 
 pub returns : goal.returns
 returns c = settled-end _ _ _ _ c.loop-k.invariant.1 (omega arith)

@@ -1,10 +1,8 @@
 -- The goals of `learning::rules::shared` that are not found.
 use mathlib.Core.Path.{refl, ◌∙◌, ap}
-use mathlib.Core.Bool.{false, not}
-use Prim.Native.Nat.{◌-◌}
+use mathlib.Core.Bool.{not}
 use native.Mathlib.Omega.{arith}
 use borrow.Author.Tests.{not-true}
-use Rattle.lookahead.specs.Outcomes.{conflicts}
 use Rattle.configurations.proofs.HeldLaws.{member-has, exact-at}
 use Rattle.learning.proofs.JudgeLaws.{shared-pairs, pairs_first, pairs-none, pair-hit, pair-next, pair_end}
 use Rattle.learning.proofs.StackLaws.{pair-past}

@@ -1,6 +1,5 @@
 -- The goals of `machine::choice::serving` that are not found.
 use Rattle.cells.proofs.ThroughLaws.{next-behind}
-use Prim.Native.Nat.{◌-◌}
 use native.Mathlib.Omega.{arith}
 use Rattle.cells.proofs.Spots.{spot_in}
 use Rattle.machine.proofs.KeepLaws.{keeping-begins, keeping-with, keeping-same, keeping-ends}

@@ -1,7 +1,6 @@
 -- The goals of `machine::steps::advance` that are not found.
 use mathlib.Core.Bool.{not}
 use mathlib.Core.Path.{ap}
-use Prim.Native.Nat.{◌-◌}
 use native.Mathlib.Omega.{arith}
 use Rattle.base.proofs.Booleans.{clash}
 use Rattle.grammar.proofs.WordLaws.{facing-of}

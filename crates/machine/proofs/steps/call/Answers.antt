@@ -29,11 +29,10 @@ pub rest-rest-requires : goal.rest-rest-requires
 rest-rest-requires c = omega (arith, c.requires.spaced.base, waits-frames _ c.requires.ready _ c.requires.lent c.requires.waits)
 
 pub serving-s-requires : goal.serving-s-requires
-serving-s-requires c =
-    (
-      lent_of c.requires.spaced.places c.requires.lent,
-      rw c.requires.spaced.places (waits-place _ c.requires.ready _ c.requires.waits c.if-at-eq0.false),
-    )
+serving-s-requires c = (
+  lent_of c.requires.spaced.places c.requires.lent,
+  rw c.requires.spaced.places (waits-place _ c.requires.ready _ c.requires.waits c.if-at-eq0.false),
+)
 
 pub choose-requires-2 : goal.choose-requires-2
 choose-requires-2 c = calling-chooses _ _ _ (λ k. (c.slice_known-1.given k).fits) _ _ _ c.requires

@@ -14,9 +14,8 @@ push-requires c =
     (c.requires.roomy c.lowest-b.result h.0 h.1, c.requires.small)
 
 pub returns : goal.returns
-returns c =
-    (
-      c.lowest-b.ensures,
-      push-if _ c.args.ws.now c.args.base c.args.at.depth c.args.at.place
-          c.args.s.words c.if-b-eq0.false c.push.ensures,
-    )
+returns c = (
+  c.lowest-b.ensures,
+  push-if _ c.args.ws.now c.args.base c.args.at.depth c.args.at.place
+      c.args.s.words c.if-b-eq0.false c.push.ensures,
+)

@@ -32,12 +32,11 @@ returns-then-bytes-behind2 c =
     (omega arith) (omega arith)
 
 pub fetch-third-requires : goal.fetch-third-requires
-fetch-third-requires c =
-    (
-      tallied₂ _ _ c.requires c.if-bytes-at.false c.fetch-first.ensures c.if-first-lt128.false
-          c.if-bytes-behind1.false c.fetch-second.ensures,
-      c.if-bytes-behind2.false,
-    )
+fetch-third-requires c = (
+  tallied₂ _ _ c.requires c.if-bytes-at.false c.fetch-first.ensures c.if-first-lt128.false
+      c.if-bytes-behind1.false c.fetch-second.ensures,
+  c.if-bytes-behind2.false,
+)
 
 pub returns-then-third-eq0 : goal.returns-then-third-eq0
 returns-then-third-eq0 c =

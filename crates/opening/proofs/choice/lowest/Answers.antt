@@ -1,5 +1,4 @@
 -- The goals of `opening::choice::lowest` that are not found.
-use Prim.Native.Nat.{◌-◌}
 use native.Mathlib.Omega.{arith}
 use Rattle.derivation.proofs.FirstLaws.{rule-within}
 use Rattle.opening.proofs.ChoiceLaws.{trying-begins, trying-descends, trying-out, trying-found, trying-on, trying-ends}

@@ -1,8 +1,7 @@
 -- The goals of `opening::empties::vanishes` that are not found.
 use native.Mathlib.Omega.{arith}
 use mathlib.Core.Path.{refl, ap}
-use mathlib.Core.Bool.{false, not}
-use Prim.Native.Nat.{◌-◌}
+use mathlib.Core.Bool.{not}
 use Rattle.grammar.proofs.WordLaws.{facing-of}
 use Rattle.closures.proofs.ClosureSteps.{pass-end, pass-past, pass-token-stops, pass-stops, pass-goes}
 use Rattle.opening.proofs.empties.vanishes.Goals as goal

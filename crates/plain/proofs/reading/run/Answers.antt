@@ -1,5 +1,4 @@
 -- The goals of `plain::reading::run` that are not found.
-use Prim.Native.Nat.{◌-◌}
 use native.Mathlib.Omega.{arith}
 use lib.ListN.{length-set}
 use Rattle.plain.proofs.RunLaws.{turning-begins, turning-takes, tally-kept, out-full, taken-kept, taken-tally, out_none, taken-named}

@@ -1,6 +1,5 @@
 -- The goals of `quick::running::run` that are not found.
 use mathlib.Core.Path.{refl, ◌∙◌}
-use Prim.Native.Nat.{◌-◌}
 use native.Mathlib.Omega.{arith}
 use lib.ListN.{length-set}
 use Rattle.quick.proofs.RunLaws.{turning-begins, turning-decides, out-full, out_none, taken-small, taken-room, out-stuck}
@@ -120,10 +119,9 @@ pub loop-count-smaller : goal.loop-count-smaller
 loop-count-smaller c = simp length-set (omega (arith, c.loop-count.invariant.0.going.fits, c.if-count-row.false))
 
 pub loop-count-preserved : goal.loop-count-preserved
-loop-count-preserved c =
-    (
-      turning-again _ _ _ _ _ c.requires.0 c.loop-count.invariant.0 c.if-count-row.false c.decide-pick.ensures c.if-b-eq0.false
-          c.narrow.ensures c.space_of-space.ensures.base c.enter-turn.ensures c.in-Calls.is,
-      c.masks-1.given ∙ c.loop-count.invariant.1,
-      c.tally-1.given ∙ c.loop-count.invariant.2,
-    )
+loop-count-preserved c = (
+  turning-again _ _ _ _ _ c.requires.0 c.loop-count.invariant.0 c.if-count-row.false c.decide-pick.ensures c.if-b-eq0.false
+      c.narrow.ensures c.space_of-space.ensures.base c.enter-turn.ensures c.in-Calls.is,
+  c.masks-1.given ∙ c.loop-count.invariant.1,
+  c.tally-1.given ∙ c.loop-count.invariant.2,
+)

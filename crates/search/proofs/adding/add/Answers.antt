@@ -9,12 +9,11 @@ use Rattle.search.proofs.adding.add.Goals as goal
 use Rattle.search.proofs.adding.add.Goals.{then-more, else-more}
 
 pub returns-then-m-j : goal.returns-then-m-j
-returns-then-m-j c =
-    (
-      add-again _ _ _ _ _ _ c.in-One.is (omega arith)
-          (elim c.if-more.branch [ then-more w ↦ more-then _ _ w.if-more.true w.result-is | else-more w ↦ more-else _ _ w.if-more.false w.result-is ]),
-      (one-fits c.in-One.is c.requires.0.0, c.requires.0.1),
-    )
+returns-then-m-j c = (
+  add-again _ _ _ _ _ _ c.in-One.is (omega arith)
+      (elim c.if-more.branch [ then-more w ↦ more-then _ _ w.if-more.true w.result-is | else-more w ↦ more-else _ _ w.if-more.false w.result-is ]),
+  (one-fits c.in-One.is c.requires.0.0, c.requires.0.1),
+)
 
 pub with-set-requires : goal.with-set-requires
 with-set-requires c = let h = one-fits c.in-One.is c.requires.0.0 in omega arith
@@ -31,8 +30,7 @@ returns-else-m-j c =
     )
 
 pub returns-in-Several : goal.returns-in-Several
-returns-in-Several c =
-    (
-      add-several _ _ _ c.in-Several.is c.requires.0.1 (omega arith) c.with-in-Several.ensures,
-      (tt, with-long _ _ c.requires.0.1 c.with-in-Several.ensures),
-    )
+returns-in-Several c = (
+  add-several _ _ _ c.in-Several.is c.requires.0.1 (omega arith) c.with-in-Several.ensures,
+  (tt, with-long _ _ c.requires.0.1 c.with-in-Several.ensures),
+)

@@ -1,5 +1,4 @@
 -- The goals of `search::adding::add_all` that are not found.
-use Prim.Native.Nat.{◌-◌}
 use native.Mathlib.Omega.{arith}
 use Rattle.cells.proofs.ThroughLaws.{next-behind}
 use Rattle.search.proofs.AddLaws.{adding-begins, adding-next, adding-ends}
@@ -9,18 +8,17 @@ pub loop-m-init : goal.loop-m-init
 loop-m-init c = adding-begins _ _ _ _ _ _ _ c.requires.fits c.next-m.ensures
 
 pub add_allowed-r-requires : goal.add_allowed-r-requires
-add_allowed-r-requires c =
-    (
-      record {
-        masked = c.requires.masked;
-        short = c.requires.short;
-        kinds = c.requires.kinds;
-        named = c.requires.named;
-        alternative = c.requires.alternative;
-        fits = c.loop-m.invariant.fits;
-      },
-      omega arith,
-    )
+add_allowed-r-requires c = (
+  record {
+    masked = c.requires.masked;
+    short = c.requires.short;
+    kinds = c.requires.kinds;
+    named = c.requires.named;
+    alternative = c.requires.alternative;
+    fits = c.loop-m.invariant.fits;
+  },
+  omega arith,
+)
 
 pub loop-m-smaller : goal.loop-m-smaller
 loop-m-smaller c =

@@ -15,8 +15,7 @@ follows-requires c =
 
 pub returns-then-not-follows : goal.returns-then-not-follows
 returns-then-not-follows c =
-    let x = c.args in
-    (
+    let x = c.args in (
       drops x.note.now x.j c.token_at-t.ensures x.masks.now x.a c.follows.ensures
           (tags.add (told_by x.ends) x.k x.j) (told_by x.ends) (ap not c.if-not-follows.true),
       c.requires.0.fits,
@@ -27,8 +26,7 @@ add-requires c = (c.requires.0.fits, omega (arith, c.requires.0.short, c.require
 
 pub returns : goal.returns
 returns c =
-    let x = c.args in
-    (
+    let x = c.args in (
       keeps x.note.now x.j c.token_at-t.ensures x.masks.now x.a c.follows.ensures
           (tags.add (told_by x.ends) x.k x.j) (told_by x.ends) (ap not c.if-not-follows.false) c.add.ensures.0,
       c.add.ensures.1,

@@ -1,6 +1,5 @@
 -- `search::settling::settle` meets its contract: between two trials `Settling` holds, and each way that a trial may end is a law. Every turn costs some of
 -- the budget.
-use Prim.Native.Nat.{◌-◌}
 use Rattle.search.proofs.SettleSteps.{Settling}
 use Rattle.search.proofs.settling.settle.Given as goal
 

@@ -1,5 +1,4 @@
 -- The goals of `search::trying::attempt` that are not found.
-use Prim.Native.Nat.{◌-◌}
 use native.Mathlib.Omega.{arith}
 use Rattle.derivation.proofs.FirstLaws.{rule-within, first-at, first-in}
 use Rattle.derivation.proofs.CountLaws.{count-is}

@@ -1,7 +1,6 @@
 -- The goals of `search::walking::over_call` that are not found.
 use mathlib.Core.Path.{refl}
 use mathlib.Core.Logic.{inl}
-use Prim.Native.Nat.{◌-◌}
 use native.Mathlib.Omega.{arith}
 use Rattle.cells.proofs.ThroughLaws.{next-behind}
 use Rattle.search.proofs.OverLaws.{calls-begin, calls-none, calls-one, calls-some, calls-wants, calls-end, only-inside, may_read, set_is}
@@ -38,12 +37,11 @@ loop-m-smaller-in-Nowhere c =
     omega (arith, c.next-m-in-loop-m.ensures.most)
 
 pub loop-m-preserved-in-Nowhere : goal.loop-m-preserved-in-Nowhere
-loop-m-preserved-in-Nowhere c =
-    (
-      omega (arith, c.loop-m.invariant.0),
-      calls-none c.requires c.loop-m.invariant.1 c.loop-m-test.true c.next-m-in-loop-m.ensures c.known-reply.ensures
-          c.in-Nowhere.is,
-    )
+loop-m-preserved-in-Nowhere c = (
+  omega (arith, c.loop-m.invariant.0),
+  calls-none c.requires c.loop-m.invariant.1 c.loop-m-test.true c.next-m-in-loop-m.ensures c.known-reply.ensures
+      c.in-Nowhere.is,
+)
 
 pub with-to-requires : goal.with-to-requires
 with-to-requires c =
@@ -58,12 +56,11 @@ loop-m-smaller-in-Only c =
     omega (arith, c.next-m-in-loop-m.ensures.most)
 
 pub loop-m-preserved-in-Only : goal.loop-m-preserved-in-Only
-loop-m-preserved-in-Only c =
-    (
-      omega (arith, c.loop-m.invariant.0),
-      calls-one c.requires c.loop-m.invariant.1 c.loop-m-test.true c.next-m-in-loop-m.ensures c.known-reply.ensures
-          c.in-Only.is c.with-to.ensures,
-    )
+loop-m-preserved-in-Only c = (
+  omega (arith, c.loop-m.invariant.0),
+  calls-one c.requires c.loop-m.invariant.1 c.loop-m-test.true c.next-m-in-loop-m.ensures c.known-reply.ensures
+      c.in-Only.is c.with-to.ensures,
+)
 
 pub set_of-ends-requires : goal.set_of-ends-requires
 set_of-ends-requires c =
@@ -77,12 +74,11 @@ loop-m-smaller c =
     omega (arith, c.next-m-in-loop-m.ensures.most)
 
 pub loop-m-preserved : goal.loop-m-preserved
-loop-m-preserved c =
-    (
-      omega (arith, c.loop-m.invariant.0),
-      calls-some c.requires c.loop-m.invariant.1 c.loop-m-test.true c.next-m-in-loop-m.ensures c.known-reply.ensures _
-          c.in-Several.is (set_is c.requires.walk.sized _ _ _ c.set_of-ends.ensures) c.union-to.ensures,
-    )
+loop-m-preserved c = (
+  omega (arith, c.loop-m.invariant.0),
+  calls-some c.requires c.loop-m.invariant.1 c.loop-m-test.true c.next-m-in-loop-m.ensures c.known-reply.ensures _
+      c.in-Several.is (set_is c.requires.walk.sized _ _ _ c.set_of-ends.ensures) c.union-to.ensures,
+)
 
 pub returns : goal.returns
 returns c =

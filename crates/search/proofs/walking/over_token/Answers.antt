@@ -1,5 +1,4 @@
 -- The goals of `search::walking::over_token` that are not found.
-use Prim.Native.Nat.{◌-◌}
 use native.Mathlib.Omega.{arith}
 use Rattle.cells.proofs.ThroughLaws.{next-behind}
 use Rattle.search.proofs.OverLaws.{tokens-begin, tokens-with, tokens-other, tokens-end}
@@ -21,12 +20,11 @@ loop-m-smaller-then-matches c =
     omega (arith, c.next-m-in-loop-m.ensures.most)
 
 pub loop-m-preserved-then-matches : goal.loop-m-preserved-then-matches
-loop-m-preserved-then-matches c =
-    (
-      omega (arith, c.loop-m.invariant.0),
-      tokens-with c.requires c.loop-m.invariant.1 c.loop-m-test.true c.next-m-in-loop-m.ensures c.matches.ensures
-          c.if-matches.true c.with-to.ensures c.farther-high.ensures,
-    )
+loop-m-preserved-then-matches c = (
+  omega (arith, c.loop-m.invariant.0),
+  tokens-with c.requires c.loop-m.invariant.1 c.loop-m-test.true c.next-m-in-loop-m.ensures c.matches.ensures
+      c.if-matches.true c.with-to.ensures c.farther-high.ensures,
+)
 
 pub loop-m-smaller : goal.loop-m-smaller
 loop-m-smaller c =
@@ -35,12 +33,11 @@ loop-m-smaller c =
     omega (arith, c.next-m-in-loop-m.ensures.most)
 
 pub loop-m-preserved : goal.loop-m-preserved
-loop-m-preserved c =
-    (
-      omega (arith, c.loop-m.invariant.0),
-      tokens-other c.requires c.loop-m.invariant.1 c.loop-m-test.true c.next-m-in-loop-m.ensures c.matches.ensures
-          c.if-matches.false,
-    )
+loop-m-preserved c = (
+  omega (arith, c.loop-m.invariant.0),
+  tokens-other c.requires c.loop-m.invariant.1 c.loop-m-test.true c.next-m-in-loop-m.ensures c.matches.ensures
+      c.if-matches.false,
+)
 
 pub returns : goal.returns
 returns c =

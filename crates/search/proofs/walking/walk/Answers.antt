@@ -1,6 +1,5 @@
 -- The goals of `search::walking::walk` that are not found.
 use mathlib.Core.Path.{refl}
-use Prim.Native.Nat.{◌-◌}
 use native.Mathlib.Omega.{arith}
 use Rattle.grammar.proofs.WordLaws.{facing-of}
 use Rattle.derivation.proofs.ReadyLaws.{ready-size}
@@ -40,12 +39,11 @@ pub loop-k-smaller-in-To : goal.loop-k-smaller-in-To
 loop-k-smaller-in-To c = omega (arith, c.loop-k.invariant.1.place)
 
 pub loop-k-preserved-in-To : goal.loop-k-preserved-in-To
-loop-k-preserved-in-To c =
-    (
-      omega (arith, c.loop-k.invariant.0, c.over_token-step.ensures.spent),
-      walking_on c.requires.searching c.loop-k.invariant.1 refl c.over_token-step.ensures c.in-To.is
-          (no_end (facing-of _ _ c.place_at-place.ensures c.in-Token.is) token-goes),
-    )
+loop-k-preserved-in-To c = (
+  omega (arith, c.loop-k.invariant.0, c.over_token-step.ensures.spent),
+  walking_on c.requires.searching c.loop-k.invariant.1 refl c.over_token-step.ensures c.in-To.is
+      (no_end (facing-of _ _ c.place_at-place.ensures c.in-Token.is) token-goes),
+)
 
 pub returns-in-Needs : goal.returns-in-Needs
 returns-in-Needs c =
@@ -71,12 +69,11 @@ pub loop-k-smaller : goal.loop-k-smaller
 loop-k-smaller c = omega (arith, c.loop-k.invariant.1.place)
 
 pub loop-k-preserved : goal.loop-k-preserved
-loop-k-preserved c =
-    (
-      omega (arith, c.loop-k.invariant.0, c.over_call-step.ensures.spent),
-      walking_on c.requires.searching c.loop-k.invariant.1 refl c.over_call-step.ensures c.in-To-walked.is
-          (no_end (facing-of _ _ c.place_at-place.ensures c.in-Nonterminal.is) call-goes),
-    )
+loop-k-preserved c = (
+  omega (arith, c.loop-k.invariant.0, c.over_call-step.ensures.spent),
+  walking_on c.requires.searching c.loop-k.invariant.1 refl c.over_call-step.ensures c.in-To-walked.is
+      (no_end (facing-of _ _ c.place_at-place.ensures c.in-Nonterminal.is) call-goes),
+)
 
 pub returns-in-Needs-walked : goal.returns-in-Needs-walked
 returns-in-Needs-walked c =

@@ -1,7 +1,6 @@
 -- The goals of `search::ways::along` that are not found.
 use mathlib.Core.Bool.{not}
 use mathlib.Core.Path.{ap}
-use Prim.Native.Nat.{◌-◌}
 use native.Mathlib.Omega.{arith}
 use Rattle.grammar.proofs.WordLaws.{facing-of}
 use Rattle.derivation.proofs.ReadyLaws.{ready-size}

@@ -1,5 +1,4 @@
 -- The goals of `search::words::clear` that are not found.
-use Prim.Native.Nat.{◌-◌}
 use native.Mathlib.Omega.{arith}
 use Rattle.search.proofs.ClearLaws.{cleared-none, cleared-next, cleared-all}
 use Rattle.search.proofs.words.clear.Goals as goal

@@ -16,16 +16,15 @@ lowest-found-requires c =
     c.size_of-size.ensures (omega arith)
 
 pub keep-requires : goal.keep-requires
-keep-requires c =
-    (
-      c.requires.serve.told.tallied.long,
-      omega (
-        arith,
-        gone-less _ _ c.requires.serve c.requires.budget c.push-stand.ensures.0 c.push-stand.ensures.1
-            (omega arith) c.lowest-found.ensures c.meter.ensures.0,
-      ),
-      c.requires.serve.told.lent.short,
-    )
+keep-requires c = (
+  c.requires.serve.told.tallied.long,
+  omega (
+    arith,
+    gone-less _ _ c.requires.serve c.requires.budget c.push-stand.ensures.0 c.push-stand.ensures.1
+        (omega arith) c.lowest-found.ensures c.meter.ensures.0,
+  ),
+  c.requires.serve.told.lent.short,
+)
 
 pub by_cells-requires : goal.by_cells-requires
 by_cells-requires c =

@@ -1,7 +1,6 @@
 -- The goals of `soundness::judgement::lowest_missing` that are not found.
 use mathlib.Core.Path.{refl, ap, sym, ◌∙◌}
 use mathlib.Core.Bool.{not}
-use Prim.Native.Nat.{◌-◌}
 use native.Mathlib.Omega.{arith}
 use native.Mathlib.Numerals.{unary_clauses}
 use Rattle.base.specs.Bits.{test_bit}

@@ -1,5 +1,4 @@
 -- The goals of `soundness::judgement::own` that are not found.
-use Prim.Native.Nat.{◌-◌}
 use native.Mathlib.Omega.{arith}
 use Rattle.soundness.proofs.OwnLaws.{own-none, own-more, own-all}
 use Rattle.soundness.proofs.judgement.own.Goals as goal

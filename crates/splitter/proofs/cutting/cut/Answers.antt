@@ -1,6 +1,5 @@
 -- The goals of `splitter::cutting::cut` that are not found.
 use mathlib.Core.Path.{refl}
-use Prim.Native.Nat.{◌-◌}
 use native.Mathlib.Omega.{arith}
 use lib.ListN.{length-set}
 use Rattle.splitter.specs.inside.Cut.{CutDid}

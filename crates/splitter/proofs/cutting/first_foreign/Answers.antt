@@ -1,7 +1,6 @@
 -- The goals of `splitter::cutting::first_foreign` that are not found.
 use Rattle.splitter.specs.inside.Cut.{scan_of}
 use mathlib.Core.Path.{refl, ap}
-use Prim.Native.Nat.{◌-◌}
 use native.Mathlib.Omega.{arith}
 use Rattle.splitter.proofs.ForeignLaws.{seek-begins, seek-ends, seek-here, seek-on}
 use Rattle.splitter.proofs.cutting.first_foreign.Goals as goal

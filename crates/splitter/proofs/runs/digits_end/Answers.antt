@@ -1,6 +1,5 @@
 -- The goals of `splitter::runs::digits_end` that are not found.
 use mathlib.Core.Path.{refl}
-use Prim.Native.Nat.{◌-◌}
 use native.Mathlib.Omega.{arith}
 use Rattle.splitter.proofs.RunLaws.{digits-end, digits-stop, digits-on}
 use Rattle.splitter.proofs.runs.digits_end.Goals as goal

@@ -1,7 +1,6 @@
 -- The goals of `splitter::runs::word_run` that are not found.
 use native.Mathlib.Nat.{mod-lt}
 use mathlib.Core.Path.{refl}
-use Prim.Native.Nat.{◌-◌}
 use native.Mathlib.Omega.{arith}
 use Rattle.splitter.proofs.RunLaws.{run-begins, run_end, run-stop, run_on}
 use Rattle.splitter.proofs.runs.word_run.Goals as goal
@@ -16,13 +15,12 @@ pub overflow_add-bucket : goal.overflow_add-bucket
 overflow_add-bucket c = omega (arith, c.shared_slice_known-2-1.given c.loop-i.i)
 
 pub loop-i-preserved : goal.loop-i-preserved
-loop-i-preserved c =
-    (
-      run_on _ _ _ c.loop-i.invariant.0 (omega arith) refl c.class.ensures c.if-class-lt-DIGIT.false
-          c.wide.ensures refl,
-      omega arith,
-      mod-lt _ (omega arith),
-    )
+loop-i-preserved c = (
+  run_on _ _ _ c.loop-i.invariant.0 (omega arith) refl c.class.ensures c.if-class-lt-DIGIT.false
+      c.wide.ensures refl,
+  omega arith,
+  mod-lt _ (omega arith),
+)
 
 pub returns : goal.returns
 returns c = run_end _ _ _ c.loop-i.invariant.0 (omega arith)

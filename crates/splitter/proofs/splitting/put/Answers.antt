@@ -1,6 +1,5 @@
 -- The goals of `splitter::splitting::put` that are not found.
 use mathlib.Core.Path.{refl}
-use Prim.Native.Nat.{◌-◌}
 use native.Mathlib.Omega.{arith}
 use lib.ListN.{length-set}
 use Rattle.splitter.proofs.ItemLaws.{put_on, put_all}

@@ -17,11 +17,10 @@ returns-in_default c = answer-17 _ _ _ (omega arith) _ _ _ c.index-listing.ensur
 
 pub split_by-requires : goal.split_by-requires
 unfolding classes
-split_by-requires c =
-    (
-      list-indexed c.args.line.now _ c.args.tokens.now (omega arith) _ _ _ c.index-listing.ensures c.in-Words.is,
-      refl,
-    )
+split_by-requires c = (
+  list-indexed c.args.line.now _ c.args.tokens.now (omega arith) _ _ _ c.index-listing.ensures c.in-Words.is,
+  refl,
+)
 
 pub returns : goal.returns
 returns c = answer-on _ _ _ (omega arith) _ _ _ c.index-listing.ensures c.in-Words.is c.split_by.ensures

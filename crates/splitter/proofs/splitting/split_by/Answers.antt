@@ -15,12 +15,11 @@ returns-then-tokens-k c =
     c.if-tokens-k.true c.clear_from.ensures
 
 pub put-requires : goal.put-requires
-put-requires c =
-    (
-      cut-few _ c.args.tokens.now _ c.first_foreign-scan.ensures c.in_default.is _ _ c.cut-cut.ensures
-          c.in-Tokens.is,
-      omega arith,
-    )
+put-requires c = (
+  cut-few _ c.args.tokens.now _ c.first_foreign-scan.ensures c.in_default.is _ _ c.cut-cut.ensures
+      c.in-Tokens.is,
+  omega arith,
+)
 
 pub returns : goal.returns
 returns c =

@@ -1,7 +1,6 @@
 -- The goals of `words::bytes::has_bytes` that are not found.
 use Rattle.words.proofs.PackSteps.{compare-end, compare-short, compare-differs, compare-next, compare-begins}
 use native.Mathlib.Omega.{arith}
-use Prim.Native.Nat.{◌-◌}
 use mathlib.Core.Path.{refl}
 use Rattle.words.proofs.bytes.has_bytes.Goals as goal
 

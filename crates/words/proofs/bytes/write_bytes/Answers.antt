@@ -2,7 +2,6 @@
 use Rattle.words.proofs.PackSteps.{store-next, store-end, store-begins}
 use lib.ListN.{length-set}
 use native.Mathlib.Omega.{arith}
-use Prim.Native.Nat.{◌-◌}
 use mathlib.Core.Path.{refl}
 use Rattle.words.proofs.bytes.write_bytes.Goals as goal
 

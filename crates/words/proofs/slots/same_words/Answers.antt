@@ -1,7 +1,6 @@
 -- The goals of `words::slots::same_words` that are not found.
 use Rattle.words.proofs.SlotLaws.{alike-begins, alike-ends, alike-differs, alike_next}
 use native.Mathlib.Omega.{arith}
-use Prim.Native.Nat.{◌-◌}
 use Rattle.words.proofs.slots.same_words.Goals as goal
 
 pub loop-k-init : goal.loop-k-init

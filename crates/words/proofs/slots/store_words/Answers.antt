@@ -2,7 +2,6 @@
 use Rattle.words.proofs.SlotLaws.{stored-begins, stored_next, stored-ends}
 use lib.ListN.{length-set}
 use native.Mathlib.Omega.{arith}
-use Prim.Native.Nat.{◌-◌}
 use mathlib.Core.Path.{refl}
 use Rattle.words.proofs.slots.store_words.Goals as goal
 
