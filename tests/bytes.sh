@@ -5,7 +5,7 @@
 set -euo pipefail
 cd "$(dirname "$0")/.."
 # These read typed lines, or standard input into a buffer: their bytes do not count unless they are called a grammar.
-typed="splitter lines notes tokens audit_cache allstar_c::allstar_split"
+typed="splitter lines notes tokens check_grammar audit_cache allstar_c::allstar_split"
 found=$(mktemp)
 trap 'rm -f "$found"' EXIT
 

@@ -10,7 +10,7 @@ trap 'rm -f "$known"' EXIT
 {
     grep -rIhoE "[A-Za-z0-9_?'₀→-]+" "${kept[@]}" --exclude='*.md'
     # paths, and every end of one; edits by crate and label
-    find "${kept[@]}" | sed -E 's|^crates/([a-z_]+)/must-fail/(more/)?([a-z_0-9]+)\.edit$|\1/\3|' | awk '
+    find "${kept[@]}" | sed -E 's|^crates/([a-z_]+)/must-fail/([a-z_0-9]+)\.edit$|\1/\2|' | awk '
         { for (path = $0; path != ""; path = rest) {
             print path; print path "/"; bare = path; if (sub(/\.[a-z]+$/, "", bare)) print bare
             cut = index(path, "/"); rest = cut ? substr(path, cut + 1) : "" } }'

@@ -135,19 +135,15 @@ fn tell<W: Write>(out: &mut W, number: u32, place: usize) -> io::Result<()> {
 }
 
 // Answers for a grammar and the first so many words. A cache that is torn was not begun at a length that can be lent.
-fn answer<W: Write>(
-    out: &mut W,
-    grammar: &[u8],
-    cache: &[u32],
-    words: usize,
-) -> io::Result<()> {
+fn answer<W: Write>(out: &mut W, grammar: &[u8], cache: &[u32], words: usize) -> io::Result<()> {
     if words <= cache.len() {
         let audited = allstar::audit(grammar, &cache[..words]);
         return tell(out, audited.number(), audited.place());
     }
     let verdict = allstar::check(grammar);
     if verdict.number() == 0 {
-        return tell(out, Audit::ForeignCache.number(), Audit::ForeignCache.place());
+        let foreign = Audit::ForeignCache;
+        return tell(out, foreign.number(), foreign.place());
     }
     tell(out, verdict.number(), verdict.place())
 }
