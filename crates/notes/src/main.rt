@@ -101,8 +101,8 @@ fn step<W: Write>(
     Ok(0)
 }
 
-// The bytes of one reading of the input. What is then kept of the open line says what all of it says (`kept-open-says` of `lines`). Only
-// bytes that end a line can fail.
+// The bytes of one reading of the input. What is then kept of the open line says what all of it says (`kept-open-says` of `lines`). Only a reading that ends
+// a line can fail.
 fn feed<W: Write>(
     out: &mut W,
     bytes: &[u8],

@@ -116,7 +116,7 @@ fn step<W: Write>(
 }
 
 // The bytes of one reading of the input. What is then kept are the first bytes of the list's line and of the open line behind it (`kept-headed` of `lines`).
-// Only bytes that end a line can fail.
+// Only a reading that ends a line can fail.
 fn feed<W: Write>(
     out: &mut W,
     bytes: &[u8],
