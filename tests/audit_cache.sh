@@ -84,4 +84,6 @@ expect "far longer, and a grammar that is refused" "no 7 0$line" < <(number 5; p
 expect "4,096 bytes of grammar" "no 5 14$line" < <(number 4096; head -c 4096 "$work/long"; cache)
 expect "4,097 bytes of grammar" "no 5 14$line" < <(number 4097; head -c 4097 "$work/long"; cache)
 expect "a number of four bytes" "no 5 14$line" < <(number 4294967295; cat "$work/long"; cache)
+fails "a write that fails" < "$example" > /dev/full
+fails "a reading that fails" < tests
 echo "audit_cache: $tried inputs, each answered as it must be"

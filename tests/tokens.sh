@@ -38,4 +38,6 @@ expect "a reading that ends with the list" "2 1$line" < <(many a 4095; printf '\
 expect "a list of 65,535 bytes" "1 36$line" < <(many a 65532; printf ' kg\na kg\n')
 expect "a list of 65,536 bytes" "no 17 0$line" < <(many a 65533; printf ' kg\na kg\n')
 expect "a list of 1,000,000 bytes" "no 17 0${line}no 15 0$line" < <(many a 1000000; printf '\na\n'; many a 513; printf '\n')
+fails "a write that fails" < <(printf 'kg\n2 kg\n') > /dev/full
+fails "a reading that fails" < tests
 echo "tokens: $tried inputs, each answered as it must be"

@@ -78,11 +78,11 @@ any_of-T {A} p (x ∷ l) t = go (or-T (p x) (any_of p l) t) (any_of-T p l)
     go (inl t) rec = (zero, x, refl, t)
     go (inr t) rec = let h = rec t in (suc h.0, h.1, h.2, h.3)
 
-pub T-anyOf : {A : Type 0} (p : A → Bool) (l : List A) (n : ℕ) {x : A} → get_elem? l n ≡ some x → T (p x) → T (any_of p l)
+pub T-any_of : {A : Type 0} (p : A → Bool) (l : List A) (n : ℕ) {x : A} → get_elem? l n ≡ some x → T (p x) → T (any_of p l)
 unfolding any_of
-T-anyOf p [] n {x} e t = clash (cc)
-T-anyOf p (y ∷ l) zero {x} e t = let q : x ≡ y = cc in T-or-l (p y) (any_of p l) (rw q at t)
-T-anyOf p (y ∷ l) (suc n) {x} e t = T-or-r (p y) (any_of p l) (T-anyOf p l n e t)
+T-any_of p [] n {x} e t = clash (cc)
+T-any_of p (y ∷ l) zero {x} e t = let q : x ≡ y = cc in T-or-l (p y) (any_of p l) (rw q at t)
+T-any_of p (y ∷ l) (suc n) {x} e t = T-or-r (p y) (any_of p l) (T-any_of p l n e t)
 
 -- ---- ranges
 pub get-up_from : (k i n : ℕ) {m : ℕ} → get_elem? (up_from i k) n ≡ some m → (i ≤ m) × (m < i + k)

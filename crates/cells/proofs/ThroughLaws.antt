@@ -12,7 +12,7 @@ use lib.Dec.{T}
 use lib.ListN.{get_elem?}
 use Rattle.base.specs.Rounds.{any_of, up_from}
 use Rattle.base.proofs.Booleans.{false→¬T, true→T, same, and_T, T_and, or_assoc, or-none, or-T, T-or-l}
-use Rattle.base.proofs.Lists.{any_of-T, T-anyOf, get-up_from, up_from-get}
+use Rattle.base.proofs.Lists.{any_of-T, T-any_of, get-up_from, up_from-get}
 use Rattle.positions.specs.inside.Positions.{position_count, empty_set, member, union_of, NextOf, Full}
 use Rattle.positions.specs.inside.Words.{set_at}
 use Rattle.positions.proofs.SetLaws.{member-empty, member_union}
@@ -28,7 +28,7 @@ module _ (S : ℕ → Bool) (C : ℕ → ℕ → ℕ → Bool) (q j from n : ℕ
   pub through-in : (m : ℕ) → from ≤ m → m ≤ n → T (S m) → T (C q m j) → T (through_of S C q j from n)
   unfolding through_of
   through-in m l h s c =
-      T-anyOf (λ m. S m && C q m j) (up_from from (suc n - from)) (m - from) (up_from-get (suc n - from) from m l (omega arith)) (T_and (S m) (C q m j) s c)
+      T-any_of (λ m. S m && C q m j) (up_from from (suc n - from)) (m - from) (up_from-get (suc n - from) from m l (omega arith)) (T_and (S m) (C q m j) s c)
 
   pub through-out : T (through_of S C q j from n) → (m : ℕ) × (from ≤ m) × (m ≤ n) × T (S m) × T (C q m j)
   unfolding through_of

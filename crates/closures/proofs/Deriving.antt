@@ -11,7 +11,7 @@ use lib.Dec.{T}
 use lib.ListN.{length}
 use Rattle.base.specs.Rounds.{rounds}
 use Rattle.base.proofs.Booleans.{clash, and_T, T_and, same}
-use Rattle.base.proofs.Lists.{any_of-T, T-anyOf}
+use Rattle.base.proofs.Lists.{any_of-T, T-any_of}
 use Rattle.base.proofs.Fixpoint.{Within, least}
 use Rattle.grammar.specs.declared.Symbol.{Symbol}
 use Rattle.grammar.specs.declared.Symbol.TheVariants.{Token, Nonterminal, End}
@@ -93,7 +93,7 @@ module _ (tokens : Bool) (g : Grammar) where
   unfolding deriving_round
   round_mono X Y h a t =
       let (n, f, e, s) = any_of-T (λ f. passes tokens X (suffix g f)) (alternatives g a) t in
-      T-anyOf (λ f. passes tokens Y (suffix g f)) (alternatives g a) n e (passes-mono tokens X Y h (suffix g f) s)
+      T-any_of (λ f. passes tokens Y (suffix g f)) (alternatives g a) n e (passes-mono tokens X Y h (suffix g f) s)
 
   round-below : (X : ℕ → Bool) (a : ℕ) → T (deriving_round tokens g X a) → a < length g.starts
   unfolding deriving_round
@@ -150,7 +150,7 @@ module _ (tokens : Bool) (g : Grammar) where
       let (n, d') = first_pos g a b f d in
       let h = passes_append tokens (deriving? tokens g) β α (passes-all x z) in
       T_and (deriving? tokens g a) (passes tokens (deriving? tokens g) α)
-      (closed a (T-anyOf (λ f. passes tokens (deriving? tokens g) (suffix g f)) (alternatives g a) n d' (rw q h.0))) h.1
+      (closed a (T-any_of (λ f. passes tokens (deriving? tokens g) (suffix g f)) (alternatives g a) n d' (rw q h.0))) h.1
 
   pub deriving-iff : (a : ℕ) → T (deriving? tokens g a) ↔ DerivesFor tokens g (Nonterminal a ∷ [])
   unfolding deriving? passes

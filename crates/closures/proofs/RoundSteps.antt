@@ -14,7 +14,7 @@ use Rattle.base.specs.Bits.{test_bit, is_subset}
 use Rattle.base.proofs.Booleans.{same, or-T, T-or-l, T-or-r, true→T, T→true}
 use Rattle.base.proofs.Bits.{same?, test-or, test-none, or-ge}
 use Rattle.base.proofs.Fixpoint.{Within}
-use Rattle.base.proofs.Lists.{Found, any_of-T, T-anyOf, slice_get, slice-from}
+use Rattle.base.proofs.Lists.{Found, any_of-T, T-any_of, slice_get, slice-from}
 use Rattle.grammar.specs.Grammar.{suffix}
 use Rattle.grammar.specs.inside.Tables.{firsts_at, grammar_in, nonterminals_in, rule_at, TablesFit}
 use Rattle.grammar.proofs.WordLaws.{alternatives-in, length-starts-in}
@@ -110,7 +110,7 @@ module _ (tokens : Bool) (t : List ℕ) (f : TablesFit t) (from count : ℕ) (ne
       let m' = o.1 in
       let q : rule_at t a + (firsts_at + j - rule_at t a) ≡ firsts_at + j = omega arith in
       rw (alternatives-in t a l)
-      (T-anyOf (λ p. passes tokens (test_bit x) (suffix (grammar_in t) p)) (slice (rule_at t a) (rule_at t (suc a)) t) (firsts_at + j - rule_at t a)
+      (T-any_of (λ p. passes tokens (test_bit x) (suffix (grammar_in t) p)) (slice (rule_at t a) (rule_at t (suc a)) t) (firsts_at + j - rule_at t a)
       (slice_get t (rule_at t (suc a)) (firsts_at + j - rule_at t a) (rule_at t a) (omega arith) (omega (arith, f.within a l, f.long))) (rw q s))
 
   pub round_keeps : (x k : ℕ) {r : ℕ} → r ≡ round_of needs owners x k → Derivers tokens (grammar_in t) x → Derivers tokens (grammar_in t) r

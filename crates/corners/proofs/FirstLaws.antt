@@ -16,7 +16,7 @@ use Rattle.base.specs.Bits.{test_bit, set_bit}
 use Rattle.base.specs.Rounds.{any_of}
 use Rattle.base.proofs.Booleans.{clash, same, and_T, T_and, or-T, T-or-l, T-or-r, false→¬T, ¬T→false}
 use Rattle.base.proofs.Bits.{test-set, test-none, test-and, same?}
-use Rattle.base.proofs.Lists.{any_of-T, T-anyOf}
+use Rattle.base.proofs.Lists.{any_of-T, T-any_of}
 use Rattle.grammar.specs.declared.Symbol.{Symbol}
 use Rattle.grammar.specs.declared.Symbol.TheVariants.{Token, Nonterminal, End}
 use Rattle.grammar.specs.Grammar.{Grammar, suffix, facing, owner, alternatives}
@@ -223,7 +223,7 @@ module _ (t : List ℕ) (fits : TablesFit t) (k empty led : ℕ) (rows : List �
       to : T (test_bit (get_or rows a 0) c) → T (any_of (λ f. leads (test_bit 0) c (suffix g f)) (alternatives g a))
       to s =
           let (j, f, d, e) = stands-alternative t fits a (Nonterminal c) (rw whole at (i.row_has a c s)) in
-          T-anyOf (λ f. leads (test_bit 0) c (suffix g f)) (alternatives g a) j d (first-leads c f e)
+          T-any_of (λ f. leads (test_bit 0) c (suffix g f)) (alternatives g a) j d (first-leads c f e)
 
       from : T (any_of (λ f. leads (test_bit 0) c (suffix g f)) (alternatives g a)) → T (test_bit (get_or rows a 0) c)
       from s =
@@ -237,7 +237,7 @@ module _ (t : List ℕ) (fits : TablesFit t) (k empty led : ℕ) (rows : List �
       has : (a : ℕ) → T (test_bit empty a) → T (deriving_round false g (test_bit 0) a)
       has a s =
           let (j, f, d, e) = stands-alternative t fits a End (rw whole at (i.empty-has a s)) in
-          T-anyOf (λ f. passes false (test_bit 0) (suffix g f)) (alternatives g a) j d (end-passes f e)
+          T-any_of (λ f. passes false (test_bit 0) (suffix g f)) (alternatives g a) j d (end-passes f e)
 
       all : (a : ℕ) → a < nonterminals_in t → T (deriving_round false g (test_bit 0) a) → T (test_bit empty a)
       all a l s =
@@ -255,7 +255,7 @@ first-in : (g : Grammar) (a row : ℕ) → MovesFrom 0 g a row → (n f : ℕ) �
 unfolding MovesFrom leads
 first-in g a row h n f e b l q =
     rw (h b)
-    (T-anyOf (λ f. leads (test_bit 0) b (suffix g f)) (alternatives g a) n e
+    (T-any_of (λ f. leads (test_bit 0) b (suffix g f)) (alternatives g a) n e
     (rw q (T-or-l (eqb b b) (test_bit 0 b && leads (test_bit 0) b l) (eqb_refl b))))
 
 -- a nonterminal without an empty production, none of whose first symbols X holds
@@ -266,7 +266,7 @@ first-misses g a row h e X m = ¬T→false (deriving_round false g X a) to
   where
     passing : (n f : ℕ) → get_elem? (alternatives g a) n ≡ some f → (l : List Symbol) → suffix g f ≡ l → T (passes false X l) → ⊥
     passing n f d [] q s =
-        false→¬T (deriving_round false g (test_bit 0) a) e (T-anyOf (λ f. passes false (test_bit 0) (suffix g f)) (alternatives g a) n d (rw q tt))
+        false→¬T (deriving_round false g (test_bit 0) a) e (T-any_of (λ f. passes false (test_bit 0) (suffix g f)) (alternatives g a) n d (rw q tt))
     passing n f d (Token k ∷ l) q s = s
     passing n f d (Nonterminal b ∷ l) q s = false→¬T (X b) (m b (first-in g a row h n f d b l q)) (and_T (X b) (passes false X l) s).0
     passing n f d (End ∷ l) q s = s
@@ -327,12 +327,12 @@ widen-same g a nullable row h z c =
     to : T (any_of (λ f. leads (test_bit 0) c (suffix g f)) (alternatives g a)) → T (any_of (λ f. leads (test_bit nullable) c (suffix g f)) (alternatives g a))
     to t =
         let (n, f, d, s) = any_of-T (λ f. leads (test_bit 0) c (suffix g f)) (alternatives g a) t in
-        T-anyOf (λ f. leads (test_bit nullable) c (suffix g f)) (alternatives g a) n d (more (suffix g f) s)
+        T-any_of (λ f. leads (test_bit nullable) c (suffix g f)) (alternatives g a) n d (more (suffix g f) s)
 
     from : T (any_of (λ f. leads (test_bit nullable) c (suffix g f)) (alternatives g a)) → T (any_of (λ f. leads (test_bit 0) c (suffix g f)) (alternatives g a))
     from t =
         let (n, f, d, s) = any_of-T (λ f. leads (test_bit nullable) c (suffix g f)) (alternatives g a) t in
-        T-anyOf (λ f. leads (test_bit 0) c (suffix g f)) (alternatives g a) n d (less n f d (suffix g f) refl s)
+        T-any_of (λ f. leads (test_bit 0) c (suffix g f)) (alternatives g a) n d (less n f d (suffix g f) refl s)
 
 -- a row that stays as it came
 pub row_first : (g : Grammar) (n a : ℕ) (rows : List ℕ) → MoveRows 0 g n rows → a < n → {x : ℕ} → x ≡ get_or rows a 0 → MovesFrom 0 g a x

@@ -11,7 +11,7 @@ use lib.Dec.{T, eqb, eqb→eq, eqb_refl}
 use lib.ListN.{length}
 use Rattle.base.specs.Rounds.{rounds, any_of, up_from}
 use Rattle.base.proofs.Booleans.{clash, and_T, T_and, or-T, T-or-l, T-or-r, same}
-use Rattle.base.proofs.Lists.{any_of-T, T-anyOf, get-up_from, up_from-get}
+use Rattle.base.proofs.Lists.{any_of-T, T-any_of, get-up_from, up_from-get}
 use Rattle.base.proofs.Fixpoint.{Within}
 use Rattle.grammar.specs.declared.Symbol.{Symbol}
 use Rattle.grammar.specs.declared.Symbol.TheVariants.{Token, Nonterminal, End}
@@ -80,7 +80,7 @@ module _ (g : Grammar) where
       from m =
           let (f, d, q) = production-from g a m.alternative m.stands in
           let (n, d') = first_pos g a m.alternative f d in
-          T-anyOf (λ f. leads (nullable? g) c (suffix g f)) (alternatives g a) n d'
+          T-any_of (λ f. leads (nullable? g) c (suffix g f)) (alternatives g a) n d'
           (rw q (split-leads (nullable? g) c m.ahead m.behind ((vanish-iff g m.ahead).1 m.empty)))
 
   -- a move begins at a nonterminal of the grammar
@@ -148,7 +148,7 @@ module _ (g : Grammar) (c : ℕ) where
   way_in X a (last m) = T-or-l (move? g a c) (further X a) ((move-iff g a c).1 m)
   way_in X a (next b l m x) =
       T-or-r (move? g a c) (further X a)
-      (T-anyOf (λ b. move? g a b && X b) (up_from 0 (length g.starts)) (b - 0) (up_from-get (length g.starts) 0 b (omega arith) (omega arith))
+      (T-any_of (λ b. move? g a b && X b) (up_from 0 (length g.starts)) (b - 0) (up_from-get (length g.starts) 0 b (omega arith) (omega arith))
       (T_and (move? g a b) (X b) ((move-iff g a b).1 m) x))
 
   reach-mono : (X Y : ℕ → Bool) → Within X Y → Within (reaches_round g c X) (reaches_round g c Y)

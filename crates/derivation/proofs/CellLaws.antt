@@ -11,7 +11,7 @@ use lib.Dec.{T, eqb→eq, eqb_refl, leb, leb→le, le→leb}
 use lib.ListN.{length, get_elem?}
 use Rattle.base.specs.Rounds.{rounds, any_of}
 use Rattle.base.proofs.Booleans.{clash, and_T, T_and}
-use Rattle.base.proofs.Lists.{Found, any_of-T, T-anyOf, get-up_from, up_from-get, get-below}
+use Rattle.base.proofs.Lists.{Found, any_of-T, T-any_of, get-up_from, up_from-get, get-below}
 use Rattle.base.proofs.Fixpoint.{Within, settle}
 use Rattle.grammar.specs.declared.Symbol.{Symbol}
 use Rattle.grammar.specs.declared.Symbol.TheVariants.{Token, Nonterminal, End}
@@ -35,7 +35,7 @@ module _ (g : Grammar) (w : List ℕ) (X : Cell → Bool) (p i j : ℕ) where
   cut_in : (f m : ℕ) → i ≤ m → m ≤ j → T (X (cell f i m)) → T (X (cell (suc p) m j)) → T (any_of (by_cut g w X p i j f) (cuts i j))
   unfolding by_cut
   cut_in f m l k x y =
-      T-anyOf (by_cut g w X p i j f) (cuts i j) (m - i) (up_from-get (suc j - i) i m l (omega arith)) (T_and (X (cell f i m)) (X (cell (suc p) m j)) x y)
+      T-any_of (by_cut g w X p i j f) (cuts i j) (m - i) (up_from-get (suc j - i) i m l (omega arith)) (T_and (X (cell f i m)) (X (cell (suc p) m j)) x y)
 
   by_in : Way g w X p i j → T (by_symbol g w X p i j (facing g p))
   unfolding by_symbol
@@ -43,7 +43,7 @@ module _ (g : Grammar) (w : List ℕ) (X : Cell → Bool) (p i j : ℕ) where
   by_in (token {k = k} {t = t} e d a x) = rw (e, d) (T_and (admits g k t) (X (cell (suc p) (suc i) j)) a x)
   by_in (call {a = a} zero e d l k x y) = clash (cc)
   by_in (call {a = a} {f = f} {m = m} (suc b) e d l k x y) =
-      rw e (T-anyOf (λ f. any_of (by_cut g w X p i j f) (cuts i j)) (alternatives g a) b d (cut_in f m l k x y))
+      rw e (T-any_of (λ f. any_of (by_cut g w X p i j f) (cuts i j)) (alternatives g a) b d (cut_in f m l k x y))
 
   way_in : j ≤ length w → Way g w X p i j → T (cell_round g w X (cell p i j))
   unfolding cell_round
@@ -178,7 +178,7 @@ module _ (g : Grammar) (w : List ℕ) where
   ders-runs (more {p = p} {S = S} {i = i} {m = m} x xs) e =
       let l = der-le x in
       let k = der-in x in
-      T-anyOf (λ m. derives? g w p i m && runs? g w S m) (cuts i (length w)) (m - i) (up_from-get (suc (length w) - i) i m l (omega arith))
+      T-any_of (λ m. derives? g w p i m && runs? g w S m) (cuts i (length w)) (m - i) (up_from-get (suc (length w) - i) i m l (omega arith))
       (T_and (derives? g w p i m) (runs? g w S m) (derives-complete x) (ders-runs xs e))
 
   pub runs-iff : (S : List ℕ) (i : ℕ) → T (runs? g w S i) ↔ Opens g w S i

@@ -10,7 +10,7 @@ use lib.Dec.{T, eqb, eqb→eq, eqb_refl}
 use lib.ListN.{length, get_elem?}
 use Rattle.base.specs.Rounds.{any_of, up_from}
 use Rattle.base.proofs.Booleans.{clash, and_T, T_and, or-T, T-or-l, T-or-r}
-use Rattle.base.proofs.Lists.{Found, any_of-T, T-anyOf, up_from-get}
+use Rattle.base.proofs.Lists.{Found, any_of-T, T-any_of, up_from-get}
 use Rattle.base.proofs.Fixpoint.{Within}
 use Rattle.grammar.specs.declared.Symbol.{Symbol}
 use Rattle.grammar.specs.declared.Symbol.TheVariants.{Token, Nonterminal, End}
@@ -35,7 +35,7 @@ pub data ReachedBy (g : Grammar) (w : List ℕ) (X : Point → Bool) (q j : ℕ)
 opens_in : (g : Grammar) (a b f : ℕ) → first g a b ≡ some f → T (opens? g a f)
 unfolding opens?
 opens_in g a zero f e = clash (cc)
-opens_in g a (suc n) f e = T-anyOf (eqb f) (alternatives g a) n e (eqb_refl f)
+opens_in g a (suc n) f e = T-any_of (eqb f) (alternatives g a) n e (eqb_refl f)
 
 opens-out : (g : Grammar) (a f : ℕ) → T (opens? g a f) → (b : ℕ) × (first g a b ≡ some f)
 unfolding opens?
@@ -56,7 +56,7 @@ module _ (g : Grammar) (w : List ℕ) (X : Point → Bool) where
   unfolding over_stretch
   stretch-in p j f i x y =
       let l = der-le (derives-sound g w x).1 in
-      T-anyOf (over_stretch g w X p j f) (up_from 0 (suc j)) (i - 0) (up_from-get (suc j) 0 i (omega arith) (omega arith))
+      T-any_of (over_stretch g w X p j f) (up_from 0 (suc j)) (i - 0) (up_from-get (suc j) 0 i (omega arith) (omega arith))
       (T_and (derives? g w f i j) (X (point p i)) x y)
 
   return-in : (p i b j : ℕ) {a f : ℕ} → facing g p ≡ Nonterminal a → first g a b ≡ some f → T (derives? g w f i j) → T (X (point p i))
@@ -64,13 +64,13 @@ module _ (g : Grammar) (w : List ℕ) (X : Point → Bool) where
   unfolding by_place
   return-in p i zero j e d x y = clash (cc)
   return-in p i (suc n) j {a} {f} e d x y =
-      rw e (T-anyOf (λ f. any_of (over_stretch g w X p j f) (up_from 0 (suc j))) (alternatives g a) n d (stretch-in p j f i x y))
+      rw e (T-any_of (λ f. any_of (over_stretch g w X p j f) (up_from 0 (suc j))) (alternatives g a) n d (stretch-in p j f i x y))
 
   call-in : (p b q j : ℕ) {a : ℕ} → facing g p ≡ Nonterminal a → first g a b ≡ some q → T (X (point p j)) → T (by_call g w X q j)
   unfolding by_call
   call-in p b q j {a} e d x =
       let l = faces-place g p (λ z. clash (cc)) in
-      T-anyOf (λ p. into_call g w X q j p (facing g p)) (up_from 0 (length g.places)) (p - 0) (up_from-get (length g.places) 0 p (omega arith) (omega arith))
+      T-any_of (λ p. into_call g w X q j p (facing g p)) (up_from 0 (length g.places)) (p - 0) (up_from-get (length g.places) 0 p (omega arith) (omega arith))
       (rw e (T_and (opens? g a q) (X (point p j)) (opens_in g a b q d) x))
 
   module _ (q j : ℕ) where

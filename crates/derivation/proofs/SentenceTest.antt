@@ -4,7 +4,7 @@ use mathlib.Core.Logic.{◌↔◌}
 use mathlib.Core.List.{List, [], ◌∷◌}
 use Prim.Native.Nat.{ℕ, suc}
 use lib.Dec.{T}
-use Rattle.base.proofs.Lists.{any_of-T, T-anyOf}
+use Rattle.base.proofs.Lists.{any_of-T, T-any_of}
 use Rattle.grammar.specs.Limits.{end_place, end_mark}
 use Rattle.grammar.specs.declared.Symbol.TheVariants.{Token, End}
 use Rattle.grammar.specs.Grammar.{Grammar, facing, alternatives, of_places}
@@ -31,4 +31,4 @@ sentence-iff g ends last w = (to, from)
     from h =
         let (b, r, (f, e, x)) = (whole-sentence g ends last 0 w).1 h in
         let (n, d) = first_pos g 0 b f e in
-        T-anyOf (λ f. runs? g (marked w) (f ∷ end_place ∷ []) 0) (alternatives g 0) n d ((runs-iff g (marked w) (f ∷ end_place ∷ []) 0).1 (r, x))
+        T-any_of (λ f. runs? g (marked w) (f ∷ end_place ∷ []) 0) (alternatives g 0) n d ((runs-iff g (marked w) (f ∷ end_place ∷ []) 0).1 (r, x))

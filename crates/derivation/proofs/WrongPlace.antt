@@ -11,7 +11,7 @@ use lib.Dec.{T}
 use lib.ListN.{length, get_elem?}
 use Rattle.base.specs.Rounds.{any_of, up_from}
 use Rattle.base.proofs.Booleans.{clash, or-T, T-or-l, T-or-r, true→T, false→¬T}
-use Rattle.base.proofs.Lists.{any_of-T, T-anyOf, up_from-get}
+use Rattle.base.proofs.Lists.{any_of-T, T-any_of, up_from-get}
 use Rattle.grammar.specs.Grammar.{Grammar, alternatives, first, of_places}
 use Rattle.grammar.proofs.GrammarLaws.{first_pos, no-alternatives}
 use Rattle.grammar.proofs.GrammarLaws.{faces-place}
@@ -53,13 +53,13 @@ module _ (g : Grammar) (w : List ℕ) (k : ℕ) where
   unfolding arrives? Reachable
   arrives_in p t (inl l) =
       T-or-l by_places by_firsts
-      (T-anyOf (λ p. reach? g w p k) (up_from 0 (suc (length g.places))) (p - 0) (up_from-get (suc (length g.places)) 0 p (omega arith) (omega arith)) t)
+      (T-any_of (λ p. reach? g w p k) (up_from 0 (suc (length g.places))) (p - 0) (up_from-get (suc (length g.places)) 0 p (omega arith) (omega arith)) t)
   arrives_in p t (inr (a, b, e)) =
       let l = has_first g a b p e in
       let h = first_pos g a b p e in
       T-or-r by_places by_firsts
-      (T-anyOf (λ a. any_of (λ f. reach? g w f k) (alternatives g a)) (up_from 0 (length g.starts)) (a - 0)
-      (up_from-get (length g.starts) 0 a (omega arith) (omega arith)) (T-anyOf (λ f. reach? g w f k) (alternatives g a) h.0 h.1 t))
+      (T-any_of (λ a. any_of (λ f. reach? g w f k) (alternatives g a)) (up_from 0 (length g.starts)) (a - 0)
+      (up_from-get (length g.starts) 0 a (omega arith) (omega arith)) (T-any_of (λ f. reach? g w f k) (alternatives g a) h.0 h.1 t))
 
   arrives-out : T by_places ⊎ T by_firsts → Arrives g w k
   arrives-out (inl t) = let (n, p, e, s) = any_of-T (λ p. reach? g w p k) (up_from 0 (suc (length g.places))) t in (p, (reach-iff g w p k).0 s)

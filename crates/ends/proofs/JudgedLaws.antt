@@ -12,7 +12,7 @@ use lib.ListN.{length, get_or, get_elem?}
 use lib.Seq.{slice_empty}
 use Rattle.base.proofs.Bits.{same?}
 use Rattle.base.proofs.Booleans.{clash, T_and, T-or-l, T-or-r}
-use Rattle.base.proofs.Lists.{any_of-T, T-anyOf}
+use Rattle.base.proofs.Lists.{any_of-T, T-any_of}
 use Rattle.grammar.specs.declared.Symbol.TheVariants.{Nonterminal}
 use Rattle.grammar.specs.Grammar.{Grammar, facing, alternatives, first, suffix, of_places}
 use Rattle.grammar.specs.Derivation.{Leftmost}
@@ -83,7 +83,7 @@ module _ (t w : List ℕ) (i : ℕ) (ws : List ℕ) (row : Row t w i ws) where
   corner-in : (a n f c : ℕ) → get_elem? (alternatives (grammar_in t) a) n ≡ some f → T (leads (nullable? (grammar_in t)) c (suffix (grammar_in t) f))
       → T (move? (grammar_in t) a c)
   unfolding move?
-  corner-in a n f c e x = T-anyOf (λ f. leads (nullable? (grammar_in t)) c (suffix (grammar_in t) f)) (alternatives (grammar_in t) a) n e x
+  corner-in a n f c e x = T-any_of (λ f. leads (nullable? (grammar_in t)) c (suffix (grammar_in t) f)) (alternatives (grammar_in t) a) n e x
 
   pub judged-none : (order ends : List ℕ) → SoundEnds t w i ends → Judged t w ws i order 0 ends
   judged-none order ends sound = record { sound = sound; closed = λ a (m, h, e). absurd (omega arith) }
@@ -109,7 +109,7 @@ module _ (t w : List ℕ) (i : ℕ) (ws : List ℕ) (row : Row t w i ws) where
           go (n, f, e, y) =
               let known = row-known t w i ws row in
               let l = known.kept.starts a (suc n) f e in
-              T-anyOf (leads_to t w ws i ends j) (alternatives (grammar_in t) a) n e
+              T-any_of (leads_to t w ws i ends j) (alternatives (grammar_in t) a) n e
               (lead-under (grammar_in t) (nonterminals_in t) w (cells_in t ws) i known row.here (end_has after) (end_has ends) (empty-known after sound-now) j
               ((grammar_in t).size - f) f (omega arith) l
               (λ c m u v z. rw (look.others c m (unlike c (under c (corner-in a n f c e u))) (omega (arith, row-short row))) at z) y)

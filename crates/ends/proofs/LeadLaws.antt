@@ -10,7 +10,7 @@ use lib.Dec.{T, eqb→eq, eqb_refl}
 use lib.ListN.{length, get_elem?}
 use Rattle.base.proofs.Bits.{same?}
 use Rattle.base.proofs.Booleans.{clash, and_T, T_and, or-T, T-or-l, T-or-r, same}
-use Rattle.base.proofs.Lists.{any_of-T, T-anyOf, get-below}
+use Rattle.base.proofs.Lists.{any_of-T, T-any_of, get-below}
 use Rattle.grammar.specs.declared.Symbol.{Symbol}
 use Rattle.grammar.specs.declared.Symbol.TheVariants.{Token, Nonterminal, End}
 use Rattle.grammar.specs.Grammar.{Grammar, facing, admits, alternatives, first, before, suffix}
@@ -80,7 +80,7 @@ module _ (g : Grammar) (w : List ℕ) (E : ℕ → ℕ → Bool) (C : ℕ → �
 module _ (g : Grammar) (w : List ℕ) (i : ℕ) where
   pub ends-in : (a b : ℕ) {f j : ℕ} {r : List ℕ} → first g a b ≡ some f → Der g w f i j r → T (ends_at g w i a j)
   unfolding ends_at
-  ends-in a b {f} {j} e x = let (n, d) = first_pos g a b f e in T-anyOf (λ f. derives? g w f i j) (alternatives g a) n d (derives-complete g w x)
+  ends-in a b {f} {j} e x = let (n, d) = first_pos g a b f e in T-any_of (λ f. derives? g w f i j) (alternatives g a) n d (derives-complete g w x)
 
   pub ends-out : (a j : ℕ) → T (ends_at g w i a j) → (b : ℕ) × (f : ℕ) × (first g a b ≡ some f) × DerivesBy g w f i j
   unfolding ends_at

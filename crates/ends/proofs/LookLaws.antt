@@ -10,7 +10,7 @@ use native.Mathlib.Decide.{dec_lt}
 use lib.Dec.{T}
 use lib.ListN.{length, get_elem?, replicate, get_or-replicate}
 use Rattle.base.proofs.Bits.{same?, test-none}
-use Rattle.base.proofs.Lists.{any_of-T, T-anyOf}
+use Rattle.base.proofs.Lists.{any_of-T, T-any_of}
 use Rattle.grammar.specs.Limits.{max_nonterminals}
 use Rattle.grammar.specs.Grammar.{alternatives, first}
 use Rattle.grammar.specs.inside.Tables.{grammar_in, nonterminals_in}
@@ -99,4 +99,4 @@ module _ (t w : List ℕ) (i : ℕ) (ws : List ℕ) (row : Row t w i ws) where
       closed : (a b f j : ℕ) → first (grammar_in t) a b ≡ some f → j < position_count → T (leads_to t w ws i ends j f) → T (end_has ends a j)
       closed a b f j d l x =
           let (n, q) = first_pos (grammar_in t) a b f d in
-          all a (row-known.called a b f d) j l (T-anyOf (leads_to t w ws i ends j) (alternatives (grammar_in t) a) n q x)
+          all a (row-known.called a b f d) j l (T-any_of (leads_to t w ws i ends j) (alternatives (grammar_in t) a) n q x)

@@ -10,7 +10,7 @@ use native.Mathlib.Omega.{arith}
 use lib.Dec.{T}
 use lib.ListN.{length}
 use Rattle.base.proofs.Booleans.{clash, T_and}
-use Rattle.base.proofs.Lists.{T-anyOf}
+use Rattle.base.proofs.Lists.{T-any_of}
 use Rattle.grammar.specs.declared.Symbol.{Symbol}
 use Rattle.grammar.specs.declared.Symbol.TheVariants.{Token, Nonterminal, End}
 use Rattle.grammar.specs.Derivation.{Leftmost, Derives}
@@ -35,7 +35,7 @@ empties : (g : Grammar) (a b f : ℕ) → first g a b ≡ some f → T (passes f
 unfolding deriving_round
 empties g a b f d s =
     let (n, e) = first_pos g a b f d in
-    round-within false g (nullable? g) (λ c x. x) a (T-anyOf (λ f. passes false (nullable? g) (suffix g f)) (alternatives g a) n e s)
+    round-within false g (nullable? g) (λ c x. x) a (T-any_of (λ f. passes false (nullable? g) (suffix g f)) (alternatives g a) n e s)
 
 module _ {g : Grammar} {t : ℕ} where
   -- in a list of two parts it begins the first, or the first may be empty and it begins the second

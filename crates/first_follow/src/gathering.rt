@@ -58,7 +58,7 @@ pub fn gather(
     requires { Ready tables.now × DerivingIs false (grammar_in tables.now) nullable
         × Gathered (grammar_in tables.now) 0 (record { masks = masks.now; above = above.old; before = before.old; last = last.old }) }
     ensures { Gathered (grammar_in tables.now) (grammar_in tables.now).size
-        (record { masks = masks.exit.now; above = above.new; before = before.new; last = last.new }) }
+        (record { masks = masks.new; above = above.new; before = before.new; last = last.new }) }
 {
     let size = grammar::size(tables);
     let mut ahead = 0;

@@ -12,12 +12,12 @@ ghost use Rattle.first_follow.specs.inside.Steps.{Marking, Kind, Kinds, Related}
 fn mark_kind(masks: &mut [u32], t: usize, above: &[u32], before: &[u32], last: &[u32])
     requires { (t ≤ max_kinds)
         × Marking (record { masks = masks.now; above = above.now; before = before.now; last = last.now }) }
-    ensures { (length masks.exit.now ≡ mask_words) × Kind (record {
-      masks = masks.entry.now;
+    ensures { (length masks.new ≡ mask_words) × Kind (record {
+      masks = masks.old;
       above = above.now;
       before = before.now;
       last = last.now;
-    }) t masks.exit.now }
+    }) t masks.new }
 {
     let front = masks[2 * t];
     let starts = crate::joining::joined(above, front, front);
@@ -30,12 +30,12 @@ fn mark_kind(masks: &mut [u32], t: usize, above: &[u32], before: &[u32], last: &
 fn mark_kinds(masks: &mut [u32], kinds: usize, above: &[u32], before: &[u32], last: &[u32])
     requires { (kinds ≤ max_kinds)
         × Marking (record { masks = masks.now; above = above.now; before = before.now; last = last.now }) }
-    ensures { (length masks.exit.now ≡ mask_words) × Kinds (record {
-      masks = masks.entry.now;
+    ensures { (length masks.new ≡ mask_words) × Kinds (record {
+      masks = masks.old;
       above = above.now;
       before = before.now;
       last = last.now;
-    }) (suc kinds) masks.exit.now }
+    }) (suc kinds) masks.new }
 {
     let mut t = 0;
     while t <= kinds {

@@ -11,7 +11,7 @@ use lib.Dec.{T, eqb, ltb, leb, eqb_refl, eqb→eq}
 use lib.ListN.{length, length-append}
 use borrow.Author.Tests.{ltb-true, ltb-false, leb-true, leb-false}
 use Rattle.base.proofs.Booleans.{and_T, T_and, true→T, false→¬T}
-use Rattle.base.proofs.Lists.{any_of-T, T-anyOf}
+use Rattle.base.proofs.Lists.{any_of-T, T-any_of}
 use Rattle.grammar.specs.Grammar.{Grammar}
 use Rattle.lookahead.specs.Configs.{Config, In, Closes}
 use Rattle.lookahead.specs.Closing.{max_members, max_entries, same_list, same_config, member?, shallow, add, add_all}
@@ -58,7 +58,7 @@ member-in d ms t = let h = any_of-T (λ (c : Config). same_config d c) ms t in M
 
 in-member : (d : Config) (ms : List Config) → In d ms → T (member? d ms)
 unfolding member?
-in-member d ms m = let h = in-get m in T-anyOf (λ (c : Config). same_config d c) ms h.0 h.1 (config-same d)
+in-member d ms m = let h = in-get m in T-any_of (λ (c : Config). same_config d c) ms h.0 h.1 (config-same d)
 
 -- ---- members
 module _ (g : Grammar) (start : List Config) where

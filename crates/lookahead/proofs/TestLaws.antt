@@ -9,7 +9,7 @@ use Prim.Native.Nat.{ℕ}
 use borrow.Author.Tests.{eq-eqb}
 use Rattle.base.specs.Rounds.{any_of}
 use Rattle.base.proofs.Booleans.{and_T, T_and, or-T, T-or-l, T-or-r, true→T}
-use Rattle.base.proofs.Lists.{any_of-T, T-anyOf}
+use Rattle.base.proofs.Lists.{any_of-T, T-any_of}
 use Rattle.grammar.specs.declared.Symbol.{Symbol}
 use Rattle.grammar.specs.declared.Symbol.TheVariants.{Token, Nonterminal, End}
 use Rattle.grammar.specs.Grammar.{Grammar, facing}
@@ -26,7 +26,7 @@ pub any_out : {A : Type 0} (f : A → Bool) (l : List A) → T (any_of f l) → 
 any_out f l t = let h = any_of-T f l t in (h.1, get_in l h.0 h.2, h.3)
 
 pub any-in : {A : Type 0} (f : A → Bool) (l : List A) {x : A} → In x l → T (f x) → T (any_of f l)
-any-in f l m t = let h = in-get m in T-anyOf f l h.0 h.1 t
+any-in f l m t = let h = in-get m in T-any_of f l h.0 h.1 t
 
 -- a test that does not fail passes
 unnot : (b : Bool) → ¬ T (not b) → T b

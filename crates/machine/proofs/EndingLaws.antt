@@ -10,7 +10,7 @@ use lib.ListN.{length, take, replicate}
 use lib.Seq.{length-take-le}
 use borrow.Author.Tests.{ne_eqb}
 use Rattle.base.proofs.Booleans.{clash, same}
-use Rattle.base.proofs.Lists.{any_of-T, T-anyOf}
+use Rattle.base.proofs.Lists.{any_of-T, T-any_of}
 use Rattle.base.specs.Search.{LowestIs, this, nothing}
 use Rattle.grammar.specs.Limits.{end_place}
 use Rattle.grammar.specs.Grammar.{Grammar, alternatives}
@@ -49,7 +49,7 @@ asked-sentence g w = go (machine.lowest g (marked w) (end_place ∷ []) 0 0) (lo
     go o (this zero x y) = let e = x.1 in clash (cc)
     go o (this (suc b) (f, e, x) y) = ap not (ne_eqb (suc b) 0 (λ z. omega arith)) ∙ same true (sentence? g w) (λ _.
         let (k, d) = first_pos g 0 (suc b) f e in
-        T-anyOf reads (alternatives g 0) k d ((runs-iff g (marked w) (f ∷ end_place ∷ []) 0).1 x)) (λ _. tt)
+        T-any_of reads (alternatives g 0) k d ((runs-iff g (marked w) (f ∷ end_place ∷ []) 0).1 x)) (λ _. tt)
 
 pub sentence-is : (t w ws : List ℕ) → Fit ws → Given t w ws → {e s : List ℕ} {r : ℕ} → e ≡ empty_set → s ≡ with_of e (length w) → r
     ≡ lowest_in t ws 0 0 s → not (eqb r 0) ≡ sentence? (grammar_in t) w

@@ -8,7 +8,7 @@ use native.Mathlib.Omega.{arith}
 use lib.Dec.{T, eqb, eqb→eq, eqb_refl}
 use lib.ListN.{length}
 use Rattle.base.proofs.Booleans.{clash, T→true, and_T, T_and, same}
-use Rattle.base.proofs.Lists.{any_of-T, T-anyOf, up_from-get}
+use Rattle.base.proofs.Lists.{any_of-T, T-any_of, up_from-get}
 use Rattle.base.proofs.Lowest.{lowest-same}
 use Rattle.grammar.specs.declared.Symbol.TheVariants.{Nonterminal}
 use Rattle.grammar.specs.Limits.{end_place, end_mark}
@@ -112,7 +112,7 @@ module _ (t : List ℕ) (h : Ready t) (w ws : List ℕ) (charted : Charted t w w
       let d = (derives-sound (grammar_in t) (marked w) x).1 in
       let a = der-le d in
       let b = der-in d in
-      T-anyOf (λ m. derives? (grammar_in t) (marked w) p i m && runs? (grammar_in t) (marked w) S m) (cuts i (length (marked w))) (j - i)
+      T-any_of (λ m. derives? (grammar_in t) (marked w) p i m && runs? (grammar_in t) (marked w) S m) (cuts i (length (marked w))) (j - i)
       (up_from-get (suc (length (marked w)) - i) i j a (omega arith)) (T_and (derives? (grammar_in t) (marked w) p i j) (runs? (grammar_in t) (marked w) S j) x y)
 
   -- a place over a stack derives the rest exactly if it can end in a set that is right there
@@ -175,4 +175,4 @@ module _ (t : List ℕ) (h : Ready t) (w ws : List ℕ) (charted : Charted t w w
       held =
           let (n, o) = first_pos (grammar_in t) a b f c in
           rw (ending m (omega (arith, inside)))
-          (T-anyOf (λ f. cell_has (grammar_in t).size ws f i m) (alternatives (grammar_in t) a) n o (cell_holds f i m (ready-first t h a b f c) l x))
+          (T-any_of (λ f. cell_has (grammar_in t).size ws f i m) (alternatives (grammar_in t) a) n o (cell_holds f i m (ready-first t h a b f c) l x))

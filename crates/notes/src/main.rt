@@ -2,7 +2,7 @@
 // or `bad` where the line is no note. Each is read quickly by grammar G1, over one cache throughout.
 #![tactic(auto)]
 
-ghost use Rattle.std.specs.Prelude.{◌≡◌, ◌≤◌, IfOk, OnErr, length, take};
+ghost use Rattle.std.specs.Prelude.{◌≡◌, ◌≤◌, Contains, IfOk, OnErr, length, take};
 ghost use Rattle.lines.specs.Line.{max_kept_bytes};
 ghost use Rattle.lines.specs.Kept.{line_end, kept_on, kept_after};
 
@@ -29,10 +29,15 @@ const G1_PLACES: usize = 10;
 const SPACE_WORDS: usize = allstar::SPACE_WORDS
     + allstar::SPACE_WORDS_EACH * (G1_PLACES * (lines::MAX_TOKENS + 1));
 
+// Writes a blank and a number.
+fn write_number<W: Write>(out: &mut W, n: u64) -> io::Result<()> {
+    write!(out, " {n}")
+}
+
 // Writes so many entries of the row.
 fn write_entries<W: Write>(out: &mut W, row: &[u16], count: usize) -> io::Result<()> {
     for entry in row.iter().take(count) {
-        write!(out, " {entry}")?;
+        write_number(out, u64::from(*entry))?;
     }
     Ok(())
 }
@@ -50,10 +55,12 @@ fn tell<W: Write>(
     if number == 0 {
         out.write_all(b"ok")?;
         write_entries(out, &row, reading.count())?;
-        return out.write_all(b"\n");
+    } else {
+        out.write_all(b"no")?;
+        write_number(out, u64::from(number))?;
+        write_number(out, reading.place() as u64)?;
     }
-    let place = reading.place();
-    writeln!(out, "no {number} {place}")
+    out.write_all(b"\n")
 }
 
 // Answers a line, or what is kept of it.
@@ -94,7 +101,8 @@ fn step<W: Write>(
     Ok(0)
 }
 
-// The bytes of one reading of the input. What is then kept of the open line says what all of it says (`kept-open-says` of `lines`).
+// The bytes of one reading of the input. What is then kept of the open line says what all of it says (`kept-open-says` of `lines`). Only a reading that ends
+// a line can fail.
 fn feed<W: Write>(
     out: &mut W,
     bytes: &[u8],
@@ -107,6 +115,7 @@ fn feed<W: Write>(
     requires line_length { length line.old ≡ max_kept_bytes }
     ensures line_after { IfOk result (λ n. take n line.new ≡ kept_after max_kept_bytes (take kept line.old) bytes.now) }
     ensures upper_bound { IfOk result (λ n. n ≤ max_kept_bytes) }
+    ensures fails_at_end { OnErr result (Contains bytes.now line_end) }
 {
     let mut k = kept;
     for byte in bytes {

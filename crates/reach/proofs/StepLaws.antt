@@ -10,7 +10,7 @@ use lib.Dec.{T}
 use lib.ListN.{length, get_elem?}
 use borrow.Author.Tests.{not-true, not-false}
 use Rattle.base.proofs.Booleans.{clash, true→T, false→¬T}
-use Rattle.base.proofs.Lists.{Found, any_of-T, T-anyOf, get-below}
+use Rattle.base.proofs.Lists.{Found, any_of-T, T-any_of, get-below}
 use Rattle.grammar.specs.declared.Symbol.TheVariants.{Token, Nonterminal, End}
 use Rattle.grammar.specs.Limits.{max_places}
 use Rattle.grammar.specs.Grammar.{Grammar, facing, admits, first, alternatives}
@@ -116,7 +116,7 @@ module _ (t w cs : List ℕ) (a i : ℕ) (ends : List ℕ) (ready : Ready t) (ch
   unfolding EndsOf
   ends-in j b f m e u =
       let n = first_pos (grammar_in t) a b f e in
-      rw (h j m) (T-anyOf (λ f. cell_has (grammar_in t).size cs f i j) (alternatives (grammar_in t) a) n.0 n.1 (rw (cell-is b f j m e) u))
+      rw (h j m) (T-any_of (λ f. cell_has (grammar_in t).size cs f i j) (alternatives (grammar_in t) a) n.0 n.1 (rw (cell-is b f j m e) u))
 
   module _ (p : ℕ) {r s : Bool} {ws mid after : List ℕ} (e : facing (grammar_in t) p ≡ Nonterminal a) (x : Added (Opening (grammar_in t) a i) r ws mid)
       (y : Added (λ q j. (q ≡ p + 1) × T (member ends j)) s mid after) where

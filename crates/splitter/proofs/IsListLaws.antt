@@ -12,7 +12,7 @@ use lib.Seq.{drop-append_seam}
 use borrow.Author.Tests.{eq-eqb, lt-leb}
 use Rattle.base.specs.Rounds.{any_of}
 use Rattle.base.proofs.Booleans.{and_T, true→T}
-use Rattle.base.proofs.Lists.{any_of-T, T-anyOf, get-below, get-front, get_seam}
+use Rattle.base.proofs.Lists.{any_of-T, T-any_of, get-below, get-front, get_seam}
 use Rattle.splitter.specs.Classes.{class_of, letter_class, letter?}
 use Rattle.splitter.specs.Listing.{max_listed, space, word_run, same_bytes?, among?, word_first?, next?, on_blank, words_from, list_of}
 use Rattle.splitter.specs.Cutting.{IsWord}
@@ -28,7 +28,7 @@ Fresh ws u = (i : ℕ) → ¬ (get_elem? ws i ≡ some u)
 
 among-fresh : (ws : List (List ℕ)) (u : List ℕ) → T (not (among? ws u)) → Fresh ws u
 unfolding among?
-among-fresh ws u t i q = T_not (among? ws u) t (T-anyOf (λ w. same_bytes? w u) ws i q (true→T (same_bytes? u u) (same_refl u)))
+among-fresh ws u t i q = T_not (among? ws u) t (T-any_of (λ w. same_bytes? w u) ws i q (true→T (same_bytes? u u) (same_refl u)))
 
 fresh-among : (ws : List (List ℕ)) (u : List ℕ) → Fresh ws u → among? ws u ≡ false
 unfolding among?

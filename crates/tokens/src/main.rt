@@ -2,7 +2,7 @@
 // the kinds of its tokens, or `no`, the refusal's number and the place.
 #![tactic(auto)]
 
-ghost use Rattle.std.specs.Prelude.{◌≡◌, ◌≤◌, false, IfOk, OnErr, length, take};
+ghost use Rattle.std.specs.Prelude.{◌≡◌, ◌≤◌, false, Contains, IfOk, OnErr, length, take};
 ghost use Rattle.lines.specs.Kept.{line_end};
 ghost use Rattle.lines.specs.Headed.{headed, headed_on, headed_after};
 ghost use Rattle.tokens.specs.Sizes.{max_list, max_kept_line};
@@ -116,6 +116,7 @@ fn step<W: Write>(
 }
 
 // The bytes of one reading of the input. What is then kept are the first bytes of the list's line and of the open line behind it (`kept-headed` of `lines`).
+// Only a reading that ends a line can fail.
 fn feed<W: Write>(
     out: &mut W,
     bytes: &[u8],
@@ -132,6 +133,7 @@ fn feed<W: Write>(
         (headed start.in_list (take start.listed list.old) (take start.kept line.old)) bytes.now) }
     ensures listed_upper { IfOk result (λ to. to.listed ≤ max_list) }
     ensures kept_upper { IfOk result (λ to. to.kept ≤ max_kept_line) }
+    ensures fails_at_end { OnErr result (Contains bytes.now line_end) }
 {
     let mut at = start;
     for byte in bytes {

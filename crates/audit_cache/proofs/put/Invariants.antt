@@ -1,5 +1,5 @@
 -- Words are only added, and as far as there is room.
-use Rattle.std.proofs.Common.{length, ◌-◌, ◌≤◌}
+use Rattle.std.proofs.Common.{◌-◌, ◌≤◌}
 use Rattle.audit_cache.proofs.put.Given as goal
 
 abbrev pub invariant-loop-i : goal.invariant-loop-i

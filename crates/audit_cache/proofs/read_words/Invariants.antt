@@ -1,5 +1,5 @@
 -- No more words are held than there is room for, and each turn of the loop adds one at least.
-use Rattle.std.proofs.Common.{length, ◌-◌, ◌≤◌}
+use Rattle.std.proofs.Common.{◌-◌, ◌≤◌}
 use Rattle.audit_cache.proofs.read_words.Given as goal
 
 abbrev pub invariant-loop-held : goal.invariant-loop-held

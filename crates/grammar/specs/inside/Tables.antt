@@ -1,7 +1,7 @@
 -- The compiled tables: a grammar in words of 16 bits. Every reader is total: any words at all say a grammar.
 --   from 0           the places, the end place last: the symbol's code, and above it the owner
 --   from firsts_at    the first place of each production, in the order of the bytes
---   from logicAt     for each nonterminal the number of its first production, counted over all; behind the last, the number of productions
+--   from rules_at     for each nonterminal the number of its first production, counted over all; behind the last, the number of productions
 --   from kinds_at     the highest kind, the number of nonterminals, the number of places
 --   from corners_at   for each nonterminal the set of its left corners, 32 bits in two words: no part of the grammar, but worked out of it by the check
 use Rattle.std.specs.Prelude.{◌≡◌, ℕ, suc, ◌+◌, ◌-◌, ◌*◌, ◌/◌, ◌%◌, ◌≤◌, ◌<◌, List, [], ◌∷◌, map, cond, length, get_or, set, take, eqb}
