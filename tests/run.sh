@@ -35,7 +35,7 @@ expect() {
 crates=$(../repository/tools/knows notes | wc -l)
 if ../repository/run missing 2> /dev/null; then echo "run: a file that is not there"; exit 1; fi
 [ ! -e ../repository/target ] || { echo "run: proves before it has its file"; exit 1; }
-expect "a first run" "Everything is proved before it runs, $crates crates: about five minutes the first time." \
+expect "a first run" "Everything is proved before it runs, $crates crates: about a quarter of an hour the first time." \
     "TIME 0 of $crates crates proved, now: base" "TIME 1 of $crates crates proved, now: notes" "notes:" "1 2" \
     < <(../repository/run mine 2>&1)
 status=0
