@@ -33,6 +33,7 @@ while IFS=: read -r document name; do
     grep -qxF -- "${part#../}" "$known" && continue
     echo "names: $document: \`$name\` is nowhere"
     wrong=1
-done < <(grep -HoE '`[A-Za-z.][A-Za-z0-9_./?'"'"'₀→-]*`' CONTRIBUTING.md docs/*.md tests/README.md --exclude=docs/PORT.md | sed -E 's/`//g' | LC_ALL=C sort -u)
+done < <(grep -HoE '`[A-Za-z.][A-Za-z0-9_./?'"'"'₀→-]*`' CONTRIBUTING.md docs/*.md tests/README.md --exclude=docs/PORT.md \
+    | sed -E 's/`//g' | LC_ALL=C sort -u)
 [ "$wrong" = 0 ]
 echo "names: all that the documents name is there"
