@@ -20,7 +20,8 @@ use Rattle.grammar.proofs.WordLaws.{length-starts-in}
 use Rattle.derivation.specs.inside.Ready.{Ready}
 use Rattle.lookahead.specs.Closing.{max_kept}
 use Rattle.configurations.specs.Packing.{config_words}
-use Rattle.words.specs.Layout.{max_slots, slot_words, slot_head, slots, length_at, held_at, starts_at, bytes_at, fixed_words, slot_at, count_at, step_at, configs_at}
+use Rattle.words.specs.Layout.{max_slots, slot_words, slot_head, slots, length_at, held_at, starts_at, bytes_at, fixed_words, slot_at, count_at}
+use Rattle.words.specs.Layout.{step_at, configs_at}
 use Rattle.words.specs.Words.{held, decision, kept_count, kept_words}
 use Rattle.words.proofs.SlotLaws.{count_low}
 use Rattle.auditing.specs.Coherence.{zeros?, fixed?, decides?, kept?, slot?, laid_out?}

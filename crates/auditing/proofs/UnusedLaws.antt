@@ -59,7 +59,8 @@ module _ (g : Grammar) (bytes c : List ℕ) where
 
     pub unused-zero : (i : ℕ) → ¬ Used g bytes c i → word c i ≡ 0
     unused-zero i n =
-        go (dec_lt i length_at) (dec_lt i (suc held_at)) (dec_lt i starts_at) (dec_lt i bytes_at) (dec_lt i (bytes_at + length (pack_bytes bytes))) (dec_lt i fixed_words)
+        go (dec_lt i length_at) (dec_lt i (suc held_at)) (dec_lt i starts_at) (dec_lt i bytes_at) (dec_lt i (bytes_at + length (pack_bytes bytes)))
+        (dec_lt i fixed_words)
       where
         go : Dec (i < length_at) → Dec (i < suc held_at) → Dec (i < starts_at) → Dec (i < bytes_at) → Dec (i < bytes_at + length (pack_bytes bytes))
             → Dec (i < fixed_words) → word c i ≡ 0

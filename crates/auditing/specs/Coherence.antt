@@ -9,7 +9,8 @@ use Rattle.lookahead.specs.Closing.{max_kept, same_list}
 use Rattle.lookahead.specs.Order.{key}
 use Rattle.lookahead.specs.Outcomes.{Outcome, full, alternative, state, start_outcome, step_outcome}
 use Rattle.configurations.specs.Packing.{config_words, storable?, pack_all, unpack_all}
-use Rattle.words.specs.Layout.{min_words, fixed_words, slots, length_at, held_at, starts_at, bytes_at, slot_at, count_at, step_at, configs_at, full_word, state_word}
+use Rattle.words.specs.Layout.{min_words, fixed_words, slots, length_at, held_at, starts_at, bytes_at, slot_at, count_at, step_at, configs_at}
+use Rattle.words.specs.Layout.{full_word, state_word}
 use Rattle.words.specs.Words.{word, held, start_of, step_of, decision, kept_count, kept_words, kept_in}
 use Rattle.words.specs.Begin.{pack_bytes, begun?}
 

@@ -51,4 +51,5 @@ ask_start g c a = elim (eqb (start_of c a) 0) [ true ↦ record_outcome (set_sta
 -- the step of state s of decision a over token t
 unfoldable pub ask_step : Grammar → List ℕ → ℕ → ℕ → ℕ → Learned
 unfolding step_of record_outcome set_step step_outcome kept_in
-ask_step g c a s t = elim (eqb (step_of c s t) 0) [ true ↦ record_outcome (set_step s t) c a (step_outcome g t (kept_in c s)) | false ↦ learned (step_of c s t) c ]
+ask_step g c a s t = elim (eqb (step_of c s t) 0)
+    [ true ↦ record_outcome (set_step s t) c a (step_outcome g t (kept_in c s)) | false ↦ learned (step_of c s t) c ]

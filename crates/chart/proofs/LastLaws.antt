@@ -88,7 +88,8 @@ module _ {t w : List ℕ} {i : ℕ} {ws : List ℕ} (row : Row t w i ws) (ends :
           ]
 
       back : T onward → T (end_has ends b j)
-      back u = ⊎_elim later here (or-T (through_of (end_has ends b) (cells_in t ws) (suc p) j (suc i) (length w)) (end_has ends b i && cells_in t ws (suc p) i j)
+      back u = ⊎_elim later here (or-T (through_of (end_has ends b) (cells_in t ws) (suc p) j (suc i) (length w))
+          (end_has ends b i && cells_in t ws (suc p) i j)
           u)
         where
           later : T (through_of (end_has ends b) (cells_in t ws) (suc p) j (suc i) (length w)) → T (end_has ends b j)

@@ -145,7 +145,8 @@ module _ (g : Grammar) where
           let z : max_members - k ≡ suc (max_members - suc k) = omega arith in
           let y : 0 + k ≡ k = omega arith in
           let q : get_elem? (configs_from ws 0 n) k ≡ some (config_of c) = get-held ws 0 n k l ∙ ap some (ap (config_at ws) y ∙ sym (said_at ws k is)) in
-          rw add-one (sym (ap (λ (f : ℕ). close_from g f k (configs_from ws 0 n)) z ∙ close-some k (max_members - suc k) (configs_from ws 0 n) (config_of c) q) ∙ h)
+          rw add-one (sym (ap (λ (f : ℕ). close_from g f k (configs_from ws 0 n)) z
+          ∙ close-some k (max_members - suc k) (configs_from ws 0 n) (config_of c) q) ∙ h)
 
       pub close-on : (m : ℕ) → r ≡ Count m → close_from g (max_members - (k + 1)) (k + 1) (configs_from ws' 0 m) ≡ end
       close-on m u = then-on A (λ m. close_from g (max_members - (k + 1)) (k + 1) m) opened m u

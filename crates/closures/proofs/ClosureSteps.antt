@@ -29,7 +29,8 @@ use Rattle.closures.proofs.Deriving.{passes-place, round-within, deriving-exact,
 module _ (t : List ℕ) (tokens : Bool) (x first p : ℕ)
     (i : passes tokens (test_bit x) (suffix (grammar_in t) p) ≡ passes tokens (test_bit x) (suffix (grammar_in t) first)) where
   abbrev judged : Symbol → Type 0
-  judged s = passes_by tokens (test_bit x) s (passes tokens (test_bit x) (suffix (grammar_in t) (p + 1))) ≡ passes tokens (test_bit x) (suffix (grammar_in t) first)
+  judged s = passes_by tokens (test_bit x) s (passes tokens (test_bit x) (suffix (grammar_in t) (p + 1)))
+      ≡ passes tokens (test_bit x) (suffix (grammar_in t) first)
 
   here : {s : Symbol} → facing (grammar_in t) p ≡ s → judged s
   here e = rw (add-one, ← e) (sym (passes-place tokens (test_bit x) (grammar_in t) p) ∙ i)

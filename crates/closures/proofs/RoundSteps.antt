@@ -44,7 +44,8 @@ module _ (needs owners : List ℕ) (x a : ℕ) where
   unfolding round_of
   round-way zero s = held s
   round-way (suc k) s =
-      go (or-T (test_bit (round_of needs owners x k) a) (test_bit (cond (is_subset (get_or needs k 0) x) (get_or owners k 0) 0) a) (rw test-or at s)) (round-way k)
+      go (or-T (test_bit (round_of needs owners x k) a) (test_bit (cond (is_subset (get_or needs k 0) x) (get_or owners k 0) 0) a) (rw test-or at s))
+      (round-way k)
     where
       last : (b : Bool) → is_subset (get_or needs k 0) x ≡ b → T (test_bit (cond b (get_or owners k 0) 0) a) → Way (suc k)
       last true e u = added k (omega arith) (true→T (is_subset (get_or needs k 0) x) e) u

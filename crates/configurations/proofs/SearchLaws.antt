@@ -67,7 +67,8 @@ module _ {ws : List ℕ} (k : ℕ) (c : Packed) (part : MemberPart ws k (k + blo
       let four = past (k + 3) end s (omega arith) (omega arith) three in
       ap (λ (m : ℕ). member? (config_of c) (configs_from ws k m)) (sym z) ∙ sym (find-end ws (config_of c) end end four (omega arith))
     where
-      past : (j i : ℕ) → Other j → j < end → j + 1 ≡ i → member? (config_of c) (configs_from ws j (end - j)) ≡ member? (config_of c) (configs_from ws k (end - k))
+      past : (j i : ℕ) → Other j → j < end → j + 1 ≡ i → member? (config_of c) (configs_from ws j (end - j))
+          ≡ member? (config_of c) (configs_from ws k (end - k))
           → member? (config_of c) (configs_from ws i (end - i)) ≡ member? (config_of c) (configs_from ws k (end - k))
       past j i o l e' h =
           subst (λ (x : ℕ). member? (config_of c) (configs_from ws x (end - x)) ≡ member? (config_of c) (configs_from ws k (end - k))) e'

@@ -300,7 +300,8 @@ pub widen-same : (g : Grammar) (a nullable row : ℕ) → MovesFrom 0 g a row �
 unfolding MovesFrom leads
 widen-same g a nullable row h z c =
     h c
-    ∙ same (any_of (λ f. leads (test_bit 0) c (suffix g f)) (alternatives g a)) (any_of (λ f. leads (test_bit nullable) c (suffix g f)) (alternatives g a)) to from
+    ∙ same (any_of (λ f. leads (test_bit 0) c (suffix g f)) (alternatives g a)) (any_of (λ f. leads (test_bit nullable) c (suffix g f)) (alternatives g a))
+    to from
   where
     more : (l : List Symbol) → T (leads (test_bit 0) c l) → T (leads (test_bit nullable) c l)
     more [] t = t
@@ -329,7 +330,8 @@ widen-same g a nullable row h z c =
         let (n, f, d, s) = any_of-T (λ f. leads (test_bit 0) c (suffix g f)) (alternatives g a) t in
         T-any_of (λ f. leads (test_bit nullable) c (suffix g f)) (alternatives g a) n d (more (suffix g f) s)
 
-    from : T (any_of (λ f. leads (test_bit nullable) c (suffix g f)) (alternatives g a)) → T (any_of (λ f. leads (test_bit 0) c (suffix g f)) (alternatives g a))
+    from : T (any_of (λ f. leads (test_bit nullable) c (suffix g f)) (alternatives g a))
+        → T (any_of (λ f. leads (test_bit 0) c (suffix g f)) (alternatives g a))
     from t =
         let (n, f, d, s) = any_of-T (λ f. leads (test_bit nullable) c (suffix g f)) (alternatives g a) t in
         T-any_of (λ f. leads (test_bit 0) c (suffix g f)) (alternatives g a) n d (less n f d (suffix g f) refl s)

@@ -93,7 +93,8 @@ module _ (w : List ℕ) (few : length w ≤ max_split) (known : AllOf KnownKind 
   nine-above g space i (eleven l k h) e q = absurd (omega arith)
   nine-above g space i (admitted l k h) e q = absurd (omega arith)
 
-  gate-9 : (bytes : List ℕ) (r : Rules) (m : Mark) → decode bytes ≡ got r m → (space i : ℕ) {x : Gate} → Gated bytes w space x → number_of x ≡ 9 → place_of x ≡ i
+  gate-9 : (bytes : List ℕ) (r : Rules) (m : Mark) → decode bytes ≡ got r m → (space i : ℕ) {x : Gate} → Gated bytes w space x → number_of x ≡ 9
+      → place_of x ≡ i
       → r.kinds < get_or w i 0
   unfolding compile
   gate-9 bytes r m d space i (refuses f v) e q = absurd (let h = (refusal-early f).1 in omega arith)

@@ -43,7 +43,8 @@ regroup f h e (v, (r, x)) = (v, (r, rw (e v) at x))
 
 module _ (g : Grammar) (w : List ℕ) (rich : Rich g) where
   -- whatever the place reached goes on to derive, a sentence goes on with
-  goes_on : {p i : ℕ} → Reach g w p i → (r v : List ℕ) → Leftmost (of_places g) (suffix g p) r v → (v' : List ℕ) × Sentence (of_places g) (take i w ++ (v ++ v'))
+  goes_on : {p i : ℕ} → Reach g w p i → (r v : List ℕ) → Leftmost (of_places g) (suffix g p) r v → (v' : List ℕ)
+      × Sentence (of_places g) (take i w ++ (v ++ v'))
   goes_on (start b e) r v x = ([], (b ∷ (r ++ []), Leftmost.expand (production-is g 0 b e) (leftmost-append x Leftmost.done)))
   goes_on (match {p = p} {k = k} {t = t} {i = i} h e d a) r v x =
       let (v', (s, y)) = goes_on h r (t ∷ v) (rw (suffix-is g p, e) (Leftmost.match a x)) in

@@ -56,7 +56,8 @@ module _ (t w ws : List ℕ) (i : ℕ) (ends : List ℕ) (f : ℕ) where
         → LedTo t w ws i ends f r'
     unfolding LedTo
     leading_end {r'} e k m d j l =
-        rw (d, member-with r i j (omega arith), eqb_comm j i) (last (λ j. eqb i j) (λ j l. by_end (grammar_in t) w (end_has ends) (cells_in t ws) i j p _ e) j l)
+        rw (d, member-with r i j (omega arith), eqb_comm j i)
+        (last (λ j. eqb i j) (λ j l. by_end (grammar_in t) w (end_has ends) (cells_in t ws) i j p _ e) j l)
 
     pub leading-other : {k : ℕ} {m : Bool} → facing (grammar_in t) p ≡ Token k → m ≡ matches_at (grammar_in t) w i k → not m ≡ true
         → LedTo t w ws i ends f r

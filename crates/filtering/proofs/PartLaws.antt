@@ -81,7 +81,8 @@ module _ (g : Grammar) (M : Masks) (w : List ℕ) (a i k : ℕ) where
   pub tagged-one : (t : Tag) (j : ℕ) → ((m : ℕ) → Next m ↔ (m ≡ j)) → TaggedTo g M w a i k t → TaggedTo g M w a i (suc k) (add t (suc k) j)
   tagged-one t j h x =
       part_end (λ m. m ≡ j) (add t (suc k) j) (λ m e. (h m).0 e)
-      (part-add (λ m. m < 0) (λ m. m ≡ j) t j ((h j).1 refl) (λ m e. (λ q. inr q, λ s. (h m).0 e)) (part-begin (λ m. m < 0) t (λ m e l. absurd (omega arith)) x))
+      (part-add (λ m. m < 0) (λ m. m ≡ j) t j ((h j).1 refl) (λ m e. (λ q. inr q, λ s. (h m).0 e))
+      (part-begin (λ m. m < 0) t (λ m e l. absurd (omega arith)) x))
 
   -- ---- in rising order: those of its ends that are below a position
   abbrev Below : ℕ → Tag → Type 0

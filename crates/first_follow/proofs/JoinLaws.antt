@@ -109,7 +109,8 @@ module _ (R : Relations) (long : length R.masks ≡ mask_words) where
   }
 
 -- ---- the kinds below t
-kind-cast : (R : Relations) (k : ℕ) (ws ws' : List ℕ) → get_or ws' (start_at k) 0 ≡ get_or ws (start_at k) 0 → get_or ws' (follow_at k) 0 ≡ get_or ws (follow_at k) 0
+kind-cast : (R : Relations) (k : ℕ) (ws ws' : List ℕ) → get_or ws' (start_at k) 0 ≡ get_or ws (start_at k) 0 → get_or ws' (follow_at k) 0
+    ≡ get_or ws (follow_at k) 0
     → KindIs R k ws → KindIs R k ws'
 kind-cast R k ws ws' e d h = record { seeds = h.seeds; start_is = rw e h.start_is; seeds-are = rw e h.seeds-are; follow-is = rw d h.follow-is }
 

@@ -64,7 +64,8 @@ module _ (s : List ℕ) (at n : ℕ) where
   number-upto : at + 3 ≤ n → Upto n (number_at s at)
   unfolding number_at
   number-upto h =
-      go (get_or s at 0) (leb (length s) at) (ltb (get_or s at 0) 128) (second_byte s at (get_or s at 0) (at + 1)) (second-upto (get_or s at 0) (at + 1) (omega arith))
+      go (get_or s at 0) (leb (length s) at) (ltb (get_or s at 0) 128) (second_byte s at (get_or s at 0) (at + 1))
+      (second-upto (get_or s at 0) (at + 1) (omega arith))
     where
       go : (v : ℕ) (a b : Bool) (x : Read) → Upto n x → Upto n (cond a (Refused (Unfinished at) (cursor at)) (cond b (Value v (cursor (at + 1))) x))
       go v true b x y = tt
@@ -241,7 +242,8 @@ same-times : {A : Type 0} (P : ℕ → Mark → Type 0) (f f' : Mark → Parsed 
 unfolding times
 same-times P f f' h e zero m p = refl
 same-times P f f' h e (suc n) m p =
-    same_then (λ _ m'. P n m') (f m) (f' m) (λ x m'. and_then (times n f m') (λ l m''. got (x ∷ l) m'')) (λ x m'. and_then (times n f' m') (λ l m''. got (x ∷ l) m''))
+    same_then (λ _ m'. P n m') (f m) (f' m) (λ x m'. and_then (times n f m') (λ l m''. got (x ∷ l) m''))
+    (λ x m'. and_then (times n f' m') (λ l m''. got (x ∷ l) m''))
     (e n m p) (h n m p)
     (λ x m' q. ap (λ (y : Parsed _). and_then y (λ l m''. got (x ∷ l) m'')) (same-times P f f' h e n m' q))
 

@@ -13,7 +13,8 @@ use Rattle.grammar.specs.Types.{Refusal, Unfinished, Malformed, OverLimit, Unkno
 use Rattle.grammar.specs.Limits.{max_kinds, max_nonterminals}
 use Rattle.grammar.specs.Decode.{Rules, Mark, mark, Parsed, got, refused, and_then, times, limited, nonterminal, ending, decode}
 use Rattle.grammar.specs.Grammar.{size_all, Limited}
-use Rattle.grammar.specs.Encode.{Part, highest_kind, nonterminal_count, production_count, symbol_count, one_symbol, nonterminal_parts, parts_of, bytes_of, encode}
+use Rattle.grammar.specs.Encode.{Part, highest_kind, nonterminal_count, production_count, symbol_count, one_symbol, nonterminal_parts, parts_of}
+use Rattle.grammar.specs.Encode.{bytes_of, encode}
 use Rattle.grammar.specs.Faults.{places_of, InLimits, IsSymbol, Comes, Breaks, Faulty}
 use Rattle.grammar.proofs.PartLaws.{breaking_at, Fault, ends, misspells, breaks}
 use Rattle.grammar.proofs.PartLaws.{after_parts, after-append, limits-append, append-limits, bytes-join, left_after, Stop, Came}
@@ -160,7 +161,8 @@ module _ (s : List ℕ) (bytes : Bytes s) where
   rules-came t n k d (got l m) (e, q, k', d') =
       let u : two t n ++ flat_map nonterminal_parts l ≡ parts_of (rules t l) = rw (← e) in
       let z : InLimits t n 0 (parts_of (rules t l)) = subst (InLimits t n 0) u (limits-append t n 0 (two t n) (flat_map nonterminal_parts l) k k') in
-      whole-came (rules t l) m (subst (λ (j : ℕ). InLimits t j 0 (parts_of (rules t l))) (sym e) z) (q ∙ after-append origin (two t n) (flat_map nonterminal_parts l) ∙ ap (after_parts origin) u)
+      whole-came (rules t l) m (subst (λ (j : ℕ). InLimits t j 0 (parts_of (rules t l))) (sym e) z)
+      (q ∙ after-append origin (two t n) (flat_map nonterminal_parts l) ∙ ap (after_parts origin) u)
       (d ∙ ap (λ (y : List ℕ). bytes_of (two t n) ++ y) d' ∙ sym (bytes-join (two t n) (flat_map nonterminal_parts l) (drop m.byte s))
       ∙ ap (λ (y : List Part). bytes_of y ++ drop m.byte s) u)
   rules-came t n k d (refused f) (l, e, z) =
@@ -186,7 +188,8 @@ module _ (s : List ℕ) (bytes : Bytes s) where
       let e : n ≡ v = length-replicate v [] in
       let w : List Part = highest_kind t ∷ [] in
       let x : Stop s t n (after_parts origin w) (nonterminal_count v ∷ []) f =
-      stop-here s t n (after_parts origin w) (nonterminal_count v) f k.1 (fit-nonterminals (here-stop s t 0 (after_parts origin w) (nonterminal_count v) f z)) in
+      stop-here s t n (after_parts origin w) (nonterminal_count v) f k.1
+      (fit-nonterminals (here-stop s t 0 (after_parts origin w) (nonterminal_count v) f z)) in
       let y : Stop s t n origin (w ++ (nonterminal_count v ∷ [])) f =
       stop-after s t n origin w (nonterminal_count v ∷ []) (w ++ (nonterminal_count v ∷ [])) f refl k d x in
       let q : parts_of (rules t l) ≡ (w ++ (nonterminal_count v ∷ [])) ++ flat_map nonterminal_parts l = rw e in

@@ -209,7 +209,8 @@ module _ (s : List ℕ) (t n : ℕ) where
     cons-reader : (x : A) (k : ℕ) → Many k
         → Reader s t n (λ m. and_then (times k f m) (λ l m'. got (x ∷ l) m')) (Before x k) (λ y. flat_map w (tail y))
     cons-reader x k R =
-        then-reader (times k f) (λ l. length l ≡ k) (flat_map w) (λ l m'. got (x ∷ l) m') (λ l y. y ≡ x ∷ l) (λ l y. []) (Before x k) (λ y. flat_map w (tail y)) R
+        then-reader (times k f) (λ l. length l ≡ k) (flat_map w) (λ l m'. got (x ∷ l) m') (λ l y. y ≡ x ∷ l) (λ l y. []) (Before x k)
+        (λ y. flat_map w (tail y)) R
         (λ l e. return-reader (x ∷ l))
         (λ l y e q. ((l, e, q), ap (λ (u : List A). flat_map w (tail u)) q ∙ sym (append-nil (flat_map w l))))
         (λ y b. b) (λ l e. (x ∷ l, refl))

@@ -77,20 +77,21 @@ module _ (ts : List ℕ) (t : ℕ) (ws : List ℕ) (j : ℕ) {n : ℕ} (count : 
   pub stepping-has : j < n → Has ws j
   stepping-has l = omega arith
 
-  module _ (l : j < n) {c : Packed} (is : c ≡ packed_at ws j) {r : Bool} (e : r ≡ passes_at (grammar_in ts) t (facing (grammar_in ts) (config_of c).place)) where
-    one : stepping ts t ws j ≡ cond r (onward (config_of c) ∷ stepping ts t ws (j + 1)) (stepping ts t ws (j + 1))
-    unfolding stepping
-    one =
-        let z : suc j ≡ j + 1 = omega arith in
-        let s : said_from ws j ≡ config_of c ∷ said_from ws (j + 1)
-        = said-next ws j (stepping-has l) ∙ (λ i. sym (said_at ws j is) i ∷ said_from ws (z i)) in
-        ap (step_configs (grammar_in ts) t) s ∙ step-cons (grammar_in ts) t (config_of c) (said_from ws (j + 1)) e
+  module _ (l : j < n) {c : Packed} (is : c ≡ packed_at ws j) {r : Bool} (e : r ≡ passes_at (grammar_in ts) t (facing (grammar_in ts) (config_of c).place))
+    where
+      one : stepping ts t ws j ≡ cond r (onward (config_of c) ∷ stepping ts t ws (j + 1)) (stepping ts t ws (j + 1))
+      unfolding stepping
+      one =
+          let z : suc j ≡ j + 1 = omega arith in
+          let s : said_from ws j ≡ config_of c ∷ said_from ws (j + 1)
+          = said-next ws j (stepping-has l) ∙ (λ i. sym (said_at ws j is) i ∷ said_from ws (z i)) in
+          ap (step_configs (grammar_in ts) t) s ∙ step-cons (grammar_in ts) t (config_of c) (said_from ws (j + 1)) e
 
-    pub stepping-on : r ≡ true → stepping ts t ws j ≡ onward (config_of c) ∷ stepping ts t ws (j + 1)
-    stepping-on f = one ∙ rw f
+      pub stepping-on : r ≡ true → stepping ts t ws j ≡ onward (config_of c) ∷ stepping ts t ws (j + 1)
+      stepping-on f = one ∙ rw f
 
-    pub stepping-by : r ≡ false → stepping ts t ws j ≡ stepping ts t ws (j + 1)
-    stepping-by f = one ∙ rw f
+      pub stepping-by : r ≡ false → stepping ts t ws j ≡ stepping ts t ws (j + 1)
+      stepping-by f = one ∙ rw f
 
   pub stepping-none : n ≤ j → stepping ts t ws j ≡ []
   unfolding stepping step_configs keep

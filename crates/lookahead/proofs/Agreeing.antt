@@ -64,7 +64,8 @@ module _ (g : Grammar) where
       go : (o : Option (List Config)) → close g start ≡ o → (elim o as (λ _. Outcome) [ none ↦ full | some ms ↦ within_kept (kept g ms) ])
           ≡ alternative b → c.alternative ≡ b
       go none q e = clash (cc)
-      go (some ms) q e = judged-alternative (kept g ms) (limited-alternative (kept g ms) e) c ((kept-right g ms c).1 (((close-some g start ms q).exact c).1 x, t))
+      go (some ms) q e = judged-alternative (kept g ms) (limited-alternative (kept g ms) e) c
+          ((kept-right g ms c).1 (((close-some g start ms q).exact c).1 x, t))
 
 -- what an outcome allows where alternative b can read the rest of w from i on
 module _ (g : Grammar) (ordered : Ordered g) where

@@ -113,7 +113,8 @@ module _ (t : List ℕ) (h : Ready t) (w ws : List ℕ) (charted : Charted t w w
       let a = der-le d in
       let b = der-in d in
       T-any_of (λ m. derives? (grammar_in t) (marked w) p i m && runs? (grammar_in t) (marked w) S m) (cuts i (length (marked w))) (j - i)
-      (up_from-get (suc (length (marked w)) - i) i j a (omega arith)) (T_and (derives? (grammar_in t) (marked w) p i j) (runs? (grammar_in t) (marked w) S j) x y)
+      (up_from-get (suc (length (marked w)) - i) i j a (omega arith))
+      (T_and (derives? (grammar_in t) (marked w) p i j) (runs? (grammar_in t) (marked w) S j) x y)
 
   -- a place over a stack derives the rest exactly if it can end in a set that is right there
   pub meets-runs : (q m : ℕ) (rest S : List ℕ) → q < (grammar_in t).size → m ≤ length w

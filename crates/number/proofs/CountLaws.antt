@@ -103,7 +103,8 @@ settled-tallied s at (Refused f c) h = rw h.0 (refl, h.2)
 
 module _ (s : List ℕ) (at : ℕ) (h : at ≤ length s) {x : Read} {v : ℕ} {c : Cursor} where
   pub limited-tallied : (lo hi : ℕ) → x ≡ limited_at s lo hi at → x ≡ Value v c → Tallied s c
-  limited-tallied lo hi e q = subst (λ (y : Read). Tallied s (end_of y)) (sym e ∙ q) (settled-tallied s at (limited_at s lo hi at) (limited-settled s at lo hi h))
+  limited-tallied lo hi e q = subst (λ (y : Read). Tallied s (end_of y)) (sym e ∙ q)
+      (settled-tallied s at (limited_at s lo hi at) (limited-settled s at lo hi h))
 
   pub symbol-tallied : (t n : ℕ) → x ≡ symbol_at s t n at → x ≡ Value v c → Tallied s c
   symbol-tallied t n e q = subst (λ (y : Read). Tallied s (end_of y)) (sym e ∙ q) (settled-tallied s at (symbol_at s t n at) (symbol-settled s at t n h))

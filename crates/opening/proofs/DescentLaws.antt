@@ -205,12 +205,14 @@ module _ {t w ms ws₀ : List ℕ} {s : Size} {base d known q i : ℕ} {m : Mete
         far = λ l u c. z.far l (λ e h. still e h (x.down.reached u)) (x.down.going.far u c);
       }
         where
-          to : Opens (grammar_in t) (marked w) (p ∷ returns_of ws₀ base k) j → (e : ℕ) × Members e × Opens (grammar_in t) (marked w) (r ∷ returns_of ws base k) e
+          to : Opens (grammar_in t) (marked w) (p ∷ returns_of ws₀ base k) j → (e : ℕ) × Members e
+              × Opens (grammar_in t) (marked w) (r ∷ returns_of ws base k) e
           to o =
               let (e, u, v) = (opens-place (stack-order may.stacked) (stack-closed may.stacked) x.stack).0 o in
               rw same-returns ((opens-from (stack-order may.stacked) (stack-closed may.stacked) Members goes-stack).1 (e, (y.ends e).0 u, v))
 
-          from : (e : ℕ) × Members e × Opens (grammar_in t) (marked w) (r ∷ returns_of ws base k) e → Opens (grammar_in t) (marked w) (p ∷ returns_of ws₀ base k) j
+          from : (e : ℕ) × Members e × Opens (grammar_in t) (marked w) (r ∷ returns_of ws base k) e
+              → Opens (grammar_in t) (marked w) (p ∷ returns_of ws₀ base k) j
           from o =
               let (e, u, v) = (opens-from (stack-order may.stacked) (stack-closed may.stacked) Members goes-stack).0 (rw same-returns at o) in
               (opens-place (stack-order may.stacked) (stack-closed may.stacked) x.stack).1 (e, (y.ends e).1 u, v)

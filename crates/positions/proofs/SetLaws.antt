@@ -148,7 +148,8 @@ module _ (a b : List ℕ) where
       let k = count_trailing_zeros word_bits x in
       let f : x < 2 ^ word_bits = omega (arith, w i, and_le_l (get_or a i 0) (get_or b i 0)) in
       let t : T (test_bit x k) = true→T _ (trailing-found word_bits x h f) in
-      let u : T (test_bit (get_or a i 0) k) × T (test_bit (get_or b i 0) k) = and_T (test_bit (get_or a i 0) k) (test_bit (get_or b i 0) k) (rw test-and at t) in
+      let u : T (test_bit (get_or a i 0) k)
+      × T (test_bit (get_or b i 0) k) = and_T (test_bit (get_or a i 0) k) (test_bit (get_or b i 0) k) (rw test-and at t) in
       low (dec_lt k word_bits) u
     where
       low : {k : ℕ} → Dec (k < word_bits) → T (test_bit (get_or a i 0) k) × T (test_bit (get_or b i 0) k) → Met

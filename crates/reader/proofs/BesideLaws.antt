@@ -163,7 +163,8 @@ module _ (w more : List ℕ) where
   unfolding whole_pass
   pass-ends t =
       after-number Ends (λ o o' z. inl z) 0 t (limited_at w 1 max_kinds 0) (limited_at (w ++ more) 1 max_kinds 0) _ _
-      (limited-settled w 0 1 max_kinds (omega arith)) (limited-settled (w ++ more) 0 1 max_kinds (omega arith)) (limited-agree w more 1 max_kinds 0 (omega arith))
+      (limited-settled w 0 1 max_kinds (omega arith)) (limited-settled (w ++ more) 0 1 max_kinds (omega arith))
+      (limited-agree w more 1 max_kinds 0 (omega arith))
       (λ kt c i.
       after-number Ends (λ o o' z. inl z) c.at t (limited_at w 1 max_nonterminals c.at) (limited_at (w ++ more) 1 max_nonterminals c.at) _ _
       (limited-settled w c.at 1 max_nonterminals i.1) (limited-settled (w ++ more) c.at 1 max_nonterminals (inside i.1))

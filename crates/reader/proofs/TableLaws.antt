@@ -45,7 +45,8 @@ module _ (t n : ℕ) (kt : t ≤ max_kinds) (kn : n ≤ max_nonterminals) where
   unfolding lay_all
   back-all a [] b h = refl
   back-all a (y ∷ l) b h =
-      ap (map place_of) (map-append word_of (lay_each a y) (lay_all (suc a) l)) ∙ map-append place_of (map word_of (lay_each a y)) (map word_of (lay_all (suc a) l))
+      ap (map place_of) (map-append word_of (lay_each a y) (lay_all (suc a) l))
+      ∙ map-append place_of (map word_of (lay_each a y)) (map word_of (lay_all (suc a) l))
       ∙ ap₂ (λ (x y : List Place). x ++ y) (back-each a (omega arith) y h.0.2) (back-all (suc a) l (omega arith) h.1)
 
 none-back : (n : ℕ) → map place_of (replicate n 0) ≡ replicate n nowhere
@@ -85,7 +86,8 @@ starts-back X rest (n ∷ l) a k o c d =
     end : firsts_at + get_or X (rules_at + suc a) 0 ≡ firsts_at + k + length n
     end =
         let e : suc a ≡ a + 1 = omega arith in
-        let f : get_or X (rules_at + suc a) 0 ≡ k + length n = ap (λ (q : ℕ). get_or X (rules_at + q) 0) e ∙ (c 1 (omega arith) ∙ counts-first (k + length n) l) in
+        let f : get_or X (rules_at + suc a) 0 ≡ k + length n = ap (λ (q : ℕ). get_or X (rules_at + q) 0) e
+        ∙ (c 1 (omega arith) ∙ counts-first (k + length n) l) in
         omega (arith, f)
 
     inside : drop (firsts_at + k) X ≡ starts_each o n ++ (firsts_of (o + size_each n) l ++ rest)

@@ -8,7 +8,8 @@ ghost use Rattle.grammar.specs.inside.Tables.{grammar_in, nonterminals_in, table
 ghost use Rattle.positions.specs.inside.Positions.{set_words};
 ghost use Rattle.positions.specs.inside.Words.{set_at};
 ghost use Rattle.filtering.specs.inside.Settling.{Stored};
-ghost use Rattle.search.specs.inside.Words.{pair_at, tag_at, pair_set, waits_at, pair_count, search_words, per_alternative, second_bit, tag_from, TagFits, tag_of};
+ghost use Rattle.search.specs.inside.Words.{pair_at, tag_at, pair_set, waits_at, pair_count, search_words, per_alternative, second_bit, tag_from};
+ghost use Rattle.search.specs.inside.Words.{TagFits, tag_of};
 ghost use Rattle.search.specs.inside.Words.{done_in, state_in, Kept};
 ghost use Rattle.search.specs.inside.Searching.{Sized};
 

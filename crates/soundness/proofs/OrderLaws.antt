@@ -14,7 +14,8 @@ use Rattle.reader.proofs.ReadLaws.{decode-limited}
 use Rattle.closures.specs.Textbook.{LeftRecursive}
 use Rattle.soundness.specs.declared.judgement.Verdict.{Verdict}
 use Rattle.soundness.specs.declared.judgement.Verdict.TheVariants.{Refused}
-use Rattle.soundness.specs.Check.{lowest_unproductive, lowest_left_recursive, refuse_at, unproductive_of, left_recursive_of, or_else, judge_of, on_decoded, check_of}
+use Rattle.soundness.specs.Check.{lowest_unproductive, lowest_left_recursive, refuse_at, unproductive_of, left_recursive_of, or_else, judge_of}
+use Rattle.soundness.specs.Check.{on_decoded, check_of}
 use Rattle.soundness.specs.Verdicts.{Barren, Lowest}
 use Rattle.soundness.proofs.CheckLaws.{barren-lowest, recursive-lowest}
 

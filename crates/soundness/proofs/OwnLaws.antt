@@ -51,7 +51,8 @@ module _ (rows : List ℕ) where
   own-more n x h e k = rw (e, test-or, test-and, test-set, test-none, h k) (⊎_elim here elsewhere (same? k n))
     where
       here : k ≡ n
-          → ((ltb k n && test_bit (get_or rows k 0) k) || (test_bit (get_or rows n 0) k && (false || eqb k n))) ≡ (ltb k (n + 1) && test_bit (get_or rows k 0) k)
+          → ((ltb k n && test_bit (get_or rows k 0) k) || (test_bit (get_or rows n 0) k && (false || eqb k n)))
+          ≡ (ltb k (n + 1) && test_bit (get_or rows k 0) k)
       here q = rw (q, le-ltb n n (omega arith), eq-eqb n n refl, lt-ltb n (n + 1) (omega arith)) (and-all (test_bit (get_or rows n 0) n))
 
       before : (k ≡ n → ⊥) → Dec (k < n) → ltb k n ≡ ltb k (n + 1)
@@ -59,7 +60,8 @@ module _ (rows : List ℕ) where
       before q (no l) = rw (le-ltb k n (omega arith), le-ltb k (n + 1) (omega arith))
 
       elsewhere : (k ≡ n → ⊥)
-          → ((ltb k n && test_bit (get_or rows k 0) k) || (test_bit (get_or rows n 0) k && (false || eqb k n))) ≡ (ltb k (n + 1) && test_bit (get_or rows k 0) k)
+          → ((ltb k n && test_bit (get_or rows k 0) k) || (test_bit (get_or rows n 0) k && (false || eqb k n)))
+          ≡ (ltb k (n + 1) && test_bit (get_or rows k 0) k)
       elsewhere q = rw (ne_eqb k n q, and_none, or-none) (ap (λ (b : Bool). b && test_bit (get_or rows k 0) k) (before q (dec_lt k n)))
 
   -- with as many rows, however their number is worked out

@@ -31,7 +31,8 @@ from_told (Refused (LeftRecursive p)) = refl
 -- what a check answered is the verdict on the bytes
 pub check-is : (bytes : List ℕ) (v : Verdict) → CheckDid bytes (verdict_number v) (verdict_place v) → v ≡ check_of bytes
 check-is bytes v (n, p) =
-    let same : verdict_from (verdict_number v) (verdict_place v) ≡ verdict_from (verdict_number (check_of bytes)) (verdict_place (check_of bytes)) = rw (n, p) in
+    let same : verdict_from (verdict_number v) (verdict_place v)
+    ≡ verdict_from (verdict_number (check_of bytes)) (verdict_place (check_of bytes)) = rw (n, p) in
     sym (from_told v) ∙ same ∙ from_told (check_of bytes)
 
 -- one that answered 0 found them sound

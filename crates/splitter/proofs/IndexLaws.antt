@@ -216,7 +216,8 @@ module _ (list starts links : List ℕ) (n at e : ℕ) (x : Indexed list starts 
       ∙ get_or-set_other links n (max_listed + c) (get_or links (max_listed + b) 0) 0 (λ w. (omega arith))
 
   -- a word that was on the chain of bucket c is on it still
-  on-still : (k c : ℕ) → (c ≡ b) ⊎ (c ≡ b → ⊥) → OnChain links n k (get_or links (max_listed + c) 0) → OnChain links' (suc n) k (get_or links' (max_listed + c) 0)
+  on-still : (k c : ℕ) → (c ≡ b) ⊎ (c ≡ b → ⊥) → OnChain links n k (get_or links (max_listed + c) 0)
+      → OnChain links' (suc n) k (get_or links' (max_listed + c) 0)
   on-still k c (inl w) y =
       let v : OnChain links n k (get_or links (max_listed + b) 0) = rw w at y in
       let z : OnChain links' (suc n) k (get_or links' n 0) = rw link-new (chain-kept (omega arith) link-old v) in

@@ -83,7 +83,8 @@ module _ (list starts links : List ℕ) (n i : ℕ) (g : ListedTo list starts li
       pub bad-twice : (d ≡ plain_word → ⊥) → none ≡ list_of list
       unfolding next?
       bad-twice m =
-          let z : among? (words_at list starts n) (word_run (drop i list)) ≡ true = fresh-or (among? (words_at list starts n) (word_run (drop i list))) refl m in
+          let z : among? (words_at list starts n) (word_run (drop i list))
+          ≡ true = fresh-or (among? (words_at list starts n) (word_run (drop i list))) refl m in
           no-next
           (rw (z, and_none (not (leb max_listed (length (words_at list starts n))))) (and_none (word_first? (drop i list))))
 

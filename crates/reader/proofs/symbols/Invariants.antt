@@ -10,7 +10,8 @@ use Rattle.reader.proofs.symbols.Given as goal
 abbrev pub invariant-loop-p : goal.invariant-loop-p
 invariant-loop-p l =
     (l.p ≤ l.end) × (length l.tables ≡ length l.initial.tables)
-    × (symbols_of l.bytes l.kinds l.nonterminals l.owner (l.end - l.p) l.c.at l.p l.tables ≡ symbols_of l.bytes l.kinds l.nonterminals l.owner l.count l.initial.c.at l.first l.initial.tables)
+    × (symbols_of l.bytes l.kinds l.nonterminals l.owner (l.end - l.p) l.c.at l.p l.tables
+    ≡ symbols_of l.bytes l.kinds l.nonterminals l.owner l.count l.initial.c.at l.first l.initial.tables)
     × Tallied l.bytes l.c
 
 abbrev pub decreases-loop-p : goal.decreases-loop-p

@@ -8,7 +8,8 @@ use Rattle.batch.proofs.reading.read_all.Given as goal
 
 abbrev pub invariant-loop-k : goal.invariant-loop-k
 invariant-loop-k l =
-    Turning l.tables l.tokens l.lengths l.standing l.initial.answers l.initial.row l.initial.cache (length l.initial.ws) l.part l.k l.from l.at l.answers l.row l.cache × (length l.ws ≡ length l.initial.ws)
+    Turning l.tables l.tokens l.lengths l.standing l.initial.answers l.initial.row l.initial.cache (length l.initial.ws) l.part l.k l.from l.at l.answers
+    l.row l.cache × (length l.ws ≡ length l.initial.ws)
 
 abbrev pub decreases-loop-k : goal.decreases-loop-k
 decreases-loop-k l = length l.lengths - l.k

@@ -13,7 +13,8 @@ use Rattle.cache.proofs.prediction.learn.Given as goal
 
 abbrev pub invariant-loop-said : goal.invariant-loop-said
 invariant-loop-said l =
-    Asking (grammar_in l.tables) l.a l.note (predict_from (grammar_in l.tables) l.a (drop l.i (marked l.note)) (learned l.initial.said l.initial.cache)) l.j l.said l.cache
+    Asking (grammar_in l.tables) l.a l.note (predict_from (grammar_in l.tables) l.a (drop l.i (marked l.note)) (learned l.initial.said l.initial.cache)) l.j
+    l.said l.cache
     × (l.j ≤ suc l.n) × (l.slots ≡ layout.slots (length l.cache)) × (length l.cache ≡ length l.initial.cache)
 
 abbrev pub decreases-loop-said : goal.decreases-loop-said

@@ -14,7 +14,8 @@ use Rattle.closing.proofs.worklist.behind.Given as goal
 abbrev pub invariant-loop-p : goal.invariant-loop-p
 invariant-loop-p l =
     (l.p ≤ l.size) × Left l.members l.n (behinds l.tables (config_of l.c).alternative l.a l.p)
-    (add_all (configs_from l.initial.members 0 l.from) (map (λ (q : ℕ). config q (config_of l.c).alternative []) (behind_from l.a 0 (grammar_in l.tables).places)))
+    (add_all (configs_from l.initial.members 0 l.from)
+    (map (λ (q : ℕ). config q (config_of l.c).alternative []) (behind_from l.a 0 (grammar_in l.tables).places)))
 
 abbrev pub decreases-loop-p : goal.decreases-loop-p
 decreases-loop-p l = l.size - l.p

@@ -12,7 +12,8 @@ use Rattle.closing.proofs.worklist.enter.Given as goal
 abbrev pub invariant-loop-k : goal.invariant-loop-k
 invariant-loop-k l =
     (l.start ≤ l.k)
-    × Left l.members l.n (entering l.tables (config_of l.c) l.k l.end) (add_all (configs_from l.initial.members 0 l.from) (entered (grammar_in l.tables) (config_of l.c) l.a))
+    × Left l.members l.n (entering l.tables (config_of l.c) l.k l.end)
+    (add_all (configs_from l.initial.members 0 l.from) (entered (grammar_in l.tables) (config_of l.c) l.a))
 
 abbrev pub decreases-loop-k : goal.decreases-loop-k
 decreases-loop-k l = l.end - l.k

@@ -11,7 +11,8 @@ use Rattle.closures.proofs.closure.some_passes.Given as goal
 
 abbrev pub invariant-loop-k : goal.invariant-loop-k
 invariant-loop-k l =
-    any_of (λ f. passes l.tokens (test_bit l.set) (suffix (grammar_in l.tables) f)) (slice l.k l.end l.tables) ≡ deriving_round l.tokens (grammar_in l.tables) (test_bit l.set) l.a
+    any_of (λ f. passes l.tokens (test_bit l.set) (suffix (grammar_in l.tables) f)) (slice l.k l.end l.tables)
+    ≡ deriving_round l.tokens (grammar_in l.tables) (test_bit l.set) l.a
 
 abbrev pub decreases-loop-k : goal.decreases-loop-k
 decreases-loop-k l = l.end - l.k

@@ -8,7 +8,8 @@ use Rattle.first_follow.proofs.marking.mark_kinds.Given as goal
 
 abbrev pub invariant-loop-t : goal.invariant-loop-t
 invariant-loop-t l =
-    (l.t ≤ l.kinds + 1) × (length l.masks ≡ mask_words) × Kinds (record { masks = l.initial.masks; above = l.above; before = l.before; last = l.last }) l.t l.masks
+    (l.t ≤ l.kinds + 1) × (length l.masks ≡ mask_words)
+    × Kinds (record { masks = l.initial.masks; above = l.above; before = l.before; last = l.last }) l.t l.masks
 
 abbrev pub decreases-loop-t : goal.decreases-loop-t
 decreases-loop-t l = l.kinds + 1 - l.t

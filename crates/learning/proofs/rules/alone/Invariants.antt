@@ -11,7 +11,8 @@ use Rattle.learning.proofs.rules.alone.Given as goal
 abbrev pub invariant-loop-k : goal.invariant-loop-k
 invariant-loop-k l =
     (l.k ≤ l.n)
-    × (not (any_of (rivals (config_of l.c)) (configs_from l.members l.k (l.n - l.k))) ≡ not (any_of (rivals (config_of l.c)) (configs_from l.members l.first (l.n - l.first))))
+    × (not (any_of (rivals (config_of l.c)) (configs_from l.members l.k (l.n - l.k)))
+    ≡ not (any_of (rivals (config_of l.c)) (configs_from l.members l.first (l.n - l.first))))
 
 abbrev pub decreases-loop-k : goal.decreases-loop-k
 decreases-loop-k l = l.n - l.k

@@ -8,7 +8,8 @@ use Rattle.quick.proofs.running.run.Given as goal
 
 abbrev pub invariant-loop-count : goal.invariant-loop-count
 invariant-loop-count l =
-    Turning l.tables l.note l.initial.row l.initial.ws l.initial.cache l.row l.masks l.tally l.ws l.cache l.count l.known l.at l.a × (length l.masks ≡ length l.initial.masks) × (length l.tally ≡ length l.initial.tally)
+    Turning l.tables l.note l.initial.row l.initial.ws l.initial.cache l.row l.masks l.tally l.ws l.cache l.count l.known l.at l.a
+    × (length l.masks ≡ length l.initial.masks) × (length l.tally ≡ length l.initial.tally)
 
 abbrev pub decreases-loop-count : goal.decreases-loop-count
 decreases-loop-count l = length l.row - l.count
