@@ -1,7 +1,8 @@
 #!/usr/bin/env bash
 # Names that the documents put between backquotes exist. A name with a slash or an ending is a path, or the end of one, with or without its ending, or a
 # crate and a must-fail edit of it; any other name is a word of the crates, the tests, the tools or the interfaces, or a file. Names with a part in capitals
-# (NAME, LABEL, NN) stand for any, and what target/ and out/ hold is not looked at. docs/PORT.md tells what things were called, so it is left out.
+# (NAME, LABEL, NN) stand for any, and what target/ and out/ hold is not looked at. docs/PORT.md and docs/DESIGN-PASS.md tell what things
+# were called, so they are left out.
 set -euo pipefail
 cd "$(dirname "$0")/.."
 kept=(crates tests bench include rust examples man tools docs crates.txt .ci run test mutants Makefile)
@@ -33,7 +34,7 @@ while IFS=: read -r document name; do
     grep -qxF -- "${part#../}" "$known" && continue
     echo "names: $document: \`$name\` is nowhere"
     wrong=1
-done < <(grep -HoE '`[A-Za-z.][A-Za-z0-9_./?'"'"'₀→-]*`' CONTRIBUTING.md docs/*.md tests/README.md --exclude=docs/PORT.md \
+done < <(grep -HoE '`[A-Za-z.][A-Za-z0-9_./?'"'"'₀→-]*`' CONTRIBUTING.md docs/*.md tests/README.md --exclude=docs/PORT.md --exclude=docs/DESIGN-PASS.md \
     | sed -E 's/`//g' | LC_ALL=C sort -u)
 [ "$wrong" = 0 ]
 echo "names: all that the documents name is there"

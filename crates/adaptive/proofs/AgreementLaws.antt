@@ -5,13 +5,13 @@ use mathlib.Core.List.Memᴰ
 use mathlib.Core.List.{List, [], ◌∷◌}
 use Prim.Native.Nat.{ℕ, ◌≤◌}
 use lib.ListN.{length}
+use Rattle.std.specs.Prelude.{Ok}
 use Rattle.base.proofs.Booleans.{clash}
 use Rattle.grammar.specs.Decode.{Rules, Mark, got, decode}
 use Rattle.grammar.specs.Grammar.{Grammar, compile, Limited}
 use Rattle.grammar.specs.inside.Ordered.{Ordered}
 use Rattle.grammar.proofs.OrderedLaws.{compile-ordered}
 use Rattle.reader.proofs.ReadLaws.{decode-limited}
-use Rattle.soundness.specs.declared.judgement.Verdict.TheVariants.{Sound}
 use Rattle.soundness.specs.Check.{check_of}
 use Rattle.derivation.specs.Space.{max_tokens, space_words}
 use Rattle.derivation.specs.Gate.{Gate, passed, at_gate, note_gate}
@@ -23,8 +23,7 @@ use Rattle.words.specs.Layout.{min_words}
 use Rattle.words.specs.Begin.{BegunFor}
 use Rattle.cache.specs.Coherent.{Coherent, Extends}
 use Rattle.cache.proofs.SuitLaws.{Suits, decode-suits}
-use Rattle.words.specs.inside.Standings.{standing_of}
-use Rattle.words.specs.declared.standing.Standing.{Standing}
+use Rattle.words.specs.inside.Standings.{Standing, standing_of}
 use Rattle.words.proofs.StandingLaws.{Stands, short, foreign, begun, stands}
 use Rattle.cache.proofs.ExtendLaws.{standing-extends, extends-refl, extends-trans}
 use Rattle.adaptive.specs.Quick.{Reply, reply, quick_note, over_cache, quick_reading}
@@ -35,7 +34,7 @@ use Rattle.adaptive.proofs.QuickLaws.{over-12, over-13, over-begun, quick-answer
 use Rattle.adaptive.proofs.TeachLaws.{teaches-iff, note-extends}
 
 -- ---- one reading
-module _ (s : List ℕ) (r : Rules) (m : Mark) (e : decode s ≡ got r m) (v : check_of s ≡ Sound) where
+module _ (s : List ℕ) (r : Rules) (m : Mark) (e : decode s ≡ got r m) (v : check_of s ≡ Ok tt) where
   abbrev g : Grammar
   g = compile r
 

@@ -18,9 +18,8 @@ use Rattle.derivation.specs.Machine.{Choice, choice, lowest, plainly}
 use Rattle.derivation.specs.Runs.{Serves}
 use Rattle.derivation.specs.inside.Choosers.{names, thence, Served, AnyState, KeepsKind, Repeats, Alike}
 use Rattle.derivation.proofs.LowestLaws.{lowest-serves, first-lt}
-use Rattle.cache.specs.declared.prediction.Forecast.{Forecast}
-use Rattle.cache.specs.declared.prediction.Forecast.TheVariants.{Alternative, Full}
-use Rattle.cache.specs.Predictor.{Predicted, predicted, Predicts, FullOr, Predictor}
+use Rattle.std.specs.Prelude.{Some, None}
+use Rattle.cache.specs.Predictor.{Forecast, Predicted, predicted, Predicts, FullOr, Predictor}
 use Rattle.adaptive.specs.Chooser.{settle, guided}
 
 -- ---- single choices
@@ -30,8 +29,8 @@ module _ {C : Type 0} (g : Grammar) (w : List ℕ) where
   settle-state S a i p = go p.forecast
     where
       go : (x : Forecast) → (settle g w S a i (predicted x p.state)).state ≡ p.state
-      go (Alternative b) = refl
-      go Full = refl
+      go (Some b) = refl
+      go None = refl
 
   settle-again : (S : List ℕ) (a i : ℕ) (p : Predicted C) (d : C) → settle g w S a i (predicted p.forecast d)
       ≡ choice (settle g w S a i p).alternative d
@@ -39,8 +38,8 @@ module _ {C : Type 0} (g : Grammar) (w : List ℕ) where
   settle-again S a i p d = go p.forecast
     where
       go : (x : Forecast) → settle g w S a i (predicted x d) ≡ choice (settle g w S a i (predicted x p.state)).alternative d
-      go (Alternative b) = refl
-      go Full = refl
+      go (Some b) = refl
+      go None = refl
 
   module _ (predict : Predicts C) (c : C) (S : List ℕ) (a i : ℕ) where
     -- a decision is predicted
@@ -74,14 +73,14 @@ module _ (g : Grammar) (w : List ℕ) where
   unfolding settle
   settle-lowest S a i p v h = go p.forecast h
     where
-      said : {b d : ℕ} → FullOr d (Alternative b) → b ≡ d
+      said : {b d : ℕ} → FullOr d (Some b) → b ≡ d
       said (inl e) = clash (cc)
       said (inr e) = cc
 
       go : (x : Forecast) → ((b : ℕ) → Serves g w S a i b → FullOr b x) → (settle g w S a i (predicted x p.state)).alternative
           ≡ lowest g w S a i
-      go (Alternative b) k = lowest-of S a i b v (λ d y. said (k d y))
-      go Full k = refl
+      go (Some b) k = lowest-of S a i b v (λ d y. said (k d y))
+      go None k = refl
 
 -- ---- by a predictor's laws
 module _ {C : Type 0} (Coherent : C → Type 0) (Extends : C → C → Type 0) (g : Grammar) (w : List ℕ) (Stands : List ℕ → ℕ → Type 0)

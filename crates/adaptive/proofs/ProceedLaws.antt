@@ -23,10 +23,9 @@ use Rattle.derivation.proofs.Stretches.{get_in}
 use Rattle.derivation.proofs.LowestLaws.{lowest-serves}
 use Rattle.derivation.proofs.MachineFuel.{enough}
 use Rattle.derivation.proofs.MachineSteps.{run_end, run-match, run_none, run-other, run-calls, call-full, call-unserved, call-pick}
-use Rattle.cache.specs.declared.prediction.Forecast.{Forecast}
-use Rattle.cache.specs.declared.prediction.Forecast.TheVariants.{Alternative, Full}
+use Rattle.std.specs.Prelude.{Some, None}
 use Rattle.cache.specs.Predict.{predict}
-use Rattle.cache.specs.Predictor.{predicted}
+use Rattle.cache.specs.Predictor.{Forecast, predicted}
 use Rattle.lookahead.specs.Configs.{Decides}
 use Rattle.cache.specs.Lessons.{Foretells}
 use Rattle.cache.proofs.ForecastLaws.{predict-named}
@@ -58,20 +57,20 @@ module _ (r : Rules) (limits : Limited r) (w : List ℕ) where
 
   module _ (c S : List ℕ) (a i : ℕ) where
     -- FULL
-    searched : Decides g a → {d : List ℕ} → Foretells g c a (drop i w) Full d → {o : Option ℕ} → LowestIs (Serves g w S a i) o
+    searched : Decides g a → {d : List ℕ} → Foretells g c a (drop i w) None d → {o : Option ℕ} → LowestIs (Serves g w S a i) o
         → Chose g w S a i c (choice o d)
     searched h x (this b y l) = taking (lowest-serving h x y l y.1) y.1
     searched h x (nothing n) = leaving (none-serving h x n)
 
     settled : Decides g a → {d : List ℕ} (x : Forecast) → Foretells g c a (drop i w) x d
-        → ((b : ℕ) → x ≡ Alternative b → (1 ≤ b) × (b ≤ length (alternatives g a)))
+        → ((b : ℕ) → x ≡ Some b → (1 ≤ b) × (b ≤ length (alternatives g a)))
         → Chose g w S a i c (settle g w S a i (predicted x d))
     unfolding settle
-    settled h (Alternative b) x n =
+    settled h (Some b) x n =
         let k = n b refl in
         let f = first_of g a b k.0 k.1 in
         taking (foretold h x f.1) f.1
-    settled h Full x n = searched h x (lowest-serves g w S a i)
+    settled h None x n = searched h x (lowest-serves g w S a i)
 
     chose : 1 ≤ length (alternatives g a) → Chose g w S a i c (adaptively g w c S a i)
     chose some_one = go (ltb 1 (length (alternatives g a))) refl

@@ -1,6 +1,6 @@
 -- What a quick reading teaches a cache, as a relation over any words: where the reading stands, what it takes, and the words when it stops. Predictions are
 -- the lessons of `Lessons`; nothing is computed, and no number of steps is named.
-use Rattle.std.specs.Prelude.{◌≡◌, List, [], ◌∷◌, ℕ, suc, ◌≤◌, T, drop}
+use Rattle.std.specs.Prelude.{◌≡◌, List, [], ◌∷◌, ℕ, suc, ◌≤◌, T, drop, Some, None}
 use Rattle.std.proofs.Math.Option.{Option, none, some}
 use Rattle.std.proofs.Math.ListN.{get_elem?}
 use Rattle.grammar.specs.declared.Symbol.TheVariants.{Token, Nonterminal, End}
@@ -8,7 +8,6 @@ use Rattle.grammar.specs.Limits.{end_place}
 use Rattle.grammar.specs.Grammar.{Grammar, facing, admits, alternatives, first}
 use Rattle.derivation.specs.Runs.{marked}
 use Rattle.derivation.specs.Runs.{Serves}
-use Rattle.cache.specs.declared.prediction.Forecast.TheVariants.{Alternative, Full}
 use Rattle.lookahead.specs.Configs.{Decides}
 use Rattle.cache.specs.Lessons.{Foretells}
 
@@ -18,12 +17,12 @@ pub data Takes (g : Grammar) (w S : List ℕ) (a i : ℕ) (c : List ℕ) : Optio
   -- the only production is taken, with no prediction
   only : {f : ℕ} → alternatives g a ≡ f ∷ [] → Takes g w S a i c (some f) c
   -- the alternative that is foretold
-  foretold : {b f : ℕ} {d : List ℕ} → Decides g a → Foretells g c a (drop i w) (Alternative b) d → first g a b ≡ some f → Takes g w S a i c (some f) d
+  foretold : {b f : ℕ} {d : List ℕ} → Decides g a → Foretells g c a (drop i w) (Some b) d → first g a b ≡ some f → Takes g w S a i c (some f) d
   -- after FULL the lowest alternative from which the rest of the note can be derived by it and what is still open
-  lowest-serving : {b f : ℕ} {d : List ℕ} → Decides g a → Foretells g c a (drop i w) Full d → Serves g w S a i b
+  lowest-serving : {b f : ℕ} {d : List ℕ} → Decides g a → Foretells g c a (drop i w) None d → Serves g w S a i b
       → ((b' : ℕ) → Serves g w S a i b' → b ≤ b') → first g a b ≡ some f → Takes g w S a i c (some f) d
   -- if there is none, the reading stops
-  none-serving : {d : List ℕ} → Decides g a → Foretells g c a (drop i w) Full d → ((b : ℕ) → ¬ Serves g w S a i b) → Takes g w S a i c none d
+  none-serving : {d : List ℕ} → Decides g a → Foretells g c a (drop i w) None d → ((b : ℕ) → ¬ Serves g w S a i b) → Takes g w S a i c none d
 
 -- where a reading stands: these places are open, or nonterminal a waits over them
 pub data Stand : Type 0 where

@@ -14,8 +14,9 @@
 // in what is lent. A derivation is the leftmost one that takes, at each step, the lowest alternative from which the whole rest of the note can still be
 // derived; the row gets the alternatives taken, counted from 1, in order, and zeros behind them.
 //
-// Answers are enums with a case for each refusal; `number()`, `place()` and, for readings and splittings, `count()` give them as numbers (a batch gets
-// those of its notes in its answers):
+// Every call but `split` answers a `Result`, whose refusals are an enum with a case for each; a reading's `Ok` is the number of the row's entries, and a
+// measure's the sizes. `number()` and `place()` of `Numbered` give answers and refusals as numbers, those of a splitting beside its `count()` (a batch gets
+// number, place and count of its notes in its answers):
 //
 //   0    accepted                                             8    more than 128 tokens in the note
 //   1    the bytes end before the grammar does                9    a token that the grammar does not know, at place
@@ -50,14 +51,14 @@
 // many slots has FIXED_WORDS + SLOT_WORDS * slots words, at least MIN_WORDS, and no more than MAX_SLOTS slots are used.
 #![tactic(auto)]
 
-pub use audit::{Audit, audit};
-pub use batch::{Batch, MAX_NOTES, batch};
-pub use cache::{Beginning, begin};
-pub use gate::{MAX_TOKENS, Reading, SPACE_WORDS, SPACE_WORDS_EACH};
-pub use measuring::{Measure, Sizes, measure};
-pub use number::Refusal;
+pub use audit::{AuditRefusal, audit};
+pub use batch::{BatchRefusal, MAX_NOTES, batch};
+pub use cache::{BeginningRefusal, begin};
+pub use gate::{MAX_TOKENS, ReadingRefusal, SPACE_WORDS, SPACE_WORDS_EACH};
+pub use measuring::{Sizes, measure};
+pub use number::{Numbered, Refusal};
 pub use plain::plain;
 pub use quick::quick;
-pub use soundness::{Verdict, check};
+pub use soundness::check;
 pub use splitter::{MAX_LINE, Splitting, split};
 pub use words::layout::{FIXED_WORDS, MAX_SLOTS, MIN_WORDS, SLOT_WORDS};

@@ -12,6 +12,9 @@ ghost use Rattle.splitter.specs.Contract.{SplitDid};
 ghost use Rattle.measuring.specs.Measuring.{figures, figures_of, measure_of};
 ghost use Rattle.allstar_c.specs.Version.{version};
 
+use measuring::Sizes;
+use number::Numbered;
+
 // The library's version. specs/Version has the same.
 const MAJOR: u32 = 1;
 
@@ -55,7 +58,7 @@ pub extern "C" fn allstar_plain(
 {
     let reading = plain::plain(grammar, note, row, workspace);
     *place = reading.place() as u64;
-    *count = reading.count() as u64;
+    *count = reading.unwrap_or(0) as u64;
     reading.number()
 }
 
@@ -76,7 +79,7 @@ pub extern "C" fn allstar_quick(
 {
     let reply = quick::quick(grammar, note, row, cache, workspace);
     *place = reply.place() as u64;
-    *count = reply.count() as u64;
+    *count = reply.unwrap_or(0) as u64;
     reply.number()
 }
 
@@ -145,10 +148,15 @@ pub extern "C" fn allstar_measure(
         ≡ figures_of (measure_of grammar.now) }
 {
     let measure = measuring::measure(grammar);
+    let sizes = measure.unwrap_or(Sizes {
+        kinds: 0,
+        nonterminals: 0,
+        places: 0,
+    });
     *place = measure.place() as u64;
-    *kinds = measure.kinds() as u64;
-    *nonterminals = measure.nonterminals() as u64;
-    *places = measure.places() as u64;
+    *kinds = sizes.kinds as u64;
+    *nonterminals = sizes.nonterminals as u64;
+    *places = sizes.places as u64;
     measure.number()
 }
 

@@ -1,14 +1,14 @@
-// What an audit answers, with the scope's number and place.
+// Why an audit says no, with the scope's number and place.
 ghost use Rattle.std.specs.Prelude.{◌≡◌};
-ghost use Rattle.audit.specs.Contract.{audit_number, audit_place};
+ghost use Rattle.audit.specs.Contract.{refused_number, refused_place, cache_refused};
+ghost use Rattle.audit.specs.declared.answer.AuditRefusal.TheVariants.{Grammar};
 
-use number::Refusal;
+use number::{Numbered, Refusal};
+use words::CacheRefusal;
 
-// What an audit answers.
-#[derive(Clone, Copy)]
-pub enum Audit {
-    // The words are coherent: over this cache quick readings by this grammar answer as plain ones do.
-    Yes,
+// Why a cache may not be trusted. Where an audit says yes, the words are coherent: over this cache quick readings by this grammar answer as plain ones do.
+#[derive(Clone, Copy, Debug, PartialEq, Eq)]
+pub enum AuditRefusal {
     // 1 to 7: the grammar is refused.
     Grammar(Refusal),
     // 12: the cache is too short.
@@ -16,33 +16,47 @@ pub enum Audit {
     // 13: the cache has not begun for this grammar at this length.
     ForeignCache,
     // 19: a word is not as documented, a decision holds two equal states, or a record is not what the learning rules give.
-    No,
+    Incoherent,
 }
 
-impl Audit {
-    // The scope's number: 0 for a yes.
-    pub fn number(self) -> u32
-        ensures { result ≡ audit_number self }
-    {
+impl From<Refusal> for AuditRefusal {
+    ghost from_gives = { λ r e. e ≡ Grammar r };
+
+    fn from(r: Refusal) -> AuditRefusal {
+        AuditRefusal::Grammar(r)
+    }
+}
+
+impl From<CacheRefusal> for AuditRefusal {
+    ghost from_gives = { λ r e. e ≡ cache_refused r };
+
+    fn from(r: CacheRefusal) -> AuditRefusal {
+        match r {
+            CacheRefusal::Short => AuditRefusal::ShortCache,
+            CacheRefusal::Foreign => AuditRefusal::ForeignCache,
+        }
+    }
+}
+
+impl Numbered for AuditRefusal {
+    ghost scope_number = { refused_number };
+
+    ghost scope_place = { refused_place };
+
+    fn number(&self) -> u32 {
         match self {
-            Audit::Yes => 0,
-            Audit::Grammar(r) => r.number(),
-            Audit::ShortCache => 12,
-            Audit::ForeignCache => 13,
-            Audit::No => 19,
+            AuditRefusal::Grammar(r) => r.number(),
+            AuditRefusal::ShortCache => 12,
+            AuditRefusal::ForeignCache => 13,
+            AuditRefusal::Incoherent => 19,
         }
     }
 
-    // The scope's place: 0 where none is named.
-    pub fn place(self) -> usize
-        ensures { result ≡ audit_place self }
-    {
+    // 0 where none is named.
+    fn place(&self) -> usize {
         match self {
-            Audit::Yes => 0,
-            Audit::Grammar(r) => r.place(),
-            Audit::ShortCache => 0,
-            Audit::ForeignCache => 0,
-            Audit::No => 0,
+            AuditRefusal::Grammar(r) => r.place(),
+            AuditRefusal::ShortCache | AuditRefusal::ForeignCache | AuditRefusal::Incoherent => 0,
         }
     }
 }

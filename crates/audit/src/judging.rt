@@ -4,37 +4,26 @@ ghost use Rattle.grammar.specs.inside.Tables.{grammar_in};
 ghost use Rattle.audit.specs.Contract.{audit_number, audit_place, AuditDid};
 ghost use Rattle.audit.specs.inside.Asked.{Asks, judged_of};
 
-use crate::answer::Audit;
-use soundness::Verdict;
-use words::Standing;
+use crate::answer::AuditRefusal;
 
 // 19, or a yes, for a cache that has begun; its grammar bytes have n words.
-fn judge(tables: &[u16], cache: &[u32], n: usize) -> Audit
+fn judge(tables: &[u16], cache: &[u32], n: usize) -> Result<(), AuditRefusal>
     requires { Asks tables.now cache.now n }
     ensures { result ≡ judged_of (grammar_in tables.now) n cache.now }
 {
     if auditing::coherent(tables, cache, n) {
-        return Audit::Yes;
+        return Ok(());
     }
-    Audit::No
+    Err(AuditRefusal::Incoherent)
 }
 
 // Whether quick readings by the grammar may be trusted over a cache, whoever wrote its words. Nothing is written. After a yes every quick reading answers as
 // the plain one does, and a note that was read before teaches nothing more.
-pub fn audit(grammar: &[u8], cache: &[u32]) -> Audit
+pub fn audit(grammar: &[u8], cache: &[u32]) -> Result<(), AuditRefusal>
     ensures { AuditDid grammar.now cache.now (audit_number result) (audit_place result) }
 {
     let mut tables = [0u16; grammar::TABLE_WORDS];
-    let verdict = soundness::compile(grammar, &mut tables);
-    match verdict {
-        Verdict::Refused(r) => Audit::Grammar(r),
-        Verdict::Sound => {
-            let standing = words::stands(grammar, cache);
-            match standing {
-                Standing::Short => Audit::ShortCache,
-                Standing::Foreign => Audit::ForeignCache,
-                Standing::Begun => judge(&tables, cache, (grammar.len() + 3) / 4),
-            }
-        }
-    }
+    soundness::compile(grammar, &mut tables)?;
+    words::stands(grammar, cache)?;
+    judge(&tables, cache, (grammar.len() + 3) / 4)
 }

@@ -4,5 +4,5 @@
 mod answer;
 mod judging;
 
-pub use answer::Audit;
+pub use answer::AuditRefusal;
 pub use judging::audit;

@@ -5,7 +5,7 @@
 
 ghost use Rattle.std.specs.Prelude.{◌≤◌, IfOk, length};
 
-use allstar::Audit;
+use allstar::{AuditRefusal, Numbered};
 use std::io;
 use std::io::{Read, Write};
 
@@ -18,11 +18,6 @@ const READING_BYTES: usize = 4096;
 // What is answered for words that are torn: more than the cache takes, or a last one that is cut off.
 const TORN: usize = CACHE_WORDS + 1;
 
-// The number that four bytes say, the lowest first.
-fn joined(a: u8, b: u8, c: u8, d: u8) -> u32 {
-    (a as u32) | ((b as u32) << 8) | ((c as u32) << 16) | ((d as u32) << 24)
-}
-
 // Puts the words of some bytes behind the first `held` words of the cache, as far as there is room, and answers how many it holds then. Bytes that make no
 // whole word are left out.
 fn put(bytes: &[u8], cache: &mut [u32], held: usize) -> usize
@@ -30,34 +25,11 @@ fn put(bytes: &[u8], cache: &mut [u32], held: usize) -> usize
     ensures lower_bound { held ≤ result }
     ensures upper_bound { result ≤ length cache.new }
 {
-    let n = bytes.len();
-    let room = cache.len();
-    let mut k = held;
-    let mut i = 0;
-    while i + 3 < n {
-        if room <= k {
-            return k;
-        }
-        cache[k] = joined(bytes[i], bytes[i + 1], bytes[i + 2], bytes[i + 3]);
-        k += 1;
-        i += 4;
+    let (words, _) = bytes.as_chunks::<4>();
+    for (word, bytes) in cache[held..].iter_mut().zip(words) {
+        *word = u32::from_le_bytes(*bytes);
     }
-    k
-}
-
-// Reads until the bytes are full or the input ends, and answers how many were read.
-fn read_full<R: Read>(input: &mut R, bytes: &mut [u8]) -> io::Result<usize>
-    ensures { IfOk result (λ n. n ≤ length bytes.new) }
-{
-    let mut done = 0;
-    while done < bytes.len() {
-        let n = input.read(&mut bytes[done..])?;
-        if n == 0 {
-            break;
-        }
-        done += n;
-    }
-    Ok(done)
+    held + words.len().min(cache.len() - held)
 }
 
 // Reads the words of the input, up to its end, and answers how many there are, or that they are torn.
@@ -66,12 +38,9 @@ fn read_words<R: Read>(input: &mut R, cache: &mut [u32]) -> io::Result<usize> {
     let room = cache.len();
     let mut held = 0;
     while held < room {
-        let n = read_full(input, &mut bytes)?;
+        let n = lines::read_full(input, &mut bytes)?;
         let more = put(&bytes[..n], cache, held);
-        if n % 4 != 0 {
-            return Ok(TORN);
-        }
-        if more - held != n / 4 {
+        if n % 4 != 0 || more - held != n / 4 {
             return Ok(TORN);
         }
         if n < READING_BYTES {
@@ -79,7 +48,7 @@ fn read_words<R: Read>(input: &mut R, cache: &mut [u32]) -> io::Result<usize> {
         }
         held = more;
     }
-    if read_full(input, &mut bytes)? == 0 {
+    if lines::read_full(input, &mut bytes)? == 0 {
         return Ok(held);
     }
     Ok(TORN)
@@ -88,20 +57,17 @@ fn read_words<R: Read>(input: &mut R, cache: &mut [u32]) -> io::Result<usize> {
 // Reads the number of grammar bytes: 0 where the input ends before that.
 fn read_count<R: Read>(input: &mut R) -> io::Result<usize> {
     let mut head = [0u8; 4];
-    if read_full(input, &mut head)? < 4 {
+    if lines::read_full(input, &mut head)? < 4 {
         return Ok(0);
     }
-    Ok(joined(head[0], head[1], head[2], head[3]) as usize)
+    Ok(u32::from_le_bytes(head) as usize)
 }
 
 // How many of so many grammar bytes are kept.
 fn kept(count: usize) -> usize
     ensures { result ≤ 4096 }
 {
-    if count < READING_BYTES {
-        return count;
-    }
-    READING_BYTES
+    count.min(READING_BYTES)
 }
 
 // Reads that many grammar bytes, as far as they are there and are kept, and answers how many these are.
@@ -110,7 +76,7 @@ fn read_grammar<R: Read>(input: &mut R, bytes: &mut [u8], count: usize) -> io::R
     ensures { IfOk result (λ n. n ≤ length bytes.new) }
 {
     let most = kept(count);
-    read_full(input, &mut bytes[..most])
+    lines::read_full(input, &mut bytes[..most])
 }
 
 // Reads the words behind a grammar: none where fewer of its bytes were kept than it should have.
@@ -127,25 +93,26 @@ fn read_behind<R: Read>(
 }
 
 // Writes an answer.
-fn tell<W: Write>(out: &mut W, number: u32, place: usize) -> io::Result<()> {
-    if number == 0 {
-        return out.write_all(b"yes\n");
+fn tell<W: Write>(out: &mut W, answer: &Result<(), AuditRefusal>) -> io::Result<()> {
+    match answer {
+        Ok(()) => out.write_all(b"yes\n"),
+        Err(refusal) => {
+            let number = refusal.number();
+            let place = refusal.place();
+            writeln!(out, "no {number} {place}")
+        }
     }
-    writeln!(out, "no {number} {place}")
 }
 
 // Answers for a grammar and the first so many words. A cache that is torn was not begun at a length that can be lent.
 fn answer<W: Write>(out: &mut W, grammar: &[u8], cache: &[u32], words: usize) -> io::Result<()> {
     if words <= cache.len() {
-        let audited = allstar::audit(grammar, &cache[..words]);
-        return tell(out, audited.number(), audited.place());
+        return tell(out, &allstar::audit(grammar, &cache[..words]));
     }
-    let verdict = allstar::check(grammar);
-    if verdict.number() == 0 {
-        let foreign = Audit::ForeignCache;
-        return tell(out, foreign.number(), foreign.place());
+    match allstar::check(grammar) {
+        Ok(()) => tell(out, &Err(AuditRefusal::ForeignCache)),
+        Err(refusal) => tell(out, &Err(AuditRefusal::Grammar(refusal))),
     }
-    tell(out, verdict.number(), verdict.place())
 }
 
 // A grammar is complete, or refused, within its first 870 bytes (`check-first` of `soundness`), and 4,096 are kept: where there are more of them, or fewer than

@@ -1,13 +1,15 @@
 -- The layout's tests, as the code makes them.
 use mathlib.Core.Path.{◌≡◌, refl, sym, ap, ◌∙◌}
 use mathlib.Core.Bool.{Bool, true, false, ◌&&◌, not}
-use mathlib.Core.List.{List}
-use Prim.Native.Nat.{ℕ, suc, ◌+◌, ◌-◌, ◌*◌, ◌≤◌, ◌<◌}
+use mathlib.Core.List.{List, [], ◌∷◌}
+use Prim.Native.Nat.{ℕ, zero, suc, ◌+◌, ◌-◌, ◌*◌, ◌≤◌, ◌<◌}
 use native.Mathlib.Numerals.{add-one}
 use native.Mathlib.Omega.{arith}
 use lib.Bits.{bit_or}
 use lib.Dec.{eqb, ltb, leb}
 use lib.ListN.{length, get_or, take, drop}
+use lib.Seq.{drop-cons}
+use Rattle.std.specs.List.{list_all, fold, range_with_len}
 use borrow.Author.Tests.{le-leb, lt-leb, le-ltb}
 use Rattle.base.specs.Search.{all_from}
 use Rattle.base.proofs.Booleans.{and_assoc, and-all, failed, passed, stop, on}
@@ -22,37 +24,35 @@ use Rattle.lookahead.specs.Closing.{max_kept}
 use Rattle.configurations.specs.Packing.{config_words}
 use Rattle.words.specs.Layout.{max_slots, slot_words, slot_head, slots, length_at, held_at, starts_at, bytes_at, fixed_words, slot_at, count_at}
 use Rattle.words.specs.Layout.{step_at, configs_at}
-use Rattle.words.specs.Words.{held, decision, kept_count, kept_words}
-use Rattle.words.proofs.SlotLaws.{count_low}
+use Rattle.words.specs.Words.{word, held, decision, kept_count, kept_words}
+use Rattle.words.proofs.SlotLaws.{count-is}
 use Rattle.auditing.specs.Coherence.{zeros?, fixed?, decides?, kept?, slot?, laid_out?}
 
 -- ---- zeros
-module _ (c : List ℕ) (i j : ℕ) where
-  -- word k is 0
-  abbrev blank : ℕ → Bool
-  blank k = eqb (get_or c k 0) 0
+abbrev blank : ℕ → Bool
+blank w = eqb w 0
 
-  -- the words so far, joined, and those from k on
-  abbrev pub Joined : ℕ → ℕ → Type 0
-  Joined all k = (eqb all 0 && all_from blank k (j - k)) ≡ zeros? c i j
+-- words joined are 0 where each of them is
+pub joined-is : (l : List ℕ) (all : ℕ) → eqb (fold bit_or all l) 0 ≡ (eqb all 0 && list_all blank l)
+joined-is [] all = sym (and-all (eqb all 0))
+joined-is (w ∷ l) all =
+    joined-is l (bit_or all w) ∙ ap (λ (b : Bool). b && list_all blank l) (or-none all w) ∙ and_assoc (eqb all 0) (blank w) (list_all blank l)
 
-  pub joined-begin : Joined 0 i
-  unfolding zeros?
-  joined-begin = refl
+-- the words of a part
+part-blank : (c : List ℕ) (m i : ℕ) → i + m ≤ length c → list_all blank (take m (drop i c)) ≡ all_from (λ (k : ℕ). eqb (word c k) 0) i m
+unfolding all_from
+part-blank c zero i h = refl
+part-blank c (suc m) i h = rw (drop-cons c i 0 (omega arith)) (ap (λ (b : Bool). eqb (word c i) 0 && b) (part-blank c m (suc i) (omega arith)))
 
-  pub joined-next : (all k : ℕ) → k < j → Joined all k → Joined (bit_or all (get_or c k 0)) (k + 1)
-  unfolding all_from
-  joined-next all k l h =
-      let z : j - k ≡ suc (j - suc k) = omega arith in
-      let x : (eqb all 0 && (blank k && all_from blank (suc k) (j - suc k))) ≡ zeros? c i j = rw z at h in
-      rw (add-one k, or-none all (get_or c k 0)) (and_assoc (eqb all 0) (blank k) (all_from blank (suc k) (j - suc k)) ∙ x)
+pub part-zeros : (c : List ℕ) (i j : ℕ) → i ≤ j → j ≤ length c → {r : Bool} → r ≡ list_all blank (take (j - i) (drop i c)) → r ≡ zeros? c i j
+unfolding zeros?
+part-zeros c i j h l e = e ∙ part-blank c (j - i) i (omega arith)
 
-  pub joined-done : (all k : ℕ) → j ≤ k → Joined all k → eqb all 0 ≡ zeros? c i j
-  unfolding all_from
-  joined-done all k l h =
-      let z : j - k ≡ 0 = omega arith in
-      let x : (eqb all 0 && true) ≡ zeros? c i j = rw z at h in
-      sym (and-all (eqb all 0)) ∙ x
+-- all numbers of a range
+pub all-range : (p : ℕ → Bool) (i n : ℕ) → list_all p (range_with_len i n) ≡ all_from p i n
+unfolding all_from
+all-range p i zero = refl
+all-range p i (suc n) = rw (add-one i) (ap (λ (b : Bool). p i && b) (all-range p (suc i) n))
 
 module _ (n : ℕ) (c : List ℕ) {r : Bool} (e : r ≡ zeros? c 0 length_at) where
   pub front-used : not r ≡ true → false ≡ fixed? n c
@@ -96,26 +96,26 @@ module _ (g : Grammar) (c : List ℕ) (s : ℕ) {d : ℕ} (p : d ≡ decision c 
   no-decision h = stop _ (failed decider h)
 
   module _ (h : not r ≡ false) {at n v : ℕ} (z : at ≡ slot_at s) (q : v ≡ get_or c (at + 1) 0) (m : n ≡ v) where
-    count-is : get_or c (count_at s) 0 ≡ n
-    count-is = let y : count_at s ≡ at + 1 = omega arith in ap (λ (i : ℕ). get_or c i 0) y ∙ sym (m ∙ q)
+    its-count : get_or c (count_at s) 0 ≡ n
+    its-count = let y : count_at s ≡ at + 1 = omega arith in ap (λ (i : ℕ). get_or c i 0) y ∙ sym (m ∙ q)
 
     pub nothing-kept : n ≡ 0 → false ≡ slot? g c s
     unfolding slot?
-    nothing-kept l = on (passed decider h) (stop _ (lt-leb 1 (get_or c (count_at s) 0) (omega (arith, count-is))))
+    nothing-kept l = on (passed decider h) (stop _ (lt-leb 1 (get_or c (count_at s) 0) (omega (arith, its-count))))
 
     something : 1 ≤ n → leb 1 (get_or c (count_at s) 0) ≡ true
-    something l = le-leb 1 (get_or c (count_at s) 0) (omega (arith, count-is))
+    something l = le-leb 1 (get_or c (count_at s) 0) (omega (arith, its-count))
 
     pub too_many : max_kept < n → false ≡ slot? g c s
     unfolding slot?
-    too_many l = on (passed decider h) (on (something (omega arith)) (stop _ (lt-leb (get_or c (count_at s) 0) max_kept (omega (arith, count-is)))))
+    too_many l = on (passed decider h) (on (something (omega arith)) (stop _ (lt-leb (get_or c (count_at s) 0) max_kept (omega (arith, its-count)))))
 
     module _ (some : 1 ≤ n) (l : n ≤ max_kept) where
       pub kept-count-is : n ≡ kept_count c s
-      kept-count-is = m ∙ count_low c s q z (omega arith)
+      kept-count-is = omega (arith, count-is c s q z)
 
       few-kept : leb (get_or c (count_at s) 0) max_kept ≡ true
-      few-kept = le-leb (get_or c (count_at s) 0) max_kept (omega (arith, count-is))
+      few-kept = le-leb (get_or c (count_at s) 0) max_kept (omega (arith, its-count))
 
       module _ {from behind : ℕ} (f : from ≡ at + slot_head) (b : behind ≡ from + config_words * n) where
         -- the part of the words that is lent
@@ -154,6 +154,11 @@ module _ (g : Grammar) (c : List ℕ) (s : ℕ) {d : ℕ} (p : d ≡ decision c 
 pub slots-few : (l : ℕ) {m h : ℕ} → m ≡ slots l → h ≤ m → h ≤ max_slots
 unfolding slots
 slots-few l e k = omega arith
+
+-- the slots end within the words
+pub slots-end : (l : ℕ) {m h at : ℕ} → m ≡ slots l → h ≤ m → at ≡ slot_at h → fixed_words ≤ l → at ≤ l
+unfolding slots
+slots-end l e k z f = omega arith
 
 module _ (g : Grammar) (n : ℕ) (c : List ℕ) {h m : ℕ} (e : h ≡ held c) (f : m ≡ slots (length c)) where
   pub states-many : m < h → false ≡ laid_out? g n c

@@ -13,7 +13,7 @@ use Rattle.base.proofs.Booleans.{clash, and_T, T→true, true→T, failed, passe
 use Rattle.grammar.specs.Limits.{max_nonterminals}
 use Rattle.grammar.specs.Grammar.{Grammar}
 use Rattle.grammar.specs.inside.Tables.{grammar_in, nonterminals_in}
-use Rattle.lookahead.specs.Outcomes.{Outcome, start_outcome, step_outcome}
+use Rattle.lookahead.specs.Outcomes.{start_outcome, step_outcome}
 use Rattle.configurations.specs.Packing.{config_words}
 use Rattle.learning.specs.declared.rules.Outcome as told
 use Rattle.learning.specs.declared.rules.Outcome.TheVariants.{Full, Alternative, State}
@@ -21,27 +21,28 @@ use Rattle.learning.specs.inside.Told.{Tells}
 use Rattle.words.specs.Layout.{slots, full_word, state_word}
 use Rattle.words.specs.Words.{held, start_of, step_of, decision, kept_in}
 use Rattle.cache.specs.inside.ByWords.{holds_words}
-use Rattle.cache.proofs.AskSteps.{rest-is}
 use Rattle.auditing.specs.Coherence.{decides?, laid_out?, single?, names?, says?, start?, step?, steps?, recorded?, right?}
 use Rattle.auditing.specs.inside.Relied.{Judges}
 use Rattle.auditing.proofs.LayoutSteps.{decides-nobody}
 
 -- ---- a word that names a slot
-module _ (c : List ℕ) (a w : ℕ) (ws : List ℕ) {v : ℕ} (e : v ≡ w) where
-  pub no-state : v < state_word 0 → false ≡ names? c a w ws
+module _ (c : List ℕ) (a w : ℕ) (ws : List ℕ) where
+  pub no-state : w ≤ full_word → false ≡ names? c a w ws
   unfolding names?
   no-state l = stop _ (lt-leb (state_word 0) w (omega arith))
 
-  module _ (l : state_word 0 ≤ v) {h : ℕ} (f : h ≡ held c) where
-    pub unheld : h ≤ v - state_word 0 → false ≡ names? c a w ws
+  module _ (s : ℕ) (e : w ≡ state_word s) {h : ℕ} (f : h ≡ held c) where
+    its-slot : w - state_word 0 ≡ s
+    its-slot = omega arith
+
+    pub unheld : h ≤ s → false ≡ names? c a w ws
     unfolding names?
     unheld k = on (le-leb (state_word 0) w (omega arith)) (stop _ (le-ltb (w - state_word 0) (held c) (omega arith)))
 
-    pub held-decides : v - state_word 0 < h → {r : Bool} → r ≡ holds_words c a ws (v - state_word 0) → r ≡ names? c a w ws
+    pub held-decides : s < h → {r : Bool} → r ≡ holds_words c a ws s → r ≡ names? c a w ws
     unfolding names? holds_words
     held-decides k q =
-        on (le-leb (state_word 0) w (omega arith)) (on (lt-ltb (w - state_word 0) (held c) (omega arith))
-        (q ∙ ap (λ (x : ℕ). holds_words c a ws (x - state_word 0)) e))
+        on (le-leb (state_word 0) w (omega arith)) (on (lt-ltb (w - state_word 0) (held c) (omega arith)) (rw its-slot q))
 
 -- ---- a word that says an outcome
 module _ (x : told.Outcome) (ms c : List ℕ) (a w : ℕ) {r : Bool} where
@@ -53,12 +54,13 @@ module _ (x : told.Outcome) (ms c : List ℕ) (a w : ℕ) {r : Bool} where
   unfolding Tells says?
   says-alternative e h o t = let q = rw e at t in rw q h
 
-  pub says-state : {f n : ℕ} → x ≡ State f n → r ≡ names? c a w (take (config_words * n) (take (length ms - config_words * f) (drop (config_words * f) ms)))
+  pub says-state : {f n : ℕ} → x ≡ State f n → r ≡ names? c a w (take (config_words * (f + n) - config_words * f) (drop (config_words * f) ms))
       → Judges x ms c a w r
   unfolding Tells says?
   says-state {f} {n} e h o t =
       let q = rw e at t in
-      rw q.is (h ∙ ap (λ (l : List ℕ). names? c a w (take (config_words * n) l)) (rest-is ms (config_words * f)) ∙ ap (names? c a w) q.words)
+      let z : config_words * (f + n) - config_words * f ≡ config_words * n = omega arith in
+      rw q.is (rw z at h ∙ ap (names? c a w) q.words)
 
 -- ---- a start
 pub decides-named : (t : List ℕ) (a : ℕ) {r : Bool} → r ≡ decides? (grammar_in t) a → not r ≡ false → a < nonterminals_in t

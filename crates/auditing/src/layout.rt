@@ -1,29 +1,23 @@
 // The layout: zeros where no field is, and slots that hold a state as they must.
-ghost use Rattle.std.specs.Prelude.{◌≡◌, ◌+◌, ◌*◌, ◌≤◌, ◌<◌, length};
+ghost use Rattle.std.specs.Prelude.{◌≡◌, ◌==◌, ◌+◌, ◌%◌, ◌≤◌, ◌<◌, length};
+ghost use Rattle.std.specs.List.{list_all};
 ghost use Rattle.base.specs.Search.{all_from};
 ghost use Rattle.grammar.specs.inside.Tables.{grammar_in};
 ghost use Rattle.derivation.specs.inside.Ready.{Ready};
 ghost use Rattle.configurations.specs.Packing.{config_words};
 ghost use Rattle.words.specs.Layout.{min_words, fixed_words, bytes_at, slots};
-ghost use Rattle.auditing.specs.Coherence.{zeros?, fixed?, decides?, kept?, slot?, laid_out?};
+ghost use Rattle.auditing.specs.Coherence.{fixed?, decides?, kept?, slot?, laid_out?};
 
 use configurations::{CONFIG_WORDS, KEPT};
 use words::layout::{
     BYTES_AT, COUNT_AT, FIXED_WORDS, HELD_AT, LENGTH_AT, SLOT_HEAD, SLOT_WORDS, STARTS_AT,
 };
 
-// Whether the words from `from` up to `to` are 0. All are looked at, whatever they are: that is faster, since most are 0.
-fn zeros(cache: &[u32], from: usize, to: usize) -> bool
-    requires { to ≤ length cache.now }
-    ensures { result ≡ zeros? cache.now from to }
+// Whether these words are 0. All are looked at, whatever they are: that is faster, since most are 0.
+fn zeros(words: &[u32]) -> bool
+    ensures { result ≡ list_all (λ w. w == 0) words.now }
 {
-    let mut all = 0;
-    let mut k = from;
-    while k < to {
-        all |= cache[k];
-        k += 1;
-    }
-    all == 0
+    words.iter().fold(0, |all, word| all | *word) == 0
 }
 
 // Whether the words before the slots are 0 where they have no use; the grammar bytes have n words.
@@ -31,13 +25,13 @@ fn fixed(cache: &[u32], n: usize) -> bool
     requires { (min_words ≤ length cache.now) × (bytes_at + n ≤ fixed_words) }
     ensures { result ≡ fixed? n cache.now }
 {
-    if !zeros(cache, 0, LENGTH_AT) {
+    if !zeros(&cache[..LENGTH_AT]) {
         return false;
     }
-    if !zeros(cache, HELD_AT + 1, STARTS_AT) {
+    if !zeros(&cache[HELD_AT + 1..STARTS_AT]) {
         return false;
     }
-    zeros(cache, BYTES_AT + n, FIXED_WORDS)
+    zeros(&cache[BYTES_AT + n..FIXED_WORDS])
 }
 
 // Whether a is a nonterminal of two or more productions.
@@ -51,23 +45,19 @@ pub fn decides(tables: &[u16], a: usize) -> bool
     1 < derivation::alternatives(tables, a)
 }
 
-// Whether ws are the words of n configurations as a state keeps them: numbers in range, no bit too many, each below the next.
-fn kept(ws: &[u32], n: usize) -> bool
-    requires { length ws.now ≡ config_words * n }
-    ensures { result ≡ kept? ws.now }
+// Whether these are words of configurations as a state keeps them: numbers in range, no bit too many, each below the next.
+fn kept(words: &[u32]) -> bool
+    requires { length words.now % config_words ≡ 0 }
+    ensures { result ≡ kept? words.now }
 {
-    let mut k = 0;
-    while k < n {
-        let here = k;
-        k += 1;
-        let c = configurations::member(ws, here);
+    for k in 0..words.len() / CONFIG_WORDS {
+        let c = configurations::member(words, k);
         if !c.fits() {
             return false;
         }
-        if 0 < here {
-            if !configurations::member(ws, here - 1).precedes(c) {
-                return false;
-            }
+        let follows = 0 < k;
+        if follows && !configurations::member(words, k - 1).precedes(c) {
+            return false;
         }
     }
     true
@@ -91,14 +81,14 @@ fn slot(tables: &[u16], cache: &[u32], s: usize) -> bool
     }
     let from = at + SLOT_HEAD;
     let behind = from + CONFIG_WORDS * n;
-    if !kept(&cache[from..behind], n) {
+    if !kept(&cache[from..behind]) {
         return false;
     }
     let steps = words::slots::step_at(s, grammar::kinds(tables)) + 1;
-    if !zeros(cache, steps, from) {
+    if !zeros(&cache[steps..from]) {
         return false;
     }
-    zeros(cache, behind, at + SLOT_WORDS)
+    zeros(&cache[behind..at + SLOT_WORDS])
 }
 
 // Whether every held slot is.
@@ -106,14 +96,7 @@ fn all_slots(tables: &[u16], cache: &[u32], held: usize) -> bool
     requires { Ready tables.now × (held ≤ slots (length cache.now)) }
     ensures { result ≡ all_from (slot? (grammar_in tables.now) cache.now) 0 held }
 {
-    let mut s = 0;
-    while s < held {
-        if !slot(tables, cache, s) {
-            return false;
-        }
-        s += 1;
-    }
-    true
+    (0..held).all(|s| slot(tables, cache, s))
 }
 
 // Whether all is laid out as documented; the grammar bytes have n words.
@@ -128,7 +111,7 @@ pub fn laid_out(tables: &[u16], cache: &[u32], n: usize) -> bool
     if !fixed(cache, n) {
         return false;
     }
-    if !zeros(cache, words::slots::slot_at(held), cache.len()) {
+    if !zeros(&cache[words::slots::slot_at(held)..]) {
         return false;
     }
     all_slots(tables, cache, held)

@@ -1,34 +1,27 @@
 // The records: every start and step that is recorded is worked out again and compared with its word.
-ghost use Rattle.std.specs.Prelude.{◌≡◌, ◌*◌, ◌≤◌, ◌<◌, take};
+ghost use Rattle.std.specs.Prelude.{◌≡◌, ◌≤◌, ◌<◌};
 ghost use Rattle.base.specs.Search.{all_from};
 ghost use Rattle.grammar.specs.Limits.{max_nonterminals, max_kinds};
 ghost use Rattle.grammar.specs.inside.Tables.{grammar_in};
 ghost use Rattle.derivation.specs.inside.Ready.{Ready};
-ghost use Rattle.configurations.specs.Packing.{config_words};
 ghost use Rattle.words.specs.Words.{held};
-ghost use Rattle.cache.specs.inside.Calls.{KeptConfigs};
 ghost use Rattle.cache.specs.inside.ByWords.{RoomFor};
 ghost use Rattle.auditing.specs.Coherence.{names?, start?, step?, steps?, recorded?};
 ghost use Rattle.auditing.specs.inside.Relied.{Held, Judging, Judges};
 
 use configurations::{CONFIG_WORDS, MEMBER_WORDS};
 use learning::Outcome;
-use words::layout::{FULL, STATES};
+use words::layout::FULL;
 
-// Whether w names a held slot that keeps the n configurations of ws for decision a.
-fn names(cache: &[u32], a: usize, w: u32, ws: &[u32], n: usize) -> bool
-    requires { Held cache.now × KeptConfigs n ws.now }
-    ensures { result ≡ names? cache.now a w (take (config_words * n) ws.now) }
+// Whether w names a held slot that keeps these configurations for decision a.
+fn names(cache: &[u32], a: usize, w: u32, kept: &[u32]) -> bool
+    requires { Held cache.now }
+    ensures { result ≡ names? cache.now a w kept.now }
 {
-    let v = base::number(w);
-    if v < STATES {
-        return false;
+    match words::slots::state_of(w) {
+        Some(s) => s < words::slots::held(cache) && cache::holds(cache, a, kept, s),
+        None => false,
     }
-    let s = v - STATES;
-    if words::slots::held(cache) <= s {
-        return false;
-    }
-    cache::holds(cache, a, ws, n, s)
 }
 
 // Whether w says the outcome of decision a that lookahead told with these members.
@@ -39,7 +32,10 @@ fn says(cache: &[u32], a: usize, w: u32, outcome: Outcome, members: &[u32]) -> b
     match outcome {
         Outcome::Full => w == FULL,
         Outcome::Alternative(b) => w == b,
-        Outcome::State(first, n) => names(cache, a, w, &members[CONFIG_WORDS * first..], n),
+        Outcome::State(first, n) => {
+            let kept = &members[CONFIG_WORDS * first..CONFIG_WORDS * (first + n)];
+            names(cache, a, w, kept)
+        }
     }
 }
 
@@ -78,12 +74,10 @@ fn starts(tables: &[u16], cache: &[u32], members: &mut [u32]) -> bool
     requires { Judging tables.now cache.now members.old }
     ensures { result ≡ all_from (start? (grammar_in tables.now) cache.now) 0 max_nonterminals }
 {
-    let mut a = 0;
-    while a < grammar::MAX_NONTERMINALS {
+    for a in 0..grammar::MAX_NONTERMINALS {
         if !start(tables, cache, a, members) {
             return false;
         }
-        a += 1;
     }
     true
 }
@@ -93,13 +87,10 @@ fn steps(tables: &[u16], cache: &[u32], s: usize, members: &mut [u32]) -> bool
     requires { Judging tables.now cache.now members.old × (s < held cache.now) }
     ensures { result ≡ steps? (grammar_in tables.now) cache.now s }
 {
-    let n = grammar::kinds(tables) + 1;
-    let mut t = 0;
-    while t < n {
+    for t in 0..=grammar::kinds(tables) {
         if !step(tables, cache, s, t, members) {
             return false;
         }
-        t += 1;
     }
     true
 }
@@ -109,13 +100,10 @@ fn all_steps(tables: &[u16], cache: &[u32], members: &mut [u32]) -> bool
     requires { Judging tables.now cache.now members.old }
     ensures { result ≡ all_from (steps? (grammar_in tables.now) cache.now) 0 (held cache.now) }
 {
-    let held = words::slots::held(cache);
-    let mut s = 0;
-    while s < held {
+    for s in 0..words::slots::held(cache) {
         if !steps(tables, cache, s, members) {
             return false;
         }
-        s += 1;
     }
     true
 }

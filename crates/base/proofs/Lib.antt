@@ -5,4 +5,3 @@ pub mod Lists
 pub mod Fixpoint
 pub mod Lowest
 pub mod AllLaws
-pub mod ClearLaws

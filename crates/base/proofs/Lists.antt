@@ -1,7 +1,7 @@
 -- Lists: an element by its number, tests over all elements, runs of stores.
 use mathlib.Core.Path.{◌≡◌, refl, ap, ◌∙◌}
 use mathlib.Core.Logic.{◌⊎◌, inl, inr}
-use mathlib.Core.Bool.{Bool}
+use mathlib.Core.Bool.{Bool, ◌||◌}
 use mathlib.Core.Option.{none, some}
 use mathlib.Core.List.{List, [], ◌∷◌, ◌++◌, Memᴰ}
 use Prim.Native.Nat.{ℕ, zero, suc, ◌+◌, ◌-◌, ◌≤◌, ◌<◌}
@@ -10,6 +10,7 @@ use native.Mathlib.Decide.{dec_le, dec_lt}
 use lib.Dec.{T}
 use lib.ListN.{length, get_or, get_elem?, set, take, drop, length-take, drop_of_length-le}
 use lib.Seq.{sets, set_comm, slice, slice-cons}
+use Rattle.std.specs.List.{list_any}
 use Rattle.base.specs.Lists.{AllOf}
 use Rattle.base.specs.Rounds.{any_of, up_from}
 use Rattle.base.proofs.Booleans.{clash, or-T, T-or-l, T-or-r}
@@ -186,3 +187,9 @@ sets-sets t i (u ∷ us) p vs h =
 pub sets-append : (t : List ℕ) (p : ℕ) (us vs : List ℕ) → sets t p (us ++ vs) ≡ sets (sets t p us) (p + length us) vs
 sets-append t p [] vs = let e : p + 0 ≡ p = omega arith in rw e
 sets-append t p (u ∷ us) vs = let e : p + suc (length us) ≡ suc p + length us = omega arith in rw e (sets-append (set t p u) (suc p) us vs)
+
+-- `any_of` is the library's `list_any`
+pub any_is : {A : Type 0} (p : A → Bool) (l : List A) → any_of p l ≡ list_any p l
+unfolding any_of
+any_is p [] = refl
+any_is p (x ∷ l) = ap (λ b. p x || b) (any_is p l)

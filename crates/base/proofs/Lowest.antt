@@ -1,13 +1,18 @@
 -- The search for the lowest number finds the lowest of what its test decides.
 use mathlib.Core.Path.{◌≡◌, refl, sym, ap, ap₂, ◌∙◌}
-use mathlib.Core.Bool.{Bool, true, false}
+use mathlib.Core.Bool.{Bool, true, false, not, cond}
+use mathlib.Core.List.{List, [], ◌∷◌}
 use mathlib.Core.Option.{Option, none, some}
 use Prim.Native.Nat.{ℕ, zero, suc, ◌+◌, ◌-◌, ◌≤◌, ◌<◌}
 use native.Mathlib.Numerals.{add-one}
 use native.Mathlib.Omega.{arith}
-use native.Mathlib.Decide.{dec_le}
-use lib.Dec.{T}
-use Rattle.base.specs.Search.{lowest_from, LowestIs, this, nothing}
+use native.Mathlib.Decide.{dec_le, dec_lt}
+use borrow.Author.Tests.{lt-ltb, le-ltb}
+use lib.Dec.{T, ltb}
+use lib.ListN.{length, get_or}
+use Rattle.std.specs.Prelude.{Option as Answer, Some, None}
+use Rattle.std.specs.List.{position_or_len}
+use Rattle.base.specs.Search.{lowest_from, found, LowestIs, this, nothing}
 use Rattle.base.proofs.Booleans.{true→T}
 
 -- what a search came to
@@ -88,3 +93,41 @@ lowest-same p q i zero h = refl
 lowest-same p q i (suc k) h =
     ap₂ (λ (b : Bool) (o : Option ℕ). elim b as (λ _. Option ℕ) [ true ↦ some i | false ↦ o ]) (h i (omega arith) (omega arith))
     (lowest-same p q (suc i) k (λ a l m. h a (omega arith) (omega arith)))
+
+-- ---- the first element that passes a test, where the test is one of numbers: what the library's `position` answers is what the search finds
+module _ (p : ℕ → Bool) where
+  abbrev answer : ℕ → ℕ → ℕ → Answer ℕ
+  answer i k n = cond (ltb k n) (Some (i + k)) None
+
+  pub position-from : (xs : List ℕ) (q : ℕ → Bool) (i : ℕ) → ((k : ℕ) → k < length xs → q (i + k) ≡ p (get_or xs k 0))
+      → answer i (position_or_len p xs) (length xs) ≡ found (lowest_from q i (length xs))
+  unfolding lowest_from
+  position-from [] q i h = refl
+  position-from (x ∷ xs) q i h = go (p x) (first (h 0 (omega arith))) (position-from xs q (suc i) behind)
+    where
+      first : q (i + 0) ≡ p x → q i ≡ p x
+      first e = let z : i + 0 ≡ i = omega arith in rw z at e
+
+      behind : (k : ℕ) → k < length xs → q (suc i + k) ≡ p (get_or xs k 0)
+      behind k l = let z : i + suc k ≡ suc i + k = omega arith in rw z at (h (suc k) (omega arith))
+
+      go : (b : Bool) → q i ≡ b → answer (suc i) (position_or_len p xs) (length xs) ≡ found (lowest_from q (suc i) (length xs))
+          → answer i (cond (not b) (1 + position_or_len p xs) 0) (suc (length xs)) ≡ found (lowest_from q i (suc (length xs)))
+      go true e r = let z : i + 0 ≡ i = omega arith in rw (z, e, lowest_from) (rw (lt-ltb 0 (suc (length xs)) (omega arith)) refl)
+      go false e r =
+          let z : i + (1 + position_or_len p xs) ≡ suc i + position_or_len p xs = omega arith in
+          rw (z, e, lowest_from) (moved (dec_lt (position_or_len p xs) (length xs)) ∙ r)
+        where
+          moved : Dec (position_or_len p xs < length xs)
+              → cond (ltb (1 + position_or_len p xs) (suc (length xs))) (Some (suc i + position_or_len p xs)) None
+              ≡ answer (suc i) (position_or_len p xs) (length xs)
+          moved (yes l) = rw (lt-ltb (1 + position_or_len p xs) (suc (length xs)) (omega arith), lt-ltb (position_or_len p xs) (length xs) l) refl
+          moved (no l) = rw (le-ltb (1 + position_or_len p xs) (suc (length xs)) (omega arith), le-ltb (position_or_len p xs) (length xs) (omega arith)) refl
+
+  -- over all of a list
+  pub position-lowest : (xs : List ℕ) (q : ℕ → Bool) → ((k : ℕ) → k < length xs → q k ≡ p (get_or xs k 0))
+      → cond (ltb (position_or_len p xs) (length xs)) (Some (position_or_len p xs)) None ≡ found (lowest_from q 0 (length xs))
+  position-lowest xs q h = let z : 0 + position_or_len p xs ≡ position_or_len p xs = omega arith in rw z at (position-from xs q 0 whole)
+    where
+      whole : (k : ℕ) → k < length xs → q (0 + k) ≡ p (get_or xs k 0)
+      whole k l = let z : 0 + k ≡ k = omega arith in rw z (h k l)

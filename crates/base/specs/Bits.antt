@@ -1,6 +1,6 @@
 -- Single bits of a number: a word is a set of numbers below word_bits.
-use Rattle.std.specs.Prelude.{ℕ, ◌/◌, ◌%◌, ◌^◌, ◌<◌, ◌≡◌, Bool, true, false, eqb}
-use Rattle.std.specs.Int.Bits.{bit_or}
+use Rattle.std.specs.Prelude.{ℕ, ◌/◌, ◌%◌, ◌^◌, ◌<◌, ◌≡◌, Bool, true, false, eqb, Option, MatchOption}
+use Rattle.std.specs.Int.Bits.{bit_or, bit_xor}
 
 -- the bits of a word
 abbrev pub word_bits : ℕ
@@ -27,3 +27,7 @@ pub record HighestIs (x k : ℕ) : Type 0 where
   pub small : k < word_bits
   pub member : test_bit x k ≡ true
   pub last : (j : ℕ) → k < j → test_bit x j ≡ false
+
+-- the members of a set one by one, the highest first: it leaves the set, and of the empty set there is none
+abbrev pub GivesHighest : ℕ → Option ℕ → ℕ → Type 0
+GivesHighest left r rest = MatchOption r ((left ≡ 0) × (rest ≡ 0)) (λ a. HighestIs left a × (rest ≡ bit_xor left (2 ^ a)))

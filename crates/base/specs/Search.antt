@@ -1,5 +1,6 @@
 -- The lowest number with a property: as a search, and as what the search must find. And a test of all numbers of a range.
 use Rattle.std.specs.Prelude.{Bool, true, false, ◌&&◌, ℕ, zero, suc, ◌≤◌}
+use Rattle.std.specs.Prelude.{Option as Answer, Some, None}
 use Rattle.std.proofs.Math.Option.{Option, none, some}
 
 -- the lowest of the n numbers from i on that passes the test
@@ -16,3 +17,8 @@ pub data LowestIs (P : ℕ → Type 0) : Option ℕ → Type 0 where
 unfoldable pub all_from : (ℕ → Bool) → ℕ → ℕ → Bool
 all_from p i zero = true
 all_from p i (suc n) = let rest = all_from p (suc i) n in p i && rest
+
+-- what a search finds, as code answers it
+abbrev pub found : {A : Type 0} → Option A → Answer A
+found none = None
+found (some x) = Some x

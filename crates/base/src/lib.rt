@@ -4,7 +4,8 @@
 
 ghost use Rattle.std.specs.Prelude.{◌≡◌, true, ◌++◌, ◌-◌, ◌^◌, ◌≤◌, ◌<◌, length, take, replicate};
 ghost use Rattle.std.specs.Int.Bits.{bit_xor};
-ghost use Rattle.base.specs.Bits.{word_bits, test_bit, set_bit, is_subset, HighestIs};
+ghost use Rattle.std.specs.Iterator.{at_most};
+ghost use Rattle.base.specs.Bits.{word_bits, test_bit, set_bit, is_subset, HighestIs, GivesHighest};
 
 // The bits of a word; a word is a set of numbers below that. specs/Bits has the same.
 pub const WORD_BITS: usize = 32;
@@ -13,14 +14,14 @@ pub const WORD_BITS: usize = 32;
 pub fn wide(b: u8) -> usize
     ensures { result ≡ b }
 {
-    b as usize
+    usize::from(b)
 }
 
 // A word of 16 bits as a number.
 pub fn index(x: u16) -> usize
     ensures { result ≡ x }
 {
-    x as usize
+    usize::from(x)
 }
 
 // A number that fits a word of 16 bits.
@@ -100,15 +101,40 @@ pub fn without(x: u32, k: usize) -> u32
     x ^ (1u32 << k)
 }
 
+// The members of a set that are still to come, the highest first.
+#[derive(Drop)]
+pub struct HighestFirst {
+    left: u32,
+}
+
+impl Iterator for HighestFirst {
+    type Item = usize;
+
+    ghost next_gives = { λ s r t. GivesHighest s.left r t.left };
+
+    ghost remaining = { λ s. at_most s.left };
+
+    fn next(&mut self) -> Option<usize> {
+        if self.left == 0 {
+            return None;
+        }
+        let a = highest(self.left);
+        self.left = without(self.left, a);
+        Some(a)
+    }
+}
+
+// The members of a set, the highest first.
+pub fn members(set: u32) -> HighestFirst
+    ensures { result.left ≡ set }
+{
+    HighestFirst { left: set }
+}
+
 // Zeros from entry `from` on.
 pub fn clear_from(row: &mut [u16], from: usize)
     requires { from ≤ length row.old }
     ensures { row.new ≡ take from row.old ++ replicate (length row.old - from) 0 }
 {
-    let n = row.len();
-    let mut k = from;
-    while k < n {
-        row[k] = 0;
-        k += 1;
-    }
+    row[from..].fill(0);
 }

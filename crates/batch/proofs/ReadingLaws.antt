@@ -5,24 +5,20 @@ use mathlib.Core.List.{List, [], ◌∷◌}
 use Prim.Native.Nat.{ℕ, ◌/◌}
 use lib.Dec.{T}
 use lib.ListN.{length}
+use Rattle.std.specs.Prelude.{Ok, Err}
 use Rattle.base.proofs.Booleans.{clash, true→T}
 use Rattle.number.specs.declared.Refusal.{Refusal}
 use Rattle.number.specs.Refusals.{refusal_number, refusal_place}
 use Rattle.grammar.specs.Grammar.{Grammar}
 use Rattle.grammar.specs.inside.Tables.{grammar_in}
-use Rattle.soundness.specs.declared.judgement.Verdict.{Verdict}
-use Rattle.soundness.specs.declared.judgement.Verdict.TheVariants.{Sound, Refused}
+use Rattle.soundness.specs.Verdict.{Verdict}
 use Rattle.soundness.specs.inside.Compiled.{Compiled}
 use Rattle.derivation.specs.Gate as definition
-use Rattle.derivation.specs.Plain.{answer, refuse}
+use Rattle.derivation.specs.Plain.{refuse}
 use Rattle.derivation.proofs.ReadyLaws.{sound-judged, sound-ready, compiled-refuses, compiled-passes, compiled-gate}
-use Rattle.words.specs.inside.Standings.{standing_of}
-use Rattle.words.specs.declared.standing.Standing.{Standing}
-use Rattle.gate.specs.Reading.{reading_number, reading_place}
-use Rattle.gate.specs.inside.Passing.{NoteGated}
-use Rattle.gate.specs.declared.reading.Reading.{Reading}
-use Rattle.gate.specs.declared.passing.Gate.{Gate}
-use Rattle.gate.specs.declared.passing.Gate.TheVariants.{Passed, Shut}
+use Rattle.words.specs.inside.Standings.{Standing, standing_of}
+use Rattle.gate.specs.inside.Passing.{Gate, NoteGated}
+use Rattle.gate.specs.declared.reading.ReadingRefusal.{ReadingRefusal}
 use Rattle.gate.proofs.PassingLaws.{at-shut, at-passed}
 use Rattle.adaptive.specs.Quick.{Reply, reply, over_cache, quick_reading}
 use Rattle.adaptive.specs.Calls.{Call, call, quick, in_turn}
@@ -35,18 +31,16 @@ use Rattle.batch.proofs.FitLaws.{fits-means}
 
 -- ---- one note: its gate, and then the cache as it stands
 module _ {t w : List ℕ} (row c : List ℕ) {space : ℕ} (x : Standing) {g : Gate} (h : NoteGated t w space g) where
-  pub note-shut : {r : Reading} → g ≡ Shut r → replied r row c ≡ note_by x (grammar_in t) c (call w row space)
+  pub note-shut : {r : ReadingRefusal} → g ≡ Err r → replied (Err r) row c ≡ note_by x (grammar_in t) c (call w row space)
   unfolding note_by
-  note-shut {r} e =
-      ap (λ (n : ℕ). reply (answer (reading_number r) (reading_place r) n row) c) (h.counts r e)
-      ∙ at-shut h (λ n p. reply (refuse n p row) c) (λ g. over_standing x g w row c) e
+  note-shut e = at-shut h (λ n p. reply (refuse n p row) c) (λ g. over_standing x g w row c) e
 
-  pub note-passed : g ≡ Passed → {y : Reply} → y ≡ over_standing x (grammar_in t) w row c → y ≡ note_by x (grammar_in t) c (call w row space)
+  pub note-passed : g ≡ Ok tt → {y : Reply} → y ≡ over_standing x (grammar_in t) w row c → y ≡ note_by x (grammar_in t) c (call w row space)
   unfolding note_by
   note-passed e q = q ∙ at-passed h (λ n p. reply (refuse n p row) c) (λ g. over_standing x g w row c) e
 
 -- ---- the notes of a sound grammar
-module _ (s : List ℕ) {v : Verdict} {t : List ℕ} (h : Compiled s v t) (sound : v ≡ Sound) {x : Standing} where
+module _ (s : List ℕ) {v : Verdict} {t : List ℕ} (h : Compiled s v t) (sound : v ≡ Ok tt) {x : Standing} where
   -- over a cache that stands so, a note is read as a quick reading reads it
   note-quick : (c : List ℕ) (k : Call) → x ≡ standing_of s c → note_by x (grammar_in t) c k ≡ quick s c k
   unfolding note_by quick_reading
@@ -71,7 +65,7 @@ module _ (s : List ℕ) {v : Verdict} {t : List ℕ} (h : Compiled s v t) (sound
       ∙ ap (λ (ys : List Reply). quick s c k ∷ ys) (all-quick ks (quick s c k).words (stays c k e))
 
 -- ---- what the loop may rest on
-pub parted : (s tokens lengths answers row c : List ℕ) {v : Verdict} {t : List ℕ} → Compiled s v t → v ≡ Sound → {b : Bool}
+pub parted : (s tokens lengths answers row c : List ℕ) {v : Verdict} {t : List ℕ} → Compiled s v t → v ≡ Ok tt → {b : Bool}
     → b ≡ fits? tokens lengths answers row → not b ≡ false → {x : Standing} → x ≡ standing_of s c → Parted t tokens lengths answers row c x
 parted s tokens lengths answers row c h sound {b} e n f =
     record { ready = sound-ready s h sound; long = standing-long s c f; fits = fits-means tokens lengths answers row (go b e n) }
@@ -88,11 +82,11 @@ module _ (s tokens lengths answers row : List ℕ) (space : ℕ) (c : List ℕ) 
   abbrev refused : ℕ → ℕ → Batched
   refused n p = batched n p answers row c
 
-  pub grammar-is : {r : Refusal} → v ≡ Refused r → refused (refusal_number r) (refusal_place r) ≡ whole
+  pub grammar-is : {r : Refusal} → v ≡ Err r → refused (refusal_number r) (refusal_place r) ≡ whole
   unfolding batch_reading
   grammar-is e = rw (compiled-refuses s h e)
 
-  module _ (sound : v ≡ Sound) {b : Bool} (e : b ≡ fits? tokens lengths answers row) where
+  module _ (sound : v ≡ Ok tt) {b : Bool} (e : b ≡ fits? tokens lengths answers row) where
     on-sound : whole ≡ from18 s tokens lengths answers row space c
     unfolding batch_reading
     on-sound = rw (compiled-passes s h sound)

@@ -8,8 +8,7 @@ use native.Mathlib.Omega.{arith}
 use lib.ListN.{length, get_or, set, take, drop, length-append, drop_of_length-le}
 use lib.Seq.{sets, sets-eq, take_all, take_at, drop-drop, drop-cons, length-take-le}
 use borrow.Rule.Slice.PartMut.{put_mid, same_len_mid, mid_len, drop_put}
-use Rattle.gate.specs.Reading.{reading_number, reading_place, reading_count}
-use Rattle.gate.specs.declared.reading.Reading.{Reading}
+use Rattle.gate.specs.Reading.{Reading, reading_number, reading_place, reading_count}
 use Rattle.adaptive.specs.Quick.{Reply}
 use Rattle.adaptive.specs.Calls.{Call, call, in_turn, last_words}
 use Rattle.quick.specs.inside.Replied.{replied}

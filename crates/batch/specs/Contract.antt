@@ -1,21 +1,32 @@
 -- What a batch promises.
-use Rattle.std.specs.Prelude.{◌≡◌, List, ℕ}
+use Rattle.std.specs.Prelude.{◌≡◌, List, ℕ, Result, ⊤}
 use Rattle.number.specs.Refusals.{refusal_number, refusal_place}
+use Rattle.number.specs.Answers.{told}
 use Rattle.batch.specs.Batches.{batched, batch_reading}
-use Rattle.batch.specs.declared.answer.Batch.{Batch}
-use Rattle.batch.specs.declared.answer.Batch.TheVariants.{Read, Grammar, BadBatch}
+use Rattle.batch.specs.declared.answer.BatchRefusal.{BatchRefusal}
+use Rattle.batch.specs.declared.answer.BatchRefusal.TheVariants.{Grammar, BadBatch}
+
+-- every note has its answers, or why not
+abbrev pub Batch : Type 0
+Batch = Result ⊤ BatchRefusal
+
+-- the refusal's number
+abbrev pub refused_number : BatchRefusal → ℕ
+refused_number (Grammar r) = refusal_number r
+refused_number BadBatch = 18
+
+-- its place, 0 where none is named
+abbrev pub refused_place : BatchRefusal → ℕ
+refused_place (Grammar r) = refusal_place r
+refused_place BadBatch = 0
 
 -- 0 where the notes were read, else the refusal's number
 abbrev pub batch_number : Batch → ℕ
-batch_number Read = 0
-batch_number (Grammar r) = refusal_number r
-batch_number BadBatch = 18
+batch_number b = told refused_number b
 
 -- 0 where none is named
 abbrev pub batch_place : Batch → ℕ
-batch_place Read = 0
-batch_place (Grammar r) = refusal_place r
-batch_place BadBatch = 0
+batch_place b = told refused_place b
 
 -- where the call is refused, no word of the working space is altered either
 abbrev pub SpaceKept : ℕ → List ℕ → List ℕ → Type 0

@@ -1,40 +1,44 @@
-// What a batch answers, with the scope's number and place.
+// Why a batch is refused, with the scope's number and place.
 ghost use Rattle.std.specs.Prelude.{◌≡◌};
-ghost use Rattle.batch.specs.Contract.{batch_number, batch_place};
+ghost use Rattle.batch.specs.Contract.{refused_number, refused_place};
+ghost use Rattle.batch.specs.declared.answer.BatchRefusal.TheVariants.{Grammar};
 
-use number::Refusal;
+use number::{Numbered, Refusal};
 
-// What a batch answers.
-#[derive(Clone, Copy)]
-pub enum Batch {
-    // Every note has its answers.
-    Read,
+// Why no note of a batch has its answers.
+#[derive(Clone, Copy, Debug, PartialEq, Eq)]
+pub enum BatchRefusal {
     // 1 to 7: the grammar is refused.
     Grammar(Refusal),
     // 18: no notes or more than 64, lengths that do not add up to the tokens, answers that are not three a note, or a row that does not divide evenly.
     BadBatch,
 }
 
-impl Batch {
-    // The scope's number: 0 where every note has its answers.
-    pub fn number(self) -> u32
-        ensures { result ≡ batch_number self }
-    {
+impl From<Refusal> for BatchRefusal {
+    ghost from_gives = { λ r e. e ≡ Grammar r };
+
+    fn from(r: Refusal) -> BatchRefusal {
+        BatchRefusal::Grammar(r)
+    }
+}
+
+impl Numbered for BatchRefusal {
+    ghost scope_number = { refused_number };
+
+    ghost scope_place = { refused_place };
+
+    fn number(&self) -> u32 {
         match self {
-            Batch::Read => 0,
-            Batch::Grammar(r) => r.number(),
-            Batch::BadBatch => 18,
+            BatchRefusal::Grammar(r) => r.number(),
+            BatchRefusal::BadBatch => 18,
         }
     }
 
-    // The scope's place: 0 where none is named.
-    pub fn place(self) -> usize
-        ensures { result ≡ batch_place self }
-    {
+    // 0 where none is named.
+    fn place(&self) -> usize {
         match self {
-            Batch::Read => 0,
-            Batch::Grammar(r) => r.place(),
-            Batch::BadBatch => 0,
+            BatchRefusal::Grammar(r) => r.place(),
+            BatchRefusal::BadBatch => 0,
         }
     }
 }

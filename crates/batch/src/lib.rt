@@ -6,6 +6,6 @@ mod answer;
 mod parts;
 mod reading;
 
-pub use answer::Batch;
+pub use answer::BatchRefusal;
 pub use parts::MAX_NOTES;
 pub use reading::batch;

@@ -13,12 +13,9 @@ fn all_tokens(lengths: &[u16]) -> usize
     requires { length lengths.now ≤ max_notes }
     ensures { result ≡ total lengths.now }
 {
-    let n = lengths.len();
     let mut sum = 0;
-    let mut k = 0;
-    while k < n {
-        sum += base::index(lengths[k]);
-        k += 1;
+    for n in lengths {
+        sum += usize::from(*n);
     }
     sum
 }

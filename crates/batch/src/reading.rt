@@ -9,20 +9,20 @@ ghost use Rattle.batch.specs.Batches.{answers_each};
 ghost use Rattle.batch.specs.Contract.{batch_number, batch_place, SpaceKept, BatchDid};
 ghost use Rattle.batch.specs.inside.Turns.{three_of, note_by, rest_of, Parted, AllRead};
 
-use crate::answer::Batch;
+use crate::answer::BatchRefusal;
 use crate::parts::ANSWERS_EACH;
-use gate::{Gate, Reading};
-use soundness::Verdict;
-use words::Standing;
+use gate::ReadingRefusal;
+use number::Numbered;
+use words::CacheRefusal;
 
 // Number, place and count of a reading, from answer i on.
-fn tell(answers: &mut [u64], i: usize, reading: Reading)
+fn tell(answers: &mut [u64], i: usize, reading: Result<usize, ReadingRefusal>)
     requires { i + answers_each ≤ length answers.old }
     ensures { answers.new ≡ sets answers.old i (three_of reading) }
 {
     answers[i] = reading.number() as u64;
     answers[i + 1] = reading.place() as u64;
-    answers[i + 2] = reading.count() as u64;
+    answers[i + 2] = reading.unwrap_or(0) as u64;
 }
 
 // One note by the tables of a sound grammar, over a cache that stands so to it.
@@ -32,18 +32,15 @@ fn read(
     row: &mut [u16],
     cache: &mut [u32],
     ws: &mut [u32],
-    standing: Standing,
-) -> Reading
+    standing: Result<(), CacheRefusal>,
+) -> Result<usize, ReadingRefusal>
     requires { Ready tables.now × LongEnough standing cache.old }
     ensures { replied result row.new cache.new
         ≡ note_by standing (grammar_in tables.now) cache.old
         (call note.now row.old (length ws.old)) }
 {
-    let gate = gate::note_gate(tables, note, ws.len());
-    match gate {
-        Gate::Shut(r) => r,
-        Gate::Passed => quick::over(tables, note, row, cache, ws, standing, quick::AMPLE),
-    }
+    gate::note_gate(tables, note, ws.len())?;
+    quick::over(tables, note, row, cache, ws, standing, quick::AMPLE)
 }
 
 // The notes one after another: each over the cache as the one before it left it, and its part of the row begins where that one's ended.
@@ -55,20 +52,18 @@ fn read_all(
     row: &mut [u16],
     cache: &mut [u32],
     ws: &mut [u32],
-    standing: Standing,
+    standing: Result<(), CacheRefusal>,
 )
     requires { Parted tables.now tokens.now lengths.now answers.old row.old cache.old standing }
     ensures { AllRead cache.old (rest_of (note_by standing (grammar_in tables.now)) (length ws.old)
         (length row.old / length lengths.now) lengths.now tokens.now row.old cache.old)
         answers.new row.new cache.new }
 {
-    let n = lengths.len();
-    let part = row.len() / n;
+    let part = row.len() / lengths.len();
     let mut from = 0;
     let mut at = 0;
-    let mut k = 0;
-    while k < n {
-        let to = from + base::index(lengths[k]);
+    for (k, n) in lengths.iter().enumerate() {
+        let to = from + usize::from(*n);
         let reading = read(
             tables,
             &tokens[from..to],
@@ -80,7 +75,6 @@ fn read_all(
         tell(answers, ANSWERS_EACH * k, reading);
         from = to;
         at += part;
-        k += 1;
     }
 }
 
@@ -95,24 +89,19 @@ pub fn batch(
     row: &mut [u16],
     cache: &mut [u32],
     workspace: &mut [u32],
-) -> Batch
+) -> Result<(), BatchRefusal>
     ensures { BatchDid grammar.now tokens.now lengths.now answers.old row.old
         (length workspace.old) cache.old (batch_number result) (batch_place result) answers.new row.new cache.new
         × SpaceKept (batch_number result) workspace.old workspace.new }
 {
     let mut tables = [0u16; grammar::TABLE_WORDS];
-    let verdict = soundness::compile(grammar, &mut tables);
-    match verdict {
-        Verdict::Refused(r) => Batch::Grammar(r),
-        Verdict::Sound => {
-            if !crate::parts::fits(tokens, lengths, answers, row) {
-                return Batch::BadBatch;
-            }
-            let standing = words::stands(grammar, cache);
-            read_all(
-                &tables, tokens, lengths, answers, row, cache, workspace, standing,
-            );
-            Batch::Read
-        }
+    soundness::compile(grammar, &mut tables)?;
+    if !crate::parts::fits(tokens, lengths, answers, row) {
+        return Err(BatchRefusal::BadBatch);
     }
+    let standing = words::stands(grammar, cache);
+    read_all(
+        &tables, tokens, lengths, answers, row, cache, workspace, standing,
+    );
+    Ok(())
 }

@@ -5,6 +5,8 @@ ghost use Rattle.std.specs.Prelude.{length};
 ghost use Rattle.plain.specs.Contract.{PlainDid};
 ghost use Rattle.quick.specs.Contract.{QuickDid};
 
+use number::Numbered;
+
 // Reads a note plainly.
 #[unsafe(no_mangle)]
 pub extern "C" fn budget_plain(
@@ -21,7 +23,7 @@ pub extern "C" fn budget_plain(
 {
     let reading = plain::within(grammar, note, row, workspace, most);
     *place = reading.place() as u64;
-    *count = reading.count() as u64;
+    *count = reading.unwrap_or(0) as u64;
     reading.number()
 }
 
@@ -42,6 +44,6 @@ pub extern "C" fn budget_quick(
 {
     let reply = quick::within(grammar, note, row, cache, workspace, most);
     *place = reply.place() as u64;
-    *count = reply.count() as u64;
+    *count = reply.unwrap_or(0) as u64;
     reply.number()
 }

@@ -2,10 +2,9 @@
 use mathlib.Core.Path.{◌≡◌, refl, sym, ap, ◌∙◌}
 use mathlib.Core.Option.{Option, none, some}
 use mathlib.Core.List.{List}
-use Prim.Native.Nat.{ℕ, ◌+◌, ◌-◌, ◌*◌, ◌≤◌, ◌<◌}
+use Prim.Native.Nat.{ℕ, ◌+◌, ◌-◌, ◌*◌, ◌/◌, ◌≤◌}
 use native.Mathlib.Omega.{arith}
 use lib.ListN.{length, set, take, drop, length-take, length-drop}
-use lib.Seq.{take-length}
 use borrow.Author.Tests.{eq-eqb, ne_eqb}
 use Rattle.grammar.specs.Grammar.{Grammar}
 use Rattle.lookahead.specs.Configs.{Config}
@@ -16,13 +15,11 @@ use Rattle.learning.specs.inside.Told.{Tells}
 use Rattle.learning.specs.declared.rules.Outcome as told
 use Rattle.learning.specs.declared.rules.Outcome.TheVariants.{Full, Alternative, State}
 use Rattle.configurations.proofs.PackLaws.{length-pack_all}
-use Rattle.words.specs.Layout.{slots, configs_at, start_at, step_at, full_word, state_word}
-use Rattle.words.specs.Words.{word, start_of, step_of, kept_count, kept_in, add_state, searched}
-use Rattle.words.specs.Words as words
+use Rattle.words.specs.Layout.{start_at, step_at, full_word, state_word}
+use Rattle.words.specs.Words.{word, start_of, step_of, kept_words, kept_in, add_state, searched}
 use Rattle.cache.specs.inside.Calls.{KeptConfigs}
 use Rattle.cache.specs.Recording.{Learned, learned, holds?, find, record_new, record_outcome, ask_start, ask_step}
 use Rattle.cache.specs.inside.ByWords.{holds_words, find_words, add_words, say_word, new_words, on_found, state_words, outcome_words, RoomFor}
-use Rattle.words.proofs.WordLaws.{slot-within}
 use Rattle.cache.proofs.RecordLaws.{put_at, ask, start-ask, step-ask}
 
 -- the words of a state are as many as its configurations say
@@ -32,17 +29,19 @@ told-room Full ws x h = tt
 told-room (Alternative b) ws x h = tt
 told-room (State f n) ws x h =
     let e = ap (λ (l : List ℕ). length l) h.words ∙ length-pack_all h.configs in
-    let l = length-take (config_words * n) (drop (config_words * f) ws) in
-    (h.within, record { few = h.few; room = omega (arith, e, h.count, l) })
+    (h.few, omega (arith, e, h.count, h.within, length-take (config_words * n) (drop (config_words * f) ws), length-drop (config_words * f) ws))
 
 -- a state by its configurations is one by its words
-state-by-words : (i : ℕ) (c : List ℕ) (a : ℕ) (ks : List Config) → record_outcome (put_at i) c a (state ks) ≡ state_words i c a (length ks) (pack_all ks)
+state-by-words : (i : ℕ) (c : List ℕ) (a : ℕ) (ks : List Config) → record_outcome (put_at i) c a (state ks) ≡ state_words i c a (pack_all ks)
 unfolding record_outcome state_words find find_words holds? holds_words searched record_new new_words add_state add_words
 state-by-words i c a ks = go (find_words c a (pack_all ks))
   where
+    count : length (pack_all ks) / config_words ≡ length ks
+    count = omega (arith, length-pack_all ks)
+
     go : (o : Option ℕ) → elim o as (λ _. Learned) [ none ↦ record_new (put_at i) c a ks | some s ↦ learned (state_word s) (set c i (state_word s)) ]
-        ≡ on_found i c a (length ks) (pack_all ks) o
-    go none = refl
+        ≡ on_found i c a (pack_all ks) o
+    go none = rw count refl
     go (some s) = refl
 
 pub told_is : (i : ℕ) (c : List ℕ) (a : ℕ) (o : told.Outcome) (ws : List ℕ) (x : Outcome) → Tells o ws x → outcome_words i c a o ws
@@ -50,21 +49,21 @@ pub told_is : (i : ℕ) (c : List ℕ) (a : ℕ) (o : told.Outcome) (ws : List �
 unfolding Tells outcome_words record_outcome
 told_is i c a Full ws x h = rw h
 told_is i c a (Alternative b) ws x h = rw h
-told_is i c a (State f n) ws x h = rw (h.is, h.words, ← h.count) (sym (state-by-words i c a h.configs))
+told_is i c a (State f n) ws x h = rw (h.is, h.words) (sym (state-by-words i c a h.configs))
 
 -- ---- recording by the code's ways out
-pub room-state : (o : told.Outcome) (ws : List ℕ) {f n : ℕ} → o ≡ State f n → RoomFor o ws
-    → (config_words * f ≤ length ws) × KeptConfigs n (drop (config_words * f) ws)
-unfolding RoomFor
-room-state o ws e h = rw e at h
+-- the words of a state among those that were told
+module _ (o : told.Outcome) (ws : List ℕ) {f n : ℕ} (e : o ≡ State f n) (h : RoomFor o ws) where
+  pub room-state : (n ≤ max_kept) × (config_words * (f + n) ≤ length ws)
+  unfolding RoomFor
+  room-state = rw e at h
 
--- the words from k on
-pub rest-is : (ws : List ℕ) (k : ℕ) → take (length ws - k) (drop k ws) ≡ drop k ws
-rest-is ws k = ap (λ (n : ℕ). take n (drop k ws)) (sym (length-drop k ws)) ∙ take-length (drop k ws)
-
-pub room-part : (o : told.Outcome) (ws : List ℕ) {f n : ℕ} → o ≡ State f n → RoomFor o ws
-    → KeptConfigs n (take (length ws - config_words * f) (drop (config_words * f) ws))
-room-part o ws {f} e h = rw (rest-is ws (config_words * f)) (room-state o ws e h).1
+  pub room-part : KeptConfigs (take (config_words * (f + n) - config_words * f) (drop (config_words * f) ws))
+  room-part =
+      let l = length-take (config_words * (f + n) - config_words * f) (drop (config_words * f) ws) in
+      let m = length-drop (config_words * f) ws in
+      let (few, within) = room-state in
+      record { few = omega arith; whole = omega arith }
 
 module _ (i : ℕ) (c : List ℕ) (a : ℕ) (o : told.Outcome) (ws : List ℕ) {x : Learned} where
   pub record-full : o ≡ Full → x ≡ say_word i c full_word → x ≡ outcome_words i c a o ws
@@ -75,30 +74,16 @@ module _ (i : ℕ) (c : List ℕ) (a : ℕ) (o : told.Outcome) (ws : List ℕ) {
   unfolding outcome_words
   record-alternative e h = rw e h
 
-  pub record_is : {f n : ℕ} → o ≡ State f n
-      → x ≡ state_words i c a n (take (config_words * n) (take (length ws - config_words * f) (drop (config_words * f) ws))) → x ≡ outcome_words i c a o ws
+  pub record_is : {f n : ℕ} → o ≡ State f n → x ≡ state_words i c a (take (config_words * (f + n) - config_words * f) (drop (config_words * f) ws))
+      → x ≡ outcome_words i c a o ws
   unfolding outcome_words
-  record_is {f} {n} e h = rw e (h ∙ ap (λ (l : List ℕ). state_words i c a n (take (config_words * n) l)) (rest-is ws (config_words * f)))
+  record_is {f} {n} e h = let z : config_words * (f + n) - config_words * f ≡ config_words * n = omega arith in rw e (rw z at h)
 
--- ---- the words of a slot's configurations
-pub kept-few : (c : List ℕ) (s : ℕ) {n : ℕ} → n ≡ kept_count c s → n ≤ max_kept
-unfolding kept_count
-kept-few c s e = omega arith
-
--- they lie within the cache
-pub part-within : (c : List ℕ) (s : ℕ) {at n : ℕ} → s < slots (length c) → at ≡ configs_at s → n ≡ kept_count c s
-    → (n ≤ max_kept) × (at + config_words * n ≤ length c)
-part-within c s h e f =
-    let few = kept-few c s f in
-    let inside = slot-within (length c) s h in
-    (few, omega arith)
-
-pub part-kept : (g : Grammar) (c : List ℕ) (s t : ℕ) (o : told.Outcome) (ws : List ℕ) {at n : ℕ} → at ≡ configs_at s → n ≡ kept_count c s
-    → Tells o ws (step_outcome g t (unpack_all (take (at + config_words * n - at) (drop at c)))) → Tells o ws (step_outcome g t (kept_in c s))
-unfolding kept_in words.kept_words
-part-kept g c s t o ws {at} {n} e f h =
-    let z : at + config_words * n - at ≡ config_words * n = omega arith in
-    rw (← e, ← f) (rw z at h)
+-- ---- the step from a slot's configurations
+pub step-kept : (g : Grammar) (c : List ℕ) (s t : ℕ) (o : told.Outcome) (ws : List ℕ) {ks : List ℕ} → ks ≡ kept_words c s
+    → Tells o ws (step_outcome g t (unpack_all ks)) → Tells o ws (step_outcome g t (kept_in c s))
+unfolding kept_in
+step-kept g c s t o ws e h = rw (← e) h
 
 -- ---- asking
 -- what word i records

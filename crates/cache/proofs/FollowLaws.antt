@@ -10,7 +10,7 @@ use borrow.Author.Tests.{lt-ltb, le-ltb, le-leb, lt-leb}
 use Rattle.base.proofs.Booleans.{and_none}
 use Rattle.grammar.specs.Grammar.{Grammar, alternatives}
 use Rattle.words.specs.Layout.{slots, full_word, state_word}
-use Rattle.cache.specs.declared.prediction.Forecast.TheVariants.{Alternative, Full}
+use Rattle.std.specs.Prelude.{Some, None}
 use Rattle.cache.specs.Predictor.{predicted}
 use Rattle.cache.specs.Recording.{Learned, learned, ask_step}
 use Rattle.cache.specs.Predict.{chosen, undecided, at, meaning, meaning_of, predict_from}
@@ -46,17 +46,17 @@ module _ (g : Grammar) where
   unfolding meaning_of
   meaning-is a l = refl
 
-  pub follow-unsure : (ts : List ℕ) (a : ℕ) (l : Learned) → meaning_of g a l ≡ undecided → predict_from g a ts l ≡ predicted Full l.words
+  pub follow-unsure : (ts : List ℕ) (a : ℕ) (l : Learned) → meaning_of g a l ≡ undecided → predict_from g a ts l ≡ predicted None l.words
   unfolding predict_from
   follow-unsure [] a l e = rw (predict_from, e)
   follow-unsure (t ∷ ts) a l e = rw (predict_from, e)
 
-  pub follow-sure : (ts : List ℕ) (a b : ℕ) (l : Learned) → meaning_of g a l ≡ chosen b → predict_from g a ts l ≡ predicted (Alternative b) l.words
+  pub follow-sure : (ts : List ℕ) (a b : ℕ) (l : Learned) → meaning_of g a l ≡ chosen b → predict_from g a ts l ≡ predicted (Some b) l.words
   unfolding predict_from
   follow-sure [] a b l e = rw (predict_from, e)
   follow-sure (t ∷ ts) a b l e = rw (predict_from, e)
 
-  pub follow-over : (a s : ℕ) (l : Learned) → meaning_of g a l ≡ at s → predict_from g a [] l ≡ predicted Full l.words
+  pub follow-over : (a s : ℕ) (l : Learned) → meaning_of g a l ≡ at s → predict_from g a [] l ≡ predicted None l.words
   unfolding predict_from
   follow-over a s l e = rw (predict_from, e)
 

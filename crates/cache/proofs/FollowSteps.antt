@@ -2,7 +2,8 @@
 use mathlib.Core.Path.{◌≡◌, sym, ap, ◌∙◌}
 use mathlib.Core.Option.{some}
 use mathlib.Core.List.{List, []}
-use Prim.Native.Nat.{ℕ, ◌+◌, ◌-◌, ◌≤◌, ◌<◌}
+use mathlib.Core.Logic.{◌⊎◌}
+use Prim.Native.Nat.{ℕ, ◌+◌, ◌≤◌, ◌<◌}
 use native.Mathlib.Omega.{arith}
 use lib.ListN.{length, get_elem?, drop}
 use Rattle.grammar.specs.Grammar.{Grammar, alternatives}
@@ -11,30 +12,29 @@ use Rattle.derivation.specs.Runs.{marked}
 use Rattle.lookahead.proofs.Bounds.{compile-bounded}
 use Rattle.words.specs.Layout.{slots, full_word, state_word}
 use Rattle.words.specs.Words.{start_of, step_of}
-use Rattle.cache.specs.declared.prediction.Forecast.{Forecast}
-use Rattle.cache.specs.declared.prediction.Forecast.TheVariants.{Alternative, Full}
+use Rattle.std.specs.Prelude.{Some, None}
 use Rattle.cache.specs.inside.Calls.{Predictable}
 use Rattle.cache.specs.inside.Following.{Followable, Says, Recorded}
-use Rattle.cache.specs.Predictor.{predicted}
+use Rattle.cache.specs.Predictor.{Forecast, predicted}
 use Rattle.cache.specs.Recording.{learned}
 use Rattle.cache.specs.Predict.{predict}
 use Rattle.cache.proofs.FollowLaws.{meaning-none, meaning-chosen, meaning-is, follow-unsure, follow-sure}
 use Rattle.cache.proofs.AskSteps.{start-recorded, step-recorded}
-use Rattle.cache.proofs.PredictSteps.{Asking, asking-on, asking-beyond, asking-over, asking-done, predict-starts, kinds-small}
+use Rattle.cache.proofs.PredictSteps.{Asking, asking-on, asking-out, asking-done, predict-starts, kinds-small}
 
 -- ---- a word that tells no state, r being that as a number
 module _ (g : Grammar) (a : ℕ) {w r : ℕ} (e : r ≡ w) (l : w ≤ full_word) where
-  pub says_none : (0 < r → length (alternatives g a) < r) → Says g a w Full
+  pub says_none : (0 < r → length (alternatives g a) < r) → Says g a w None
   says_none h =
       record {
         is = λ c. sym (follow-unsure g [] a (learned w c)
             (meaning-is g a (learned w c) ∙ meaning-none (length (alternatives g a)) (slots (length c)) w l (λ m. let n = h (omega arith) in omega arith)));
       }
 
-  pub says-one : 0 < r → r ≤ length (alternatives g a) → Says g a w (Alternative r)
+  pub says-one : 0 < r → r ≤ length (alternatives g a) → Says g a w (Some r)
   says-one m n =
       record {
-        is = λ c. ap (λ (v : ℕ). predicted (Alternative v) c) e
+        is = λ c. ap (λ (v : ℕ). predicted (Some v) c) e
             ∙ sym (follow-sure g [] a w (learned w c)
             (meaning-is g a (learned w c) ∙ meaning-chosen (length (alternatives g a)) (slots (length c)) w (omega arith) (omega arith) l));
       }
@@ -49,7 +49,7 @@ module _ (a : ℕ) (w c : List ℕ) (i : ℕ) where
   following-start e = record { leads = λ g n. record { is = predict-starts g c a (drop i (marked w)) (start-recorded g c a e n) } }
 
   -- FULL is said of no alternative of a grammar within the limits
-  full-recorded : ((g : Grammar) → predicted Full c ≡ predict g c a (drop i (marked w))) → Recorded c a (drop i (marked w)) full_word
+  full-recorded : ((g : Grammar) → predicted None c ≡ predict g c a (drop i (marked w))) → Recorded c a (drop i (marked w)) full_word
   full-recorded h =
       record {
         low = omega arith;
@@ -62,20 +62,16 @@ module _ (a : ℕ) (w c : List ℕ) (i : ℕ) where
     pub following-done : said ≤ full_word → Recorded c a (drop i (marked w)) said
     following-done l = record { low = l; predicts = λ g _ n. asking-done g a w (x.leads g n) l }
 
-    -- a step, r being what was said as a number
-    module _ {r : ℕ} (e : r ≡ said) (l : full_word < said) {n : ℕ} (k : n ≡ slots (length c)) where
-      asked : (g : Grammar) → Asking g a w (predict g c a (drop i (marked w))) j said c
-      asked g = x.leads g (λ z. omega (arith, z, l))
+    -- state s was said
+    module _ (s : ℕ) (e : said ≡ state_word s) {n : ℕ} (k : n ≡ slots (length c)) where
+      some-said : said ≡ 0 → ⊥
+      some-said z = omega (arith, z, e)
 
-      pub following-on : {t said' : ℕ} → r - state_word 0 < n → get_elem? (marked w) j ≡ some t → said' ≡ step_of c (r - state_word 0) t
-          → Following (j + 1) said'
-      following-on {t} h q z = record { leads = λ g m. asking-on g a w (asked g) e l k h q (step-recorded g c a (r - state_word 0) t z m) }
+      pub following-on : {t said' : ℕ} → s < n → get_elem? (marked w) j ≡ some t → said' ≡ step_of c s t → Following (j + 1) said'
+      following-on {t} h q z = record { leads = λ g m. asking-on g a w (x.leads g some-said) e k h q (step-recorded g c a s t z m) }
 
-      pub following-beyond : n ≤ r - state_word 0 → Recorded c a (drop i (marked w)) full_word
-      following-beyond h = full-recorded (λ g. asking-beyond g a w (asked g) e l k h)
-
-      pub following-over : r - state_word 0 < n → length w < j → Recorded c a (drop i (marked w)) full_word
-      following-over h m = full-recorded (λ g. asking-over g a w (asked g) e l k h m)
+      pub following-out : (n ≤ s) ⊎ ((s < n) × (length w < j)) → Recorded c a (drop i (marked w)) full_word
+      following-out h = full-recorded (λ g. asking-out g a w (x.leads g some-said) e k h)
 
 -- ---- predicting by what is recorded
 module _ (t w c : List ℕ) {a i : ℕ} (h : Predictable t w c a i) where

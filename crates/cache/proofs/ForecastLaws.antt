@@ -8,7 +8,7 @@ use lib.ListN.{length}
 use Rattle.base.proofs.Booleans.{clash, and_T, true→T}
 use Rattle.grammar.specs.Grammar.{Grammar, alternatives}
 use Rattle.words.specs.Layout.{slots, full_word, state_word}
-use Rattle.cache.specs.declared.prediction.Forecast.TheVariants.{Alternative, Full}
+use Rattle.std.specs.Prelude.{Some, None}
 use Rattle.cache.specs.Predictor.{Predicted, predicted}
 use Rattle.cache.specs.Recording.{Learned, ask_start, ask_step}
 use Rattle.cache.specs.Predict.{Meaning, chosen, undecided, at, meaning, meaning_of, predict_from, predict}
@@ -34,8 +34,8 @@ module _ (g : Grammar) where
   -- what holds at the ends of a prediction, and of a step where it holds after it, holds of every prediction
   module _ (Holds : Learned → Predicted (List ℕ) → Type 0) (a : ℕ) where
     record Ways : Type 0 where
-      pub unsure : (l : Learned) → Holds l (predicted Full l.words)
-      pub sure : (l : Learned) (b : ℕ) → meaning_of g a l ≡ chosen b → Holds l (predicted (Alternative b) l.words)
+      pub unsure : (l : Learned) → Holds l (predicted None l.words)
+      pub sure : (l : Learned) (b : ℕ) → meaning_of g a l ≡ chosen b → Holds l (predicted (Some b) l.words)
       pub on : (l : Learned) (s t : ℕ) (p : Predicted (List ℕ)) → Holds (ask_step g l.words a s t) p → Holds l p
 
     follow-ways : Ways → (ts : List ℕ) (l : Learned) → Holds l (predict_from g a ts l)
@@ -53,13 +53,13 @@ module _ (g : Grammar) where
         go (at s) e rec = rw (follow-on g t ts a s l e) (h.on l s t _ (rec (ask_step g l.words a s t)))
 
   -- A FORECAST NAMES one of the nonterminal's alternatives
-  pub predict-named : (c : List ℕ) (a : ℕ) (ts : List ℕ) (b : ℕ) → (predict g c a ts).forecast ≡ Alternative b
+  pub predict-named : (c : List ℕ) (a : ℕ) (ts : List ℕ) (b : ℕ) → (predict g c a ts).forecast ≡ Some b
       → (1 ≤ b) × (b ≤ length (alternatives g a))
   unfolding predict
   predict-named c a ts = follow-ways Named a ways ts (ask_start g c a)
     where
       Named : Learned → Predicted (List ℕ) → Type 0
-      Named l p = (b : ℕ) → p.forecast ≡ Alternative b → (1 ≤ b) × (b ≤ length (alternatives g a))
+      Named l p = (b : ℕ) → p.forecast ≡ Some b → (1 ≤ b) × (b ≤ length (alternatives g a))
 
       ways : Ways Named a
       ways =

@@ -1,4 +1,5 @@
 -- EVERY EARLIER RECORD IS KEPT, whatever words a cache holds: recording touches a word that said nothing, the next slot and the count of states alone.
+use Rattle.cache.specs.Predictor.{Forecast}
 use mathlib.Core.Path.{◌≡◌, refl, ◌∙◌}
 use mathlib.Core.List.Memᴰ
 use mathlib.Core.List.{List}
@@ -16,7 +17,6 @@ use Rattle.lookahead.proofs.StateLaws.{outcome-state}
 use Rattle.lookahead.proofs.Learned.{start-learns, step-learns}
 use Rattle.words.specs.Layout.{full_word, state_word}
 use Rattle.words.specs.Words.{word, held, kept_in, add_state}
-use Rattle.cache.specs.declared.prediction.Forecast.{Forecast}
 use Rattle.lookahead.specs.Configs.{Decides}
 use Rattle.cache.specs.Coherent.{Extends}
 use Rattle.cache.specs.Lessons.{Records, says-full, says-alternative, says-held, says-new, no_slot, Obtains, as-recorded, worked-out}

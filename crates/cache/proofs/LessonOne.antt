@@ -1,4 +1,5 @@
 -- The lessons leave nothing open: one word and one row of words for each outcome, one forecast and one row of words for each prediction.
+use Rattle.cache.specs.Predictor.{Forecast}
 use mathlib.Core.Path.{◌≡◌, refl, ap}
 use mathlib.Core.List.{List}
 use Prim.Native.Nat.{ℕ, ◌≤◌}
@@ -11,7 +12,6 @@ use Rattle.lookahead.specs.Rules.{Starts, StepsOver}
 use Rattle.lookahead.proofs.GivenLaws.{learns-one}
 use Rattle.words.specs.Layout.{state_word}
 use Rattle.words.specs.Words.{kept_in}
-use Rattle.cache.specs.declared.prediction.Forecast.{Forecast}
 use Rattle.cache.specs.Lessons.{Records, says-full, says-alternative, says-held, says-new, no_slot, Obtains, as-recorded, worked-out, ObtainsStart}
 use Rattle.cache.specs.Lessons.{ObtainsStep, NamesAlternative, NamesSlot, Pursues, names-one, says_none, no-token, steps, Foretells}
 

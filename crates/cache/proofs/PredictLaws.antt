@@ -27,7 +27,7 @@ use Rattle.lookahead.proofs.Agreeing.{Allows, this, there, over, Marked, start-a
 use Rattle.words.specs.Layout.{slots, full_word}
 use Rattle.words.specs.Words.{held, decision, kept_words, kept_in}
 use Rattle.cache.specs.Recording.{Learned, learned, ask_start, ask_step}
-use Rattle.cache.specs.declared.prediction.Forecast.TheVariants.{Alternative}
+use Rattle.std.specs.Prelude.{Some}
 use Rattle.cache.specs.Predictor.{Predicted, predicted, FullOr}
 use Rattle.cache.specs.Predictor as predictor
 use Rattle.cache.specs.Predict.{chosen, undecided, at, meaning, meaning_of, predict_from, predict}
@@ -132,7 +132,7 @@ module _ (g : Grammar) (bytes : List ℕ) (suits : Suits g bytes) where
         → FullOr b (predict_from g a ts l).forecast
 
     agree-sure : (ts : List ℕ) (a b' : ℕ) (l : Learned) (i : ℕ) → meaning_of g a l ≡ chosen b' → Allows g ordered b w i (alternative b')
-        → (predict_from g a ts l).forecast ≡ Alternative b
+        → (predict_from g a ts l).forecast ≡ Some b
     agree-sure ts a b' l i e this = rw (follow-sure g ts a b l e)
 
     agree-none : Agrees []

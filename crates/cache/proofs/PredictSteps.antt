@@ -3,7 +3,8 @@ use mathlib.Core.Path.{◌≡◌, refl, sym, ap, ◌∙◌}
 use mathlib.Core.Bool.{Bool, true, false}
 use mathlib.Core.Option.{some}
 use mathlib.Core.List.{List, []}
-use Prim.Native.Nat.{ℕ, suc, ◌+◌, ◌-◌, ◌≤◌, ◌<◌}
+use mathlib.Core.Logic.{◌⊎◌, inl, inr}
+use Prim.Native.Nat.{ℕ, suc, ◌+◌, ◌≤◌, ◌<◌}
 use native.Mathlib.Numerals.{add-one}
 use native.Mathlib.Omega.{arith}
 use lib.Dec.{ltb}
@@ -20,7 +21,7 @@ use Rattle.derivation.proofs.Notes.{drop-of-get}
 use Rattle.derivation.proofs.MarkedCells.{length_marked}
 use Rattle.derivation.proofs.TokenLaws.{token-mark, token-note}
 use Rattle.words.specs.Layout.{slots, full_word, state_word}
-use Rattle.cache.specs.declared.prediction.Forecast.TheVariants.{Full}
+use Rattle.std.specs.Prelude.{None}
 use Rattle.cache.specs.Predictor.{Predicted, predicted}
 use Rattle.cache.specs.Recording.{Learned, learned, ask_start, ask_step}
 use Rattle.cache.specs.Predict.{undecided, at, meaning, meaning_of, predict_from, predict}
@@ -37,30 +38,29 @@ module _ (g : Grammar) (a : ℕ) (w : List ℕ) where
     count = length (alternatives g a)
 
     -- what says nothing ends it
-    unsure : meaning count (slots (length c)) said ≡ undecided → predicted Full c ≡ end
+    unsure : meaning count (slots (length c)) said ≡ undecided → predicted None c ≡ end
     unsure e = sym (follow-unsure g (drop j (marked w)) a (learned said c) (meaning-is g a (learned said c) ∙ e)) ∙ x.is
 
-    -- a step, r being what was said as a number
-    module _ {r : ℕ} (e : r ≡ said) (l : full_word < said) {n : ℕ} (k : n ≡ slots (length c)) where
-      standing : r - state_word 0 < n → meaning_of g a (learned said c) ≡ at (r - state_word 0)
-      standing h = meaning-is g a (learned said c) ∙ meaning-state count (slots (length c)) said (r - state_word 0) (omega arith) (omega arith)
+    -- state s was said
+    module _ {s : ℕ} (e : said ≡ state_word s) {n : ℕ} (k : n ≡ slots (length c)) where
+      standing : s < n → meaning_of g a (learned said c) ≡ at s
+      standing h = meaning-is g a (learned said c) ∙ meaning-state count (slots (length c)) said s e (omega arith)
 
-      pub asking-on : {t : ℕ} {said' : ℕ} {c' : List ℕ} → r - state_word 0 < n → get_elem? (marked w) j ≡ some t
-          → learned said' c' ≡ ask_step g c a (r - state_word 0) t → Asking end (j + 1) said' c'
+      pub asking-on : {t : ℕ} {said' : ℕ} {c' : List ℕ} → s < n → get_elem? (marked w) j ≡ some t → learned said' c' ≡ ask_step g c a s t
+          → Asking end (j + 1) said' c'
       asking-on {t} h q z =
           rw (add-one j)
           (record {
             is = ap (predict_from g a (drop (suc j) (marked w))) z
-                ∙ sym (follow-on g t (drop (suc j) (marked w)) a (r - state_word 0) (learned said c) (standing h))
+                ∙ sym (follow-on g t (drop (suc j) (marked w)) a s (learned said c) (standing h))
                 ∙ ap (λ (ts : List ℕ). predict_from g a ts (learned said c)) (sym (drop-of-get (marked w) j q)) ∙ x.is;
           })
 
-      pub asking-beyond : n ≤ r - state_word 0 → predicted Full c ≡ end
-      asking-beyond h = unsure (meaning-beyond count (slots (length c)) said l (omega arith))
-
-      pub asking-over : r - state_word 0 < n → length w < j → predicted Full c ≡ end
-      asking-over h m =
-          sym (follow-over g a (r - state_word 0) (learned said c) (standing h))
+      -- a slot that there is not, or no token left
+      pub asking-out : (n ≤ s) ⊎ ((s < n) × (length w < j)) → predicted None c ≡ end
+      asking-out (inl m) = unsure (meaning-beyond count (slots (length c)) said (omega arith) (omega arith))
+      asking-out (inr (l, m)) =
+          sym (follow-over g a s (learned said c) (standing l))
           ∙ ap (λ (ts : List ℕ). predict_from g a ts (learned said c)) (sym (drop_of_length-le (marked w) {i = j} (omega (arith, length_marked w)))) ∙ x.is
 
     -- no state was said: that says what is predicted

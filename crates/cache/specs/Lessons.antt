@@ -1,6 +1,7 @@
 -- What is recorded, asked and predicted, as relations over any words of a cache: the scope's rules and the documented fields, with no computed test in
 -- them and no bound on steps.
-use Rattle.std.specs.Prelude.{◌≡◌, ◌≢◌, List, [], ◌∷◌, ℕ, ◌≤◌, ◌<◌, length, set}
+use Rattle.cache.specs.Predictor.{Forecast}
+use Rattle.std.specs.Prelude.{◌≡◌, ◌≢◌, List, [], ◌∷◌, ℕ, ◌≤◌, ◌<◌, length, set, Some, None}
 use Rattle.grammar.specs.Grammar.{Grammar, alternatives}
 use Rattle.lookahead.specs.Configs.{Config}
 use Rattle.lookahead.specs.Outcomes.{Outcome, full, alternative, state}
@@ -8,8 +9,6 @@ use Rattle.lookahead.specs.Given.{StartGives, StepGives}
 use Rattle.configurations.specs.Packing.{pack_all}
 use Rattle.words.specs.Layout.{slots, start_at, step_at, full_word, state_word}
 use Rattle.words.specs.Words.{word, held, decision, kept_words, kept_in, add_state}
-use Rattle.cache.specs.declared.prediction.Forecast.{Forecast}
-use Rattle.cache.specs.declared.prediction.Forecast.TheVariants.{Alternative, Full}
 
 -- ---- recording
 -- slot s holds these configurations as a state of decision a
@@ -60,11 +59,11 @@ pub record NamesSlot (c : List ℕ) (w s : ℕ) : Type 0 where
 -- a prediction of decision a goes on from word w over the tokens that are left, the end mark included, and words c: what is foretold, and the words then
 pub data Pursues (g : Grammar) (a : ℕ) : List ℕ → ℕ → List ℕ → Forecast → List ℕ → Type 0 where
   -- an alternative ends it
-  names-one : {ts : List ℕ} {w : ℕ} {c : List ℕ} → NamesAlternative g a w → Pursues g a ts w c (Alternative w) c
+  names-one : {ts : List ℕ} {w : ℕ} {c : List ℕ} → NamesAlternative g a w → Pursues g a ts w c (Some w) c
   -- FULL ends it, and so does a word that no recording leaves
-  says_none : {ts : List ℕ} {w : ℕ} {c : List ℕ} → ¬ NamesAlternative g a w → ((s : ℕ) → ¬ NamesSlot c w s) → Pursues g a ts w c Full c
+  says_none : {ts : List ℕ} {w : ℕ} {c : List ℕ} → ¬ NamesAlternative g a w → ((s : ℕ) → ¬ NamesSlot c w s) → Pursues g a ts w c None c
   -- with no token left it is FULL
-  no-token : {w s : ℕ} {c : List ℕ} → NamesSlot c w s → Pursues g a [] w c Full c
+  no-token : {w s : ℕ} {c : List ℕ} → NamesSlot c w s → Pursues g a [] w c None c
   -- a state steps over the next token
   steps : {t : ℕ} {ts : List ℕ} {w s v : ℕ} {c d e : List ℕ} {x : Forecast} → NamesSlot c w s → ObtainsStep g c a s t v d → Pursues g a ts v d x e
       → Pursues g a (t ∷ ts) w c x e

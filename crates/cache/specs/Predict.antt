@@ -1,8 +1,7 @@
 -- A prediction of the lookahead cache: from the start of a decision over the tokens that are left, as long as there is a state to step from.
-use Rattle.std.specs.Prelude.{◌&&◌, cond, List, [], ◌∷◌, ℕ, ◌-◌, ltb, leb, length}
+use Rattle.std.specs.Prelude.{◌&&◌, cond, List, [], ◌∷◌, ℕ, ◌-◌, ltb, leb, length, Some, None}
 use Rattle.grammar.specs.Grammar.{Grammar, alternatives}
 use Rattle.words.specs.Layout.{slots, full_word, state_word}
-use Rattle.cache.specs.declared.prediction.Forecast.TheVariants.{Alternative, Full}
 use Rattle.cache.specs.Predictor.{Predicted, predicted}
 use Rattle.cache.specs.Recording.{Learned, ask_start, ask_step}
 
@@ -27,11 +26,11 @@ meaning_of g a l = meaning (length (alternatives g a)) (slots (length l.words)) 
 unfoldable pub predict_from : Grammar → ℕ → List ℕ → Learned → Predicted (List ℕ)
 unfolding meaning_of ask_step
 predict_from g a [] l =
-    elim (meaning_of g a l) [ chosen b ↦ predicted (Alternative b) l.words | undecided ↦ predicted Full l.words | at s ↦ predicted Full l.words ]
+    elim (meaning_of g a l) [ chosen b ↦ predicted (Some b) l.words | undecided ↦ predicted None l.words | at s ↦ predicted None l.words ]
 predict_from g a (t ∷ ts) l =
     elim (meaning_of g a l) [
-      | chosen b ↦ predicted (Alternative b) l.words
-      | undecided ↦ predicted Full l.words
+      | chosen b ↦ predicted (Some b) l.words
+      | undecided ↦ predicted None l.words
       | at s ↦ predict_from g a ts (ask_step g l.words a s t)
     ]
 

@@ -1,12 +1,14 @@
 -- What a prediction answers, and what the quick machine may rely on of what predicts: three laws. The lookahead cache is one predictor; another, or one
 -- that asks before the cache is asked, is one more instance.
-use Rattle.std.specs.Prelude.{◌≡◌, ◌⊎◌, List, ◌∷◌, ℕ, drop}
+use Rattle.std.specs.Prelude.{◌≡◌, ◌⊎◌, List, ◌∷◌, ℕ, drop, Option, Some, None}
 use Rattle.std.proofs.Math.Option.{some}
 use Rattle.grammar.specs.Grammar.{Grammar, first}
 use Rattle.derivation.specs.Runs.{Opens}
-use Rattle.cache.specs.declared.prediction.Forecast.{Forecast}
-use Rattle.cache.specs.declared.prediction.Forecast.TheVariants.{Alternative, Full}
 use Rattle.lookahead.specs.Configs.{Decides}
+
+-- what is predicted of a nonterminal: one of its alternatives, or none, which is FULL: lookahead does not tell
+abbrev pub Forecast : Type 0
+Forecast = Option ℕ
 
 -- what is predicted, and the state after it
 pub record Predicted (C : Type 0) : Type 0 where
@@ -22,7 +24,7 @@ Predicts C = C → ℕ → List ℕ → Predicted C
 
 -- FULL, or alternative b
 abbrev pub FullOr : ℕ → Forecast → Type 0
-FullOr b x = (x ≡ Full) ⊎ (x ≡ Alternative b)
+FullOr b x = (x ≡ None) ⊎ (x ≡ Some b)
 
 module _ {C : Type 0} (Coherent : C → Type 0) (Extends : C → C → Type 0) where
   -- a coherent state that extends another

@@ -8,7 +8,7 @@ ghost use Rattle.words.specs.Words.{start_of, kept_in};
 ghost use Rattle.cache.specs.inside.Calls.{Askable, Steppable, Unstepped};
 ghost use Rattle.cache.specs.Recording.{learned, ask_start, ask_step};
 
-use configurations::{CONFIG_WORDS, MEMBER_WORDS};
+use configurations::MEMBER_WORDS;
 use learning::Outcome;
 use words::layout::STARTS_AT;
 
@@ -45,9 +45,7 @@ pub fn step_outcome(
     requires { Steppable tables.now cache.now s t × (length members.old ≡ member_words) }
     ensures { Tells result members.new (step_outcome (grammar_in tables.now) t (kept_in cache.now s)) }
 {
-    let from = words::slots::configs_at(s);
-    let n = words::slots::kept_count(cache, s);
-    learning::step(tables, t, &cache[from..from + CONFIG_WORDS * n], members)
+    learning::step(tables, t, words::slots::kept(cache, s), members)
 }
 
 // The same, recorded.

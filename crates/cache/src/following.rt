@@ -3,7 +3,7 @@ ghost use Rattle.std.specs.Prelude.{drop};
 ghost use Rattle.derivation.specs.Runs.{marked};
 ghost use Rattle.cache.specs.inside.Following.{Followable, Recorded};
 
-use words::layout::{FULL, STATES};
+use words::layout::FULL;
 
 // What recorded outcomes say at last of decision a over the tokens from position i on: an alternative or FULL, and 0 where something is not recorded.
 pub fn recorded(note: &[u16], cache: &[u32], a: usize, i: usize) -> u32
@@ -14,12 +14,8 @@ pub fn recorded(note: &[u16], cache: &[u32], a: usize, i: usize) -> u32
     let slots = words::slots::slots(cache.len());
     let mut said = words::slots::start_of(cache, a);
     let mut j = i;
-    while FULL < said {
-        let s = base::number(said) - STATES;
-        if slots <= s {
-            return FULL;
-        }
-        if n < j {
+    while let Some(s) = words::slots::state_of(said) {
+        if slots <= s || n < j {
             return FULL;
         }
         let t = derivation::token_at(note, j);

@@ -7,7 +7,7 @@ mod prediction;
 mod recording;
 
 pub use asking::{ask_start, ask_step, step_outcome};
-pub use prediction::{Forecast, Prediction, predict};
+pub use prediction::predict;
 pub use recording::holds;
 pub use words::slots::{decision, slots as slot_count};
-pub use words::{Beginning, MIN_WORDS, begin, is_begun};
+pub use words::{BeginningRefusal, MIN_WORDS, begin, is_begun};

@@ -10,63 +10,34 @@ ghost use Rattle.cache.specs.inside.Following.{Says};
 ghost use Rattle.cache.specs.Predictor.{predicted};
 ghost use Rattle.cache.specs.Predict.{predict};
 
-use words::layout::{FULL, STATES};
-
-// One of the nonterminal's alternatives, or FULL: lookahead does not tell.
-#[derive(Clone, Copy)]
-pub enum Forecast {
-    Alternative(usize),
-    Full,
-}
-
-// What a prediction answers.
-#[derive(Clone, Copy)]
-pub struct Prediction {
-    pub forecast: Forecast,
-}
-
-// What a word says that tells no state: one of nonterminal a's alternatives, or FULL.
-fn forecast_of(tables: &[u16], a: usize, said: u32) -> Prediction
+// What a word says that tells no state: one of nonterminal a's alternatives, or none, which is FULL.
+fn forecast_of(tables: &[u16], a: usize, said: u32) -> Option<usize>
     requires { Ready tables.now × (a < nonterminals_in tables.now) × (said ≤ full_word) }
-    ensures { Says (grammar_in tables.now) a said result.forecast }
+    ensures { Says (grammar_in tables.now) a said result }
 {
     let b = base::number(said);
     if b == 0 {
-        return Prediction {
-            forecast: Forecast::Full,
-        };
+        return None;
     }
     if derivation::alternatives(tables, a) < b {
-        return Prediction {
-            forecast: Forecast::Full,
-        };
+        return None;
     }
-    Prediction {
-        forecast: Forecast::Alternative(b),
-    }
+    Some(b)
 }
 
 // The same as `predict`, from the decision's start on: what is not recorded is worked out and recorded.
-fn learn(tables: &[u16], note: &[u16], cache: &mut [u32], a: usize, i: usize) -> Prediction
+fn learn(tables: &[u16], note: &[u16], cache: &mut [u32], a: usize, i: usize) -> Option<usize>
     requires { Predictable tables.now note.now cache.old a i }
-    ensures { predicted result.forecast cache.new
+    ensures { predicted result cache.new
         ≡ predict (grammar_in tables.now) cache.old a (drop i (marked note.now)) }
 {
     let n = note.len();
     let slots = words::slots::slots(cache.len());
     let mut said = crate::asking::ask_start(tables, cache, a);
     let mut j = i;
-    while FULL < said {
-        let s = base::number(said) - STATES;
-        if slots <= s {
-            return Prediction {
-                forecast: Forecast::Full,
-            };
-        }
-        if n < j {
-            return Prediction {
-                forecast: Forecast::Full,
-            };
+    while let Some(s) = words::slots::state_of(said) {
+        if slots <= s || n < j {
+            return None;
         }
         let t = derivation::token_at(note, j);
         said = crate::asking::ask_step(tables, cache, a, s, t);
@@ -75,10 +46,11 @@ fn learn(tables: &[u16], note: &[u16], cache: &mut [u32], a: usize, i: usize) ->
     forecast_of(tables, a, said)
 }
 
-// What is predicted of nonterminal a at position i. What had to be worked out is recorded. Where all is recorded, the words are only read.
-pub fn predict(tables: &[u16], note: &[u16], cache: &mut [u32], a: usize, i: usize) -> Prediction
+// What is predicted of nonterminal a at position i: one of its alternatives, or none, which is FULL: lookahead does not tell. What had to be worked out is
+// recorded. Where all is recorded, the words are only read.
+pub fn predict(tables: &[u16], note: &[u16], cache: &mut [u32], a: usize, i: usize) -> Option<usize>
     requires { Predictable tables.now note.now cache.old a i }
-    ensures { predicted result.forecast cache.new
+    ensures { predicted result cache.new
         ≡ predict (grammar_in tables.now) cache.old a (drop i (marked note.now)) }
 {
     let said = crate::following::recorded(note, cache, a, i);

@@ -2,12 +2,16 @@
 use mathlib.Core.Path.{◌≡◌, refl, sym, ◌∙◌}
 use mathlib.Core.Bool.{Bool, false, not}
 use mathlib.Core.Option.{Option, none, some}
+use denote.Ref.{Bor}
+use Rattle.std.specs.Prelude.{Option as Optional, Some, None, MatchOption}
+use Rattle.std.specs.Slice.{IsItemAt}
 use mathlib.Core.List.{List, [], ◌∷◌}
 use Prim.Native.Nat.{ℕ, zero, suc, ◌≤◌, ◌<◌}
 use native.Mathlib.Omega.{arith}
 use lib.Dec.{T}
-use lib.ListN.{length, get_or, get_elem?}
-use borrow.Author.Tests.{not-false}
+use lib.ListN.{length, get_elem?}
+use Rattle.std.proofs.lemmas.List.{get_or_default}
+use borrow.Author.Tests.{not-false, ltb-true, ltb-false}
 use Rattle.base.proofs.Booleans.{true→T}
 use Rattle.base.proofs.Lists.{get-below}
 use Rattle.grammar.specs.Grammar.{Grammar, admits}
@@ -43,13 +47,12 @@ module _ (g : Grammar) (w : List ℕ) (i k : ℕ) where
       go (t, e, _) = get-below w i e
 
   -- ---- as the code finds it
-  pub matches-end : length w ≤ i → false ≡ matches_at g w i k
+  pub matches-asked : (o : Optional (Bor ℕ)) {r : Bool} (P : Bor ℕ → Type 0) → ((x : Bor ℕ) → P x → r ≡ admits g k x.now)
+      → IsItemAt w i o → MatchOption o (r ≡ false) P → r ≡ matches_at g w i k
   unfolding matches_at admitted
-  matches-end h = rw (get_none w i h)
-
-  pub matches-here : {v : ℕ} {r : Bool} → i < length w → v ≡ get_or w i 0 → r ≡ admits g k v → r ≡ matches_at g w i k
-  unfolding matches_at admitted
-  matches-here h e d = rw (get-some w i h, ← e) d
+  matches-asked None P s e n = rw (get_none w i (ltb-false i (length w) (sym e.0))) n
+  matches-asked (Some x) P s e p =
+      let l = ltb-true i (length w) (sym e.0) in rw (get-some w i l, ← e.1 ∙ get_or_default w i x.now 0 l) (s x p)
 
   pub matches-found : {m : Bool} → m ≡ matches_at g w i k → not m ≡ false → i < length w
   matches-found {m} e n = matches-inside (true→T (matches_at g w i k) (sym e ∙ not-false m n))

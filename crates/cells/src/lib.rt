@@ -43,11 +43,9 @@ pub fn onward(
     ensures { Onward places ws.now n s.words begun.words from q result.words }
 {
     let mut r = begun;
-    let mut m = positions::next(s, from);
-    while m <= n {
+    for m in s.members(from, n) {
         let t = cell(ws, places, q, m);
         r = r.union(t);
-        m = positions::next(s, m + 1);
     }
     r
 }
@@ -65,16 +63,15 @@ pub fn through(
     requires { Follows places ws.now n from q }
     ensures { Through places ws.now n s.words from q result.words }
 {
-    let first = positions::next(s, from);
-    if n < first {
+    let mut members = s.members(from, n);
+    let Some(first) = members.next() else {
         return Positions::empty();
-    }
+    };
     let r = cell(ws, places, q, first);
-    let second = positions::next(s, first + 1);
-    if n < second {
+    let Some(second) = members.next() else {
         return r;
-    }
-    if positions::full(r, first, n) {
+    };
+    if r.full(first, n) {
         return r;
     }
     onward(ws, places, n, s, r, second, q)
@@ -84,10 +81,8 @@ pub fn through(
 pub fn matches(tables: &[u16], note: &[u16], kind: usize, i: usize) -> bool
     ensures { result ≡ matches_at (grammar_in tables.now) note.now i kind }
 {
-    if note.len() <= i {
-        return false;
-    }
-    grammar::admits(tables, kind, base::index(note[i]))
+    note.get(i)
+        .is_some_and(|token| grammar::admits(tables, kind, usize::from(*token)))
 }
 
 // Where the productions of nonterminal a that begin at i end.
@@ -96,15 +91,10 @@ pub fn ends_of(tables: &[u16], ws: &[u32], a: usize, i: usize) -> Positions
     ensures { EndsOf tables.now ws.now a i result.words }
 {
     let places = grammar::size(tables);
-    let start = grammar::rule_at(tables, a);
-    let end = grammar::rule_at(tables, a + 1);
     let mut r = Positions::empty();
-    let mut k = start;
-    while k < end {
-        let f = grammar::first_place(tables, k);
-        let t = cell(ws, places, f, i);
+    for f in grammar::first_places(tables, a) {
+        let t = cell(ws, places, usize::from(*f), i);
         r = r.union(t);
-        k += 1;
     }
     r
 }

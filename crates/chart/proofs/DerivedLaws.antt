@@ -6,6 +6,7 @@ use Prim.Native.Nat.{ℕ, suc, ◌+◌, ◌*◌, ◌≤◌, ◌<◌}
 use native.Mathlib.Numerals.{add-one}
 use lib.ListN.{length}
 use borrow.Author.Tests.{not-true, not-false}
+use Rattle.grammar.specs.declared.Symbol.{Symbol}
 use Rattle.grammar.specs.declared.Symbol.TheVariants.{Token, Nonterminal, End}
 use Rattle.grammar.specs.Grammar.{facing}
 use Rattle.grammar.specs.inside.Tables.{grammar_in}
@@ -20,7 +21,7 @@ use Rattle.cells.proofs.ThroughLaws.{through-first}
 use Rattle.ends.specs.inside.Ends.{end_has}
 use Rattle.ends.specs.inside.Row.{cells_in}
 use Rattle.ends.proofs.PlaceLaws.{eqb_comm, by_end, by-other, by_token, by_call, end-through}
-use Rattle.chart.specs.inside.Derived.{Derived}
+use Rattle.chart.specs.inside.Derived.{is_end, Derived}
 
 or_comm : (a b : Bool) → (a || b) ≡ (b || a)
 or_comm true true = refl
@@ -59,3 +60,9 @@ module _ (t w ws : List ℕ) (i : ℕ) (ends : List ℕ) (p : ℕ) where
       ∙ (through-first (end_has ends b) (cells_in t ws) (suc p) j i (length w) here
       ∙ (or_comm (end_has ends b i && cells_in t ws (suc p) i j) (through_of (end_has ends b) (cells_in t ws) (suc p) j (suc i) (length w))
       ∙ sym (by_call (grammar_in t) w (end_has ends) (cells_in t ws) i j p _ e)))
+
+-- every other symbol is no production's end
+pub not_end : (s : Symbol) → ¬ (s ≡ End) → false ≡ is_end s
+not_end End n = absurd (n refl)
+not_end (Token k) n = refl
+not_end (Nonterminal b) n = refl

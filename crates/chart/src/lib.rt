@@ -19,13 +19,7 @@ fn is_end(tables: &[u16], q: usize) -> bool
     requires { length tables.now ≡ table_words }
     ensures { result ≡ is_end (facing (grammar_in tables.now) q) }
 {
-    let place = grammar::place_at(tables, q);
-    let symbol = place.symbol;
-    match symbol {
-        Symbol::End => true,
-        Symbol::Token(_) => false,
-        Symbol::Nonterminal(_) => false,
-    }
+    matches!(grammar::place_at(tables, q).symbol, Symbol::End)
 }
 
 // What the cell of p at i is, by `ends`, the cells of the later positions and, at i, the cell of the place behind p.
@@ -34,9 +28,7 @@ fn derived(tables: &[u16], note: &[u16], ws: &[u32], ends: &[u32], i: usize, p: 
     ensures { Derived tables.now note.now ws.now i ends.now p result.words }
 {
     let places = grammar::size(tables);
-    let place = grammar::place_at(tables, p);
-    let symbol = place.symbol;
-    match symbol {
+    match grammar::place_at(tables, p).symbol {
         Symbol::End => Positions::empty().with(i),
         Symbol::Token(k) => {
             if !cells::matches(tables, note, k, i) {
@@ -60,9 +52,7 @@ fn write_row(tables: &[u16], note: &[u16], ws: &mut [u32], ends: &[u32], i: usiz
     ensures { CellsSettled tables.now note.now i ws.old ws.new }
 {
     let places = grammar::size(tables);
-    let mut p = places;
-    while 0 < p {
-        p -= 1;
+    for p in (0..places).rev() {
         let s = derived(tables, note, ws, ends, i, p);
         cells::put(ws, places, p, i, s);
     }
@@ -85,9 +75,7 @@ pub fn fill(tables: &[u16], note: &[u16], ws: &mut [u32])
 {
     let mut order = [0usize; grammar::MAX_NONTERMINALS];
     order::line_up(tables, &mut order);
-    let mut i = note.len() + 1;
-    while 0 < i {
-        i -= 1;
+    for i in (0..note.len() + 1).rev() {
         settle(tables, note, ws, &order, i);
     }
 }

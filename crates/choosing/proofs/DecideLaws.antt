@@ -12,9 +12,8 @@ use Rattle.derivation.specs.Runs.{marked}
 use Rattle.derivation.specs.Machine.{Choice, choice, lowest}
 use Rattle.derivation.specs.inside.Frames.{frame_words}
 use Rattle.derivation.proofs.CountLaws.{first-within}
-use Rattle.cache.specs.declared.prediction.Forecast.{Forecast}
-use Rattle.cache.specs.declared.prediction.Forecast.TheVariants.{Alternative, Full}
-use Rattle.cache.specs.Predictor.{Predicted, predicted}
+use Rattle.std.specs.Prelude.{Some, None}
+use Rattle.cache.specs.Predictor.{Forecast, Predicted, predicted}
 use Rattle.cache.specs.inside.Calls.{Predictable}
 use Rattle.cache.specs.Predict.{predict}
 use Rattle.cache.proofs.ForecastLaws.{predict-named, predict-length}
@@ -25,18 +24,20 @@ use Rattle.machine.specs.declared.steps.At.{At}
 use Rattle.machine.specs.declared.steps.Space.{Space}
 use Rattle.machine.proofs.AlternativeLaws.{some_of, none_of, named-of}
 use Rattle.machine.proofs.WaitLaws.{waits-position}
+use Rattle.words.specs.Layout.{min_words}
 use Rattle.choosing.specs.inside.Deciding.{Deciding, choice_at, Chose}
-use Rattle.serving.specs.inside.Aids.{MayServe, ServedFar}
+use Rattle.serving.specs.inside.Aids.{MayServe, Far, ServedFar}
+use Rattle.serving.specs.inside.Running.{Picked}
 use Rattle.serving.proofs.WaitingLaws.{named_some}
 use Rattle.choosing.proofs.DecideStage.{serve-named, serve-one, pushed-stage, pushed-far, pushed-entering}
 
 -- ---- the definition, by what a prediction said
 module _ (g : Grammar) (w S : List ℕ) (a i : ℕ) {p : Predicted (List ℕ)} {x : Forecast} {c : List ℕ} (e : predicted x c ≡ p) where
-  settle-named : {b : ℕ} → x ≡ Alternative b → settle g w S a i p ≡ choice (some b) c
+  settle-named : {b : ℕ} → x ≡ Some b → settle g w S a i p ≡ choice (some b) c
   unfolding settle
   settle-named q = rw (← e, q)
 
-  settle-full : x ≡ Full → settle g w S a i p ≡ choice (lowest g w S a i) c
+  settle-full : x ≡ None → settle g w S a i p ≡ choice (lowest g w S a i) c
   unfolding settle
   settle-full q = rw (← e, q)
 
@@ -77,20 +78,22 @@ module _ (t w ms tally ws : List ℕ) {s : Space} {known : ℕ} {at : At} {a : �
 
     -- the predicted alternative
     pub decide-named : (c : List ℕ) {n : ℕ} → n ≡ length (alternatives (grammar_in t) a) → 2 ≤ n → {o : Forecast} {c' : List ℕ} {b : ℕ}
-        → predicted o c' ≡ predict (grammar_in t) c a (drop at.position (marked w)) → o ≡ Alternative b
-        → Chose t w ms tally ws ms tally after c c' at.depth at.place a at.position known' b
+        → predicted o c' ≡ predict (grammar_in t) c a (drop at.position (marked w)) → o ≡ Some b
+        → ¬ (b ≡ 0) × Chose t w ms tally ws ms tally after c c' at.depth at.place a at.position known' b
     decide-named c m l {o} {c'} {b} e f =
         let (j, k) = predict-named (grammar_in t) c a (drop i (marked w)) b (sym (ap (λ (p : Predicted (List ℕ)). p.forecast) e) ∙ f) in
-        taken c b (first-within t x.told.ready a (serve-named t w ms tally ws x) b j k)
-        (ap (λ (p : Predicted (List ℕ)). length p.state) e ∙ predict-length (grammar_in t) c a (drop i (marked w)))
-        (choice-decided (grammar_in t) (marked w) (predict (grammar_in t)) c (opened t w ws d q) a i
-        (lt-ltb 1 (length (alternatives (grammar_in t) a)) (omega arith))
-        ∙ settle-named (grammar_in t) (marked w) (opened t w ws d q) a i e f)
+        let named = first-within t x.told.ready a (serve-named t w ms tally ws x) b j k in (
+          λ z. named_some t a named.1 z,
+          taken c b named (ap (λ (p : Predicted (List ℕ)). length p.state) e ∙ predict-length (grammar_in t) c a (drop i (marked w)))
+              (choice-decided (grammar_in t) (marked w) (predict (grammar_in t)) c (opened t w ws d q) a i
+              (lt-ltb 1 (length (alternatives (grammar_in t) a)) (omega arith))
+              ∙ settle-named (grammar_in t) (marked w) (opened t w ws d q) a i e f),
+        )
 
   -- ---- FULL: the lowest alternative that serves was asked
   pub decide-full : {ms' tally' after : List ℕ} (c : List ℕ) {n : ℕ} → n ≡ length (alternatives (grammar_in t) a) → 2 ≤ n
       → {o : Forecast} {c' : List ℕ} {known' r : ℕ}
-      → predicted o c' ≡ predict (grammar_in t) c a (drop at.position (marked w)) → o ≡ Full
+      → predicted o c' ≡ predict (grammar_in t) c a (drop at.position (marked w)) → o ≡ None
       → ServedFar t w ms tally ws ms' tally' after at.depth at.place a at.position known' r
       → Chose t w ms tally ws ms' tally' after c c' at.depth at.place a at.position known' r
   decide-full c m l {o} {c'} {known'} {r} e f y =
@@ -123,4 +126,22 @@ deciding-predicts t w ms tally c ws x =
       names = serve-named t w ms tally ws x.serve;
       within = waits-position t x.serve.told.ready w x.serve.waits;
       known = x.serve.told.tokens;
+    }
+
+-- ---- as the loop of a reading asks it
+pub picked-chosen : (t w : List ℕ) {ms tally ws ms' tally' after c c' : List ℕ} {d q a i known' r : ℕ} → min_words ≤ length c → Far t w ms tally ws
+    → Chose t w ms tally ws ms' tally' after c c' d q a i known' r
+    → Picked t w (choice_at t w ws c d q a i) c' (Far t w ms' tally' after × (min_words ≤ length c')) (λ d' q' a' i'. Unit {0})
+    ws ms' tally' after d q a i known' r
+picked-chosen t w long far y =
+    record {
+      nothing = y.nothing;
+      taken = y.taken;
+      named = y.named;
+      state = y.words;
+      kept = (y.far far, omega (arith, y.long));
+      again = λ f d' q' a' i' n e m. tt;
+      tallied = y.tallied;
+      stage = y.stage;
+      entering = y.entering;
     }

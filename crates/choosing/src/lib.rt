@@ -4,4 +4,4 @@
 
 mod deciding;
 
-pub use deciding::decide;
+pub use deciding::{Predicting, decide};

@@ -2,6 +2,7 @@
 use mathlib.Core.Path.{◌≡◌, refl, sym, ap, ◌∙◌}
 use mathlib.Core.Logic.{◌⊎◌, inl, inr}
 use mathlib.Core.Bool.{Bool, true, false, ◌||◌, cond}
+use mathlib.Core.Option.{some}
 use mathlib.Core.List.{List, [], ◌∷◌, map}
 use Prim.Native.Nat.{ℕ, zero, suc, ◌+◌, ◌-◌, ◌*◌, ◌/◌, ◌%◌, ◌≤◌, ◌<◌}
 use native.Mathlib.Numerals.{add-one}
@@ -9,7 +10,7 @@ use native.Mathlib.Omega.{arith}
 use native.Mathlib.Decide.{dec_le}
 use lib.Dec.{eqb}
 use lib.ListN.{length, get_or, take, drop, length-take, length-map, drop_of_length-le}
-use lib.Seq.{slice, slice-cons, drop-cons}
+use lib.Seq.{drop-cons}
 use borrow.Author.Tests.{ne_eqb}
 use Rattle.base.proofs.Bits.{same?, eqb-iff}
 use Rattle.base.proofs.Booleans.{clash}
@@ -17,41 +18,41 @@ use Rattle.grammar.specs.declared.Symbol.{Symbol}
 use Rattle.grammar.specs.declared.Symbol.TheVariants.{Token, Nonterminal, End}
 use Rattle.grammar.specs.declared.Place.{Place}
 use Rattle.grammar.specs.Limits.{end_place}
-use Rattle.grammar.specs.Grammar.{Grammar, nowhere, place_at, facing, owner}
-use Rattle.grammar.specs.inside.Tables.{place_words, symbol_of, place_of, rule_at, grammar_in, nonterminals_in, codes}
+use Rattle.grammar.specs.Grammar.{Grammar, nowhere, place_at, facing, owner, alternatives}
+use Rattle.grammar.specs.inside.Tables.{place_words, symbol_of, place_of, grammar_in, codes}
 use Rattle.grammar.proofs.WordLaws.{code-end, code-token, code-nonterminal, place_in, place-past}
 use Rattle.derivation.specs.inside.Ready.{Ready}
-use Rattle.derivation.proofs.FirstLaws.{rules-are, first-in}
-use Rattle.derivation.proofs.ReadyLaws.{ready-size, ready_call}
+use Rattle.derivation.proofs.FirstLaws.{get-some}
+use Rattle.derivation.proofs.ReadyLaws.{ready-size, ready_call, ready-first}
 use Rattle.configurations.specs.declared.config.Packed.{Packed}
 use Rattle.configurations.specs.inside.Packed.{config_of, Packs}
 use Rattle.lookahead.specs.Configs.{Config, config, into, calls?, behind_from, entered}
 use Rattle.closing.specs.inside.Moving.{block_places, Uncalled, Sought}
 
 -- ---- the productions of a nonterminal
--- into the productions whose words stand from k up to e in the tables
-unfoldable pub entering : List ℕ → Config → ℕ → ℕ → List Config
-entering t c k e = map (into c) (slice k e t)
+-- into the productions from number k on, where fs are the first places
+unfoldable pub entering : List ℕ → Config → ℕ → List Config
+entering fs c k = map (into c) (drop k fs)
 
-pub entering-first : (t : List ℕ) (c : Config) (k e : ℕ) {f : ℕ} → k < e → e ≤ length t → f ≡ get_or t k 0
-    → entering t c k e ≡ into c f ∷ entering t c (k + 1) e
+pub entering-first : (fs : List ℕ) (c : Config) (k : ℕ) {f : ℕ} → k < length fs → f ≡ get_or fs k 0 → entering fs c k ≡ into c f ∷ entering fs c (k + 1)
 unfolding entering
-entering-first t c k e h l q = rw (slice-cons k e t 0 h l, q, add-one)
+entering-first fs c k h q = rw (drop-cons fs k 0 h, q, add-one)
 
-pub entering-none : (t : List ℕ) (c : Config) (k e : ℕ) → e ≤ k → entering t c k e ≡ []
+pub entering-none : (fs : List ℕ) (c : Config) (k : ℕ) → length fs ≤ k → entering fs c k ≡ []
 unfolding entering
-entering-none t c k e h = let z : slice k e t ≡ [] = drop_of_length-le (take e t) {i = k} (omega (arith, length-take e t)) in rw z
+entering-none fs c k h = let z : drop k fs ≡ [] = drop_of_length-le fs {i = k} h in rw z
 
-pub entering-all : (t : List ℕ) (ready : Ready t) (a : ℕ) (h : a < nonterminals_in t) (c : Config) {s e : ℕ} → s ≡ rule_at t a → e
-    ≡ rule_at t (a + 1)
-    → entering t c s e ≡ entered (grammar_in t) c a
-unfolding entering entered
-entering-all t ready a h c p q = ap (map (into c)) (sym (rules-are t ready a h p q))
+module _ (t : List ℕ) (a : ℕ) {fs : List ℕ} (q : fs ≡ alternatives (grammar_in t) a) where
+  pub entering-all : (c : Config) → entering fs c 0 ≡ entered (grammar_in t) c a
+  unfolding entering entered
+  entering-all c = ap (map (into c)) q
 
--- a first place is one of the tables'
-pub first_small : (t : List ℕ) (ready : Ready t) (a : ℕ) (h : a < nonterminals_in t) {s e : ℕ} → s ≡ rule_at t a → e ≡ rule_at t (a + 1)
-    → (k : ℕ) {f : ℕ} → s ≤ k → k < e → f ≡ get_or t k 0 → f ≤ end_place
-first_small t ready a h p q k m l d = omega (arith, first-in t ready a h p q k m l d, ready-size t ready)
+  -- a first place is one of the tables'
+  pub first_small : Ready t → (k : ℕ) {f : ℕ} → k < length fs → f ≡ get_or fs k 0 → f ≤ end_place
+  first_small ready k {f} h d =
+      let l : k < length (alternatives (grammar_in t) a) = omega (arith, ap length q, h) in
+      let z : get_or (alternatives (grammar_in t) a) k 0 ≡ f = sym (d ∙ ap (λ (l : List ℕ). get_or l k 0) q) in
+      omega (arith, ready-first t ready a (suc k) f (get-some (alternatives (grammar_in t) a) k l ∙ ap some z), ready-size t ready)
 
 -- ---- occurrences
 -- on an empty stack, at place p

@@ -20,14 +20,13 @@ use Rattle.closing.proofs.FollowLaws.{owner-small}
 use Rattle.configurations.proofs.FacingLaws.{place-faces}
 use Rattle.derivation.specs.inside.Ready.{Ready}
 use Rattle.derivation.proofs.ReadyLaws.{ready-size, ready_call}
-use Rattle.configurations.specs.declared.members.Added.{Added}
-use Rattle.configurations.specs.declared.members.Added.TheVariants.{Count, Full}
+use Rattle.std.specs.Prelude.{Some, None}
 use Rattle.lookahead.specs.Configs.{Config, config, behind_from, follows, entered, returned, moves_at, moves}
 use Rattle.lookahead.specs.Closing.{max_members, add, add_all, close_from}
 use Rattle.configurations.specs.declared.config.Packed.{Packed}
 use Rattle.configurations.specs.inside.Packed.{config_of, packed_at, Pops}
 use Rattle.closing.specs.inside.Moving.{Movable, BeforeCall, Unknown}
-use Rattle.configurations.specs.inside.Held.{config_at, configs_from, Room, Grows}
+use Rattle.configurations.specs.inside.Held.{Added, config_at, configs_from, Room, Grows}
 use Rattle.configurations.proofs.HeldLaws.{length-held, get-held, said_at, exact-at}
 use Rattle.configurations.proofs.GrowSteps.{then, grow-room, grow-count, then-on, then-stop, add_all-none, add_all-one, add_all-append}
 
@@ -63,10 +62,10 @@ module _ (g : Grammar) (c : Config) (ms : List Config) where
         ∙ add_all-append (map (λ (q : ℕ). config q c.alternative []) (behind_from a 0 g.places)) (ends a) ms))
 
     module _ {r : Added} {ws : List ℕ} (A : Grows r ws (add_all ms (map (λ (q : ℕ). config q c.alternative []) (behind_from a 0 g.places)))) where
-      pub back_full : r ≡ Full → {ws' : List ℕ} → Grows Full ws' (add_all ms (returned g c c.stack))
+      pub back_full : r ≡ None → {ws' : List ℕ} → Grows None ws' (add_all ms (returned g c c.stack))
       back_full e = then-stop A (λ m. add_all m (ends a)) back-empty e
 
-      module _ (k : ℕ) (e : r ≡ Count k) where
+      module _ (k : ℕ) (e : r ≡ Some k) where
         pub back_start : a ≡ 0 → {d : Config} → d ≡ config end_place c.alternative c.stack → add (configs_from ws 0 k) d
             ≡ add_all ms (returned g c c.stack)
         unfolding ends
@@ -76,7 +75,7 @@ module _ (g : Grammar) (c : Config) (ms : List Config) where
             ∙ sym (add_all-one (configs_from ws 0 k) (config end_place c.alternative []))
             ∙ ap (add_all (configs_from ws 0 k)) (sym w) ∙ then-on A (λ m. add_all m (ends a)) back-empty k e
 
-        pub back-other : (a ≡ 0 → ⊥) → Grows (Count k) ws (add_all ms (returned g c c.stack))
+        pub back-other : (a ≡ 0 → ⊥) → Grows (Some k) ws (add_all ms (returned g c c.stack))
         unfolding ends
         back-other n =
             let w : ends a ≡ [] = rw (ne_eqb a 0 n) in
@@ -92,7 +91,7 @@ module _ (g : Grammar) (c : Config) {p : ℕ} {x : Place} (at : p ≡ c.place) (
   unfolding moves
   moves-at s e = ap (moves_at g c) (place-faces g c.place at is s e)
 
-  pub at-token : (ws : List ℕ) (n k : ℕ) → Room ws n → x.symbol ≡ Token k → Grows (Count n) ws (add_all (configs_from ws 0 n) (moves g c))
+  pub at-token : (ws : List ℕ) (n k : ℕ) → Room ws n → x.symbol ≡ Token k → Grows (Some n) ws (add_all (configs_from ws 0 n) (moves g c))
   unfolding moves_at
   at-token ws n k room e = grow-count ws n room (sym (add_all-none (configs_from ws 0 n)) ∙ ap (add_all (configs_from ws 0 n)) (sym (moves-at (Token k) e)))
 
@@ -148,13 +147,13 @@ module _ (g : Grammar) where
           rw add-one (sym (ap (λ (f : ℕ). close_from g f k (configs_from ws 0 n)) z
           ∙ close-some k (max_members - suc k) (configs_from ws 0 n) (config_of c) q) ∙ h)
 
-      pub close-on : (m : ℕ) → r ≡ Count m → close_from g (max_members - (k + 1)) (k + 1) (configs_from ws' 0 m) ≡ end
+      pub close-on : (m : ℕ) → r ≡ Some m → close_from g (max_members - (k + 1)) (k + 1) (configs_from ws' 0 m) ≡ end
       close-on m u = then-on A (λ m. close_from g (max_members - (k + 1)) (k + 1) m) opened m u
 
-      pub close-stop : r ≡ Full → {ws'' : List ℕ} → Grows Full ws'' end
+      pub close-stop : r ≡ None → {ws'' : List ℕ} → Grows None ws'' end
       close-stop u = then-stop A (λ m. close_from g (max_members - (k + 1)) (k + 1) m) opened u
 
-    pub close-end : n ≤ k → Room ws n → Grows (Count n) ws end
+    pub close-end : n ≤ k → Room ws n → Grows (Some n) ws end
     close-end l room = grow-count ws n room (sym (close-none k (max_members - k) (configs_from ws 0 n) (omega (arith, length-held ws 0 n))) ∙ h)
 
 -- the next member may move

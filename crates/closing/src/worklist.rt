@@ -9,42 +9,34 @@ ghost use Rattle.configurations.specs.inside.Packed.{config_of, MayPush};
 ghost use Rattle.configurations.specs.inside.Held.{configs_from, Room, Grows};
 ghost use Rattle.closing.specs.inside.Moving.{Movable, BeforeCall, Unknown, Uncalled, Seeks, Sought, LooksAt};
 
-use configurations::{Added, Packed};
+use configurations::Packed;
 use grammar::Symbol;
 
 // The places that are passed over at once.
 const BLOCK: usize = 4;
 
 // Into the production with first place f, over the return place.
-fn push(members: &mut [u32], n: usize, c: Packed, f: usize) -> Added
+fn push(members: &mut [u32], n: usize, c: Packed, f: usize) -> Option<usize>
     requires { Room members.old n × MayPush c f }
     ensures { Grows result members.new (add (configs_from members.old 0 n) (into (config_of c) f)) }
 {
     if c.entries() == configurations::ENTRIES {
-        return Added::Full;
+        return None;
     }
     configurations::add(members, n, c.entered(f))
 }
 
 // Before nonterminal a: into all its productions.
-fn enter(tables: &[u16], members: &mut [u32], from: usize, c: Packed, a: usize) -> Added
+fn enter(tables: &[u16], members: &mut [u32], from: usize, c: Packed, a: usize) -> Option<usize>
     requires { Movable tables.now members.old from c × BeforeCall tables.now c a }
     ensures { Grows result members.new
         (add_all (configs_from members.old 0 from) (entered (grammar_in tables.now) (config_of c) a)) }
 {
-    let start = grammar::rule_at(tables, a);
-    let end = grammar::rule_at(tables, a + 1);
     let mut n = from;
-    let mut k = start;
-    while k < end {
-        let f = grammar::first_place(tables, k);
-        let Added::Count(m) = push(members, n, c, f) else {
-            return Added::Full;
-        };
-        n = m;
-        k += 1;
+    for f in grammar::first_places(tables, a) {
+        n = push(members, n, c, usize::from(*f))?;
     }
-    Added::Count(n)
+    Some(n)
 }
 
 // Whether place p faces nonterminal a: one look at the symbol's code, since a whole grammar is searched so.
@@ -52,7 +44,7 @@ fn calls(tables: &[u16], p: usize, a: usize) -> bool
     requires { LooksAt tables.now p a }
     ensures { result ≡ calls? a (facing (grammar_in tables.now) p) }
 {
-    base::index(tables[p]) % grammar::CODES == 2 * a + 2
+    usize::from(tables[p]) % grammar::CODES == 2 * a + 2
 }
 
 // Whether one of a block of places, from p on, faces nonterminal a. All are looked at, so that it is one test.
@@ -60,11 +52,10 @@ fn any_calls(tables: &[u16], p: usize, a: usize) -> bool
     requires { LooksAt tables.now (p + 3) a }
     ensures { result ≡ false → Uncalled (grammar_in tables.now) a p }
 {
-    let first = calls(tables, p, a);
-    let second = calls(tables, p + 1, a);
-    let third = calls(tables, p + 2, a);
-    let fourth = calls(tables, p + 3, a);
-    first | second | third | fourth
+    calls(tables, p, a)
+        | calls(tables, p + 1, a)
+        | calls(tables, p + 2, a)
+        | calls(tables, p + 3, a)
 }
 
 // A place from p on, and not past n, before which nonterminal a does not occur: blocks that do not face it are passed over. A block is tested once,
@@ -77,17 +68,14 @@ fn seek(tables: &[u16], p: usize, n: usize, a: usize) -> usize
         return p;
     }
     let mut q = p;
-    while q + BLOCK <= n {
-        if any_calls(tables, q, a) {
-            return q;
-        }
+    while q + BLOCK <= n && !any_calls(tables, q, a) {
         q += BLOCK;
     }
     q
 }
 
-// On an empty stack, behind a production of nonterminal a: behind every occurrence of it.
-fn behind(tables: &[u16], members: &mut [u32], from: usize, c: Packed, a: usize) -> Added
+// On an empty stack, behind a production of nonterminal a: behind every occurrence of it. No range counts the turns, since `seek` jumps.
+fn behind(tables: &[u16], members: &mut [u32], from: usize, c: Packed, a: usize) -> Option<usize>
     requires { Movable tables.now members.old from c × Unknown c a }
     ensures { Grows result members.new (add_all (configs_from members.old 0 from)
         (map (λ (q : ℕ). config q (config_of c).alternative []) (behind_from a 0 (grammar_in tables.now).places))) }
@@ -98,22 +86,19 @@ fn behind(tables: &[u16], members: &mut [u32], from: usize, c: Packed, a: usize)
     while p < size {
         let here = seek(tables, p, size, a);
         if here == size {
-            return Added::Count(n);
+            return Some(n);
         }
         p = here + 1;
         if calls(tables, here, a) {
-            let Added::Count(m) = configurations::add(members, n, c.at(p)) else {
-                return Added::Full;
-            };
-            n = m;
+            n = configurations::add(members, n, c.at(p))?;
         }
     }
-    Added::Count(n)
+    Some(n)
 }
 
 // At the end of a production of nonterminal a: to the return place, or on an empty stack behind every occurrence and, for the start symbol, to the end
 // place.
-fn back(tables: &[u16], members: &mut [u32], n: usize, c: Packed, a: usize) -> Added
+fn back(tables: &[u16], members: &mut [u32], n: usize, c: Packed, a: usize) -> Option<usize>
     requires { Movable tables.now members.old n c × (a ≡ owner (grammar_in tables.now) (config_of c).place) }
     ensures { Grows result members.new (add_all (configs_from members.old 0 n)
         (returned (grammar_in tables.now) (config_of c) (config_of c).stack)) }
@@ -121,33 +106,29 @@ fn back(tables: &[u16], members: &mut [u32], n: usize, c: Packed, a: usize) -> A
     if c.entries() != 0 {
         return configurations::add(members, n, c.popped());
     }
-    let Added::Count(k) = behind(tables, members, n, c, a) else {
-        return Added::Full;
-    };
+    let k = behind(tables, members, n, c, a)?;
     if a == 0 {
         return configurations::add(members, k, c.at(grammar::END_PLACE));
     }
-    Added::Count(k)
+    Some(k)
 }
 
 // The moves of c.
-fn follow(tables: &[u16], members: &mut [u32], n: usize, c: Packed) -> Added
+fn follow(tables: &[u16], members: &mut [u32], n: usize, c: Packed) -> Option<usize>
     requires { Movable tables.now members.old n c }
     ensures { Grows result members.new
         (add_all (configs_from members.old 0 n) (moves (grammar_in tables.now) (config_of c))) }
 {
     let place = grammar::place_at(tables, c.place());
-    let owner = place.owner;
-    let symbol = place.symbol;
-    match symbol {
-        Symbol::Token(_) => Added::Count(n),
+    match place.symbol {
+        Symbol::Token(_) => Some(n),
         Symbol::Nonterminal(a) => enter(tables, members, n, c, a),
-        Symbol::End => back(tables, members, n, c, owner),
+        Symbol::End => back(tables, members, n, c, place.owner),
     }
 }
 
-// The first members, closed.
-pub fn close(tables: &[u16], members: &mut [u32], from: usize) -> Added
+// The first members, closed. No range counts the turns, since members come while the moves of others are made.
+pub fn close(tables: &[u16], members: &mut [u32], from: usize) -> Option<usize>
     requires { Ready tables.now × Room members.old from }
     ensures { Grows result members.new
         (close_from (grammar_in tables.now) max_members 0 (configs_from members.old 0 from)) }
@@ -156,11 +137,8 @@ pub fn close(tables: &[u16], members: &mut [u32], from: usize) -> Added
     let mut k = 0;
     while k < n {
         let c = configurations::member(members, k);
-        let Added::Count(m) = follow(tables, members, n, c) else {
-            return Added::Full;
-        };
-        n = m;
+        n = follow(tables, members, n, c)?;
         k += 1;
     }
-    Added::Count(n)
+    Some(n)
 }

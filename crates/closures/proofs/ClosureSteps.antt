@@ -1,31 +1,39 @@
 -- The closure's loops by cases, as the code meets them.
-use mathlib.Core.Path.{◌≡◌, refl, sym, ap, ◌∙◌}
+use mathlib.Core.Path.{◌≡◌, refl, sym, ap, ap₂, ◌∙◌}
 use mathlib.Core.Logic.{◌⊎◌, inl, inr}
 use mathlib.Core.Bool.{Bool, true, false, not, ◌&&◌, ◌||◌}
-use mathlib.Core.List.{List}
+use mathlib.Core.List.{List, [], ◌∷◌}
 use Prim.Native.Nat.{ℕ, ◌+◌, ◌-◌, ◌≤◌, ◌<◌, ◌^◌}
 use native.Mathlib.Numerals.{add-one}
 use native.Mathlib.Omega.{arith}
 use lib.Bits.{bit_and, bit_xor}
 use lib.Dec.{T, eqb, eqb→eq, eqb_refl}
-use lib.ListN.{length, get_or, take, length-take, drop_of_length-le}
-use lib.Seq.{slice, slice-cons}
+use lib.ListN.{length, get_or}
 use borrow.Author.Tests.{not-true, not-false, ne_eqb}
+use Rattle.std.specs.List.{list_all}
 use Rattle.base.specs.Bits.{word_bits, test_bit, set_bit, HighestIs}
-use Rattle.base.specs.Rounds.{any_of}
-use Rattle.base.proofs.Booleans.{and_T, T_and, and-all, or-T, T-or-l, T-or-r, true→T, T→true, ¬T→false}
+use Rattle.base.proofs.Booleans.{clash, and_T, T_and, and-all, or-T, T-or-l, T-or-r, true→T, T→true, ¬T→false}
 use Rattle.base.proofs.Bits.{same?, test-set, test-and, test-none, test_below, below-few, test-opposite, test-without, without-less}
 use Rattle.base.proofs.Fixpoint.{Within}
 use Rattle.grammar.specs.declared.Symbol.{Symbol}
 use Rattle.grammar.specs.declared.Symbol.TheVariants.{Token, Nonterminal, End}
 use Rattle.grammar.specs.Grammar.{Grammar, suffix, facing}
 use Rattle.grammar.specs.inside.Tables.{place_words, corners_at, grammar_in, nonterminals_in, rule_at, TablesFit}
-use Rattle.grammar.proofs.WordLaws.{facing-past, alternatives-in, length-starts-in}
+use Rattle.grammar.proofs.WordLaws.{facing-past, length-starts-in}
 use Rattle.closures.specs.Closures.{passes, passes_by, deriving_round}
-use Rattle.closures.specs.inside.Steps.{Empties, Derivers, DerivingIs, Candidates, Passed, Gathered, Rowed}
+use Rattle.closures.specs.inside.Steps.{Empties, Derivers, DerivingIs, Candidates, Passed, TurnedAway, Begins, Gathered}
 use Rattle.closures.proofs.Deriving.{passes-place, round-within, deriving-exact, deriving-iff}
 
 -- ---- along a production
+-- a list passes if each of its symbols does
+pub all-passes : (tokens : Bool) (X : ℕ → Bool) (l : List Symbol) → list_all (λ x. passes tokens X (x ∷ [])) l ≡ passes tokens X l
+unfolding passes
+all-passes tokens X [] = refl
+all-passes tokens X (Token k ∷ l) = ap₂ ◌&&◌ (and-all tokens) (all-passes tokens X l)
+all-passes tokens X (Nonterminal a ∷ l) = ap₂ ◌&&◌ (and-all (X a)) (all-passes tokens X l)
+all-passes tokens X (End ∷ l) = refl
+
+-- the same place by place
 module _ (t : List ℕ) (tokens : Bool) (x first p : ℕ)
     (i : passes tokens (test_bit x) (suffix (grammar_in t) p) ≡ passes tokens (test_bit x) (suffix (grammar_in t) first)) where
   abbrev judged : Symbol → Type 0
@@ -57,31 +65,7 @@ module _ (t : List ℕ) (tokens : Bool) (x first p : ℕ)
       → passes tokens (test_bit x) (suffix (grammar_in t) (p + 1)) ≡ passes tokens (test_bit x) (suffix (grammar_in t) first)
   pass-goes {a} {b} e h n = let q = here e in rw (sym h ∙ not-false b n) at q
 
--- ---- over the productions of a nonterminal
-module _ (t : List ℕ) (P : ℕ → Bool) (k e : ℕ) where
-  pub any_next : k < e → e ≤ length t → any_of P (slice k e t) ≡ (P (get_or t k 0) || any_of P (slice (k + 1) e t))
-  unfolding any_of
-  any_next l h = rw (add-one, slice-cons k e t 0 l h)
-
-  pub any_none : {y : Bool} → any_of P (slice k e t) ≡ y → e ≤ k → false ≡ y
-  unfolding any_of
-  any_none i h = sym (ap (any_of P) (drop_of_length-le (take e t) {i = k} (omega (arith, length-take e t)))) ∙ i
-
-  module _ {y : Bool} (i : any_of P (slice k e t) ≡ y) (l : k < e) (h : e ≤ length t) {f : ℕ} {b : Bool} (q : f ≡ get_or t k 0) (z : b ≡ P f) where
-    found_here : (b || any_of P (slice (k + 1) e t)) ≡ y
-    found_here = rw (z, q) (sym (any_next l h) ∙ i)
-
-    pub any_found : b ≡ true → true ≡ y
-    any_found w = ap (λ (b : Bool). b || any_of P (slice (k + 1) e t)) (sym w) ∙ found_here
-
-    pub any-later : b ≡ false → any_of P (slice (k + 1) e t) ≡ y
-    any-later w = ap (λ (b : Bool). b || any_of P (slice (k + 1) e t)) (sym w) ∙ found_here
-
-pub round-in : (t : List ℕ) (tokens : Bool) (x a : ℕ) {f e : ℕ} → a < nonterminals_in t → f ≡ rule_at t a → e ≡ rule_at t (a + 1)
-    → any_of (λ f. passes tokens (test_bit x) (suffix (grammar_in t) f)) (slice f e t) ≡ deriving_round tokens (grammar_in t) (test_bit x) a
-unfolding deriving_round
-round-in t tokens x a h p q = rw (p, q, add-one, alternatives-in t a h)
-
+-- ---- the productions of a nonterminal
 pub rule-within : (t : List ℕ) → TablesFit t → (a : ℕ) {e : ℕ} → a < nonterminals_in t → e ≡ rule_at t (a + 1) → e ≤ corners_at
 rule-within t h a l q = rw (q, add-one) (h.within a l)
 
@@ -118,7 +102,7 @@ module _ (tokens : Bool) (g : Grammar) (candidates from : ℕ) where
       rest-is : (b : ℕ) → test_bit rest b ≡ (test_bit left b && not (eqb b a))
       rest-is b = rw q (test-without left a b m.member)
 
-      a-candidate : T (test_bit candidates a)
+      pub a-candidate : T (test_bit candidates a)
       a-candidate = h.within a (true→T (test_bit left a) m.member)
 
       pub judging-below : a < n
@@ -186,71 +170,37 @@ module _ (n all x o : ℕ) (few : n ≤ word_bits) (q : o ≡ bit_xor x (2 ^ wor
       let e : test_bit o a ≡ true = rw q (test-opposite x a (omega arith) ∙ ap not z) in
       rw test-and (T_and (test_bit all a) (test_bit o a) t (true→T (test_bit o a) e))
 
--- ---- all nonterminals
-module _ (n k all x o : ℕ) (few : n ≤ word_bits) (q : o ≡ bit_xor x (2 ^ word_bits - 1)) (m : k ≡ n) (w : all ≡ 2 ^ k - 1) where
-  pub all-candidates : Candidates n (bit_and all o) x
-  all-candidates = rest-candidates n all x o few q (λ a t. below-few n a (rw (w, m) at t))
-
-  -- a pass over them that adds nothing leaves nothing to add
-  pub closure-exact : (tokens : Bool) (g : Grammar) {y : ℕ} → length g.starts ≡ n → Derivers tokens g x → Passed tokens g (bit_and all o) x y → y ≡ x
-      → DerivingIs tokens g x
-  unfolding DerivingIs Derivers
-  closure-exact tokens g {y} v s p e = deriving-exact tokens g (test_bit x) s (λ a l t. go a (omega (arith, v)) t (test_bit x a) refl)
-    where
-      go : (a : ℕ) → a < n → T (deriving_round tokens g (test_bit x) a) → (b : Bool) → test_bit x a ≡ b → T (test_bit x a)
-      go a l t true z = true→T (test_bit x a) z
-      go a l t false z =
-          let in_all : T (test_bit all a) = rw (w, m) (true→T (test_bit (2 ^ n - 1) a) (test_below n a l)) in
-          absurd (rw (p.closed e a (rest_has n all x o few q a l in_all z)) at t)
-
 -- a set of all nonterminals leaves none to add
 pub closure-full : (tokens : Bool) (g : Grammar) (n x : ℕ) → length g.starts ≡ n → Derivers tokens g x → x ≡ 2 ^ n - 1 → DerivingIs tokens g x
 unfolding DerivingIs Derivers
 closure-full tokens g n x m s e =
     deriving-exact tokens g (test_bit x) s (λ a l t. true→T (test_bit x a) (rw e (test_below n a (omega (arith, m)))))
 
--- ---- those that begin with a nonterminal
-module _ (t rows : List ℕ) (led empty x o : ℕ) (h : Gathered t rows led empty) (i : Within (test_bit empty) (test_bit x))
-    (q : o ≡ bit_xor x (2 ^ word_bits - 1)) where
-  -- none outside the set has an empty production
-  not-empty : (a : ℕ) → a < nonterminals_in t → test_bit x a ≡ false → deriving_round false (grammar_in t) (test_bit 0) a ≡ false
-  not-empty a l z = ¬T→false (deriving_round false (grammar_in t) (test_bit 0) a) (λ s. rw z at (i a (h.empties.all a l s)))
+-- ---- the closure from what it begins with
+module _ (tokens : Bool) (t : List ℕ) (judged from : ℕ) (Away : ℕ → ℕ → Type 0) (h : Begins tokens t judged from Away) (x o : ℕ)
+    (i : Within (test_bit from) (test_bit x)) (q : o ≡ bit_xor x (2 ^ word_bits - 1)) where
+  outside : (a : ℕ) → test_bit x a ≡ false → test_bit from a ≡ false
+  outside a z = ¬T→false (test_bit from a) (λ s. rw z at (i a s))
 
-  led-candidates : Candidates (nonterminals_in t) (bit_and led o) x
-  led-candidates = rest-candidates (nonterminals_in t) led x o h.fits.few q h.headed.few
+  pub to-judge : Candidates (nonterminals_in t) (bit_and judged o) x
+  to-judge = rest-candidates (nonterminals_in t) judged x o h.fits.few q h.few
 
-  pub led-rowed : Rowed t rows (bit_and led o) x
-  led-rowed = record {
-    fits = h.fits;
-    long = h.long;
-    candidates-fit = led-candidates;
-    first = λ a s. let l = led-candidates.few a s in h.headed.first a l (not-empty a l (led-candidates.new a s));
-  }
+  pub turned-away : TurnedAway tokens (grammar_in t) (bit_and judged o) Away
+  turned-away y a s w = h.away y a (and_T (test_bit judged a) (test_bit o a) (rw test-and at s)).0 (outside a (to-judge.new a s)) w
 
-  -- a pass over them that adds nothing leaves nothing to add: who begins with no nonterminal derives the empty row only by an empty production
-  pub null-exact : {y : ℕ} → Derivers false (grammar_in t) x → Passed false (grammar_in t) (bit_and led o) x y → y ≡ x → DerivingIs false (grammar_in t) x
+  -- a pass that adds nothing leaves nothing to add
+  pub settled : {y : ℕ} → Derivers tokens (grammar_in t) x → Passed tokens (grammar_in t) (bit_and judged o) x y → y ≡ x → DerivingIs tokens (grammar_in t) x
   unfolding DerivingIs Derivers
-  null-exact {y} s p e =
-      deriving-exact false (grammar_in t) (test_bit x) s (λ a l d. let m = rw length-starts-in at l in go a m d (test_bit x a) refl (test_bit led a) refl)
+  settled {y} s p e =
+      deriving-exact tokens (grammar_in t) (test_bit x) s (λ a l d. let m = rw length-starts-in at l in go a m d (test_bit x a) refl (test_bit judged a) refl)
     where
-      go : (a : ℕ) → a < nonterminals_in t → T (deriving_round false (grammar_in t) (test_bit x) a) → (b : Bool) → test_bit x a ≡ b → (c : Bool)
-          → test_bit led a ≡ c → T (test_bit x a)
+      go : (a : ℕ) → a < nonterminals_in t → T (deriving_round tokens (grammar_in t) (test_bit x) a) → (b : Bool) → test_bit x a ≡ b → (c : Bool)
+          → test_bit judged a ≡ c → T (test_bit x a)
       go a l d true z c w = true→T (test_bit x a) z
       go a l d false z true w =
-          let u = rest_has (nonterminals_in t) led x o h.fits.few q a l (true→T (test_bit led a) w) z in
+          let u = rest_has (nonterminals_in t) judged x o h.fits.few q a l (true→T (test_bit judged a) w) z in
           absurd (rw (p.closed e a u) at d)
-      go a l d false z false w =
-          let r = h.headed.none a l w in
-          let v = h.headed.first a l (not-empty a l z) (test_bit x) (λ c m. absurd (rw (r, test-none) at m)) in
-          absurd (rw v at d)
-
--- a candidate whose row misses the set has no production that passes
-pub row-misses : (t rows : List ℕ) (candidates from x left a : ℕ) → Rowed t rows candidates from → Judging false (grammar_in t) candidates from x left
-    → HighestIs left a → bit_and (get_or rows a 0) x ≡ 0 → deriving_round false (grammar_in t) (test_bit x) a ≡ false
-row-misses t rows candidates from x left a h i m z =
-    h.first a (i.within a (true→T (test_bit left a) m.member)) (test_bit x) (λ c s. ¬T→false (test_bit x c) (λ u.
-    let v : T (test_bit (bit_and (get_or rows a 0) x) c) = rw test-and (T_and (test_bit (get_or rows a 0) c) (test_bit x c) s u) in
-    rw (z, test-none) at v))
+      go a l d false z false w = absurd (rw (h.others a x l w (outside a z)) at d)
 
 -- ---- what the closure begins with
 none-derives : (tokens : Bool) (g : Grammar) → Derivers tokens g 0
@@ -272,3 +222,37 @@ none-empty g n x m h e =
 pub nullable-derive : (g : Grammar) (x : ℕ) → DerivingIs false g x → Derivers true g x
 unfolding DerivingIs Derivers
 nullable-derive g x h a t = let d = (deriving-iff false g a).0 (rw (h a) at t) in (deriving-iff true g a).1 (d.0, tt, d.2)
+
+-- ---- what the closure begins with, for a row and for the empty row
+-- every nonterminal is judged, and none turned away
+pub all-begin : (t : List ℕ) (n all x : ℕ) (Away : ℕ → ℕ → Type 0) → TablesFit t → DerivingIs false (grammar_in t) x → n ≡ nonterminals_in t
+    → all ≡ 2 ^ n - 1 → ((y a : ℕ) → ¬ Away y a) → Begins true t all x Away
+all-begin t n all x Away f h m w none = record {
+  fits = f;
+  derive = nullable-derive (grammar_in t) x h;
+  few = λ a s. below-few (nonterminals_in t) a (rw (w, m) at s);
+  others = λ a y l z.
+      let z' : test_bit (2 ^ nonterminals_in t - 1) a ≡ false = rw (w, m) at z in
+      let c : true ≡ false = sym (test_below (nonterminals_in t) a l) ∙ z' in
+      clash (cc);
+  away = λ y a s z v. absurd (none y a v);
+}
+
+-- those that begin with a nonterminal are judged, and turned away where their row misses the set
+pub led-begin : (t rows : List ℕ) (led empty : ℕ) (Away : ℕ → ℕ → Type 0) → Gathered t rows led empty
+    → ((y a : ℕ) → Away y a → bit_and (get_or rows a 0) y ≡ 0) → Begins false t led empty Away
+led-begin t rows led empty Away h miss = record {
+  fits = h.fits;
+  derive = empties-derive (grammar_in t) (nonterminals_in t) empty h.empties;
+  few = h.headed.few;
+  others = λ a x l z w. let r = h.headed.none a l z in h.headed.first a l (not-empty a l w) (test_bit x) (λ c m. absurd (rw (r, test-none) at m));
+  away = λ x a s w v.
+      let l = h.headed.few a s in
+      h.headed.first a l (not-empty a l w) (test_bit x) (λ c m. ¬T→false (test_bit x c) (λ u.
+      let b : T (test_bit (bit_and (get_or rows a 0) x) c) = rw test-and (T_and (test_bit (get_or rows a 0) c) (test_bit x c) m u) in
+      rw (miss x a v, test-none) at b));
+}
+  where
+    -- none outside the set has an empty production
+    not-empty : (a : ℕ) → a < nonterminals_in t → test_bit empty a ≡ false → deriving_round false (grammar_in t) (test_bit 0) a ≡ false
+    not-empty a l z = ¬T→false (deriving_round false (grammar_in t) (test_bit 0) a) (λ s. rw z at (h.empties.all a l s))

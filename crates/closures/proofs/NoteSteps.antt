@@ -2,14 +2,15 @@
 use mathlib.Core.Path.{◌≡◌, refl, sym, ap, ◌∙◌}
 use mathlib.Core.Logic.{◌⊎◌, inl, inr}
 use mathlib.Core.Bool.{Bool, true, false, not, ◌&&◌, ◌||◌}
-use mathlib.Core.List.{List}
+use mathlib.Core.List.{List, [], ◌∷◌}
 use Prim.Native.Nat.{ℕ, zero, suc, ◌+◌, ◌-◌, ◌≤◌, ◌<◌, ◌^◌}
 use native.Mathlib.Numerals.{add-one}
 use native.Mathlib.Omega.{arith}
 use native.Mathlib.Decide.{dec_lt}
 use lib.Dec.{T, eqb, eqb→eq, eqb_refl}
-use lib.ListN.{length, get_or, set, replicate}
-use lib.Seq.{get_or-set_same, get_or-set_other}
+use lib.ListN.{length, get_or, set, take, replicate, length-take, length-drop}
+use lib.Seq.{slice, get_or-set_same, get_or-set_other, get_or-take, get_or-drop}
+use Rattle.std.proofs.Math.Nat.{min-eq_left}
 use borrow.Author.Tests.{not-true, not-false}
 use Rattle.base.specs.Bits.{test_bit, set_bit, is_subset}
 use Rattle.base.proofs.Booleans.{clash, same, and_assoc, and-all, and_none, or-T, T-or-l, T-or-r, true→T}
@@ -17,59 +18,69 @@ use Rattle.base.proofs.Bits.{same?, test-set, test-none, test_below, subset_iff,
 use Rattle.grammar.specs.declared.Symbol.{Symbol}
 use Rattle.grammar.specs.declared.Symbol.TheVariants.{Token, Nonterminal, End}
 use Rattle.grammar.specs.Limits.{max_nonterminals}
-use Rattle.grammar.specs.Grammar.{suffix, facing}
-use Rattle.grammar.specs.inside.Tables.{place_words, firsts_at, grammar_in, nonterminals_in, rule_at}
-use Rattle.grammar.proofs.WordLaws.{facing-past}
-use Rattle.closures.specs.Closures.{passes, passes_by}
+use Rattle.grammar.specs.Grammar.{suffix, alternatives}
+use Rattle.grammar.specs.inside.Tables.{firsts_at, grammar_in, nonterminals_in, rule_at, TablesFit}
+use Rattle.grammar.proofs.WordLaws.{alternatives-in}
+use Rattle.closures.specs.Closures.{passes}
 use Rattle.closures.specs.inside.Steps.{NeedIs, Owns, Noted}
-use Rattle.closures.proofs.Deriving.{passes-place}
 
 -- ---- along a production
--- the need so far and the rest of the production together ask what the whole asks
-abbrev pub Asks : List ℕ → Bool → ℕ → ℕ → ℕ → Type 0
-Asks t tokens first need p =
-    (x a : ℕ) → a < max_nonterminals → test_bit x a ≡ false
-    → (is_subset need x && passes tokens (test_bit x) (suffix (grammar_in t) p)) ≡ passes tokens (test_bit x) (suffix (grammar_in t) first)
+-- the need so far and the symbols still to come together ask what the whole asks
+abbrev pub Asks : Bool → List Symbol → ℕ → List Symbol → Type 0
+Asks tokens whole need rest =
+    (x a : ℕ) → a < max_nonterminals → test_bit x a ≡ false → (is_subset need x && passes tokens (test_bit x) rest) ≡ passes tokens (test_bit x) whole
 
-pub need-begin : (t : List ℕ) (tokens : Bool) (first : ℕ) → Asks t tokens first 0 first
-need-begin t tokens first x a l h = rw subset-none
+pub asks-begin : (tokens : Bool) (whole rest : List Symbol) → rest ≡ whole → Asks tokens whole 0 rest
+asks-begin tokens whole rest e x a l h = rw (subset-none, e)
 
-module _ (t : List ℕ) (tokens : Bool) (first need p : ℕ) (i : Asks t tokens first need p) where
-  abbrev Whole : Symbol → Type 0
-  Whole s =
-      (x a : ℕ) → a < max_nonterminals → test_bit x a ≡ false
-      → (is_subset need x && passes_by tokens (test_bit x) s (passes tokens (test_bit x) (suffix (grammar_in t) (p + 1))))
-      ≡ passes tokens (test_bit x) (suffix (grammar_in t) first)
+module _ (tokens : Bool) (whole : List Symbol) (need : ℕ) (rest : List Symbol) (i : Asks tokens whole need rest) where
+  pub asks-end : rest ≡ [] → NeedIs tokens whole need
+  unfolding NeedIs passes
+  asks-end e x a l h = sym (and-all (is_subset need x)) ∙ rw e at (i x a l h)
 
-  here : {s : Symbol} → facing (grammar_in t) p ≡ s → Whole s
-  here e x a l h = rw (add-one, ← e) (ap (λ (b : Bool). is_subset need x && b) (sym (passes-place tokens (test_bit x) (grammar_in t) p)) ∙ i x a l h)
-
-  pub need-end : facing (grammar_in t) p ≡ End → NeedIs tokens (suffix (grammar_in t) first) need
+  never : ((X : ℕ → Bool) → passes tokens X rest ≡ false) → NeedIs tokens whole (2 ^ max_nonterminals - 1)
   unfolding NeedIs
-  need-end e x a l h = sym (and-all (is_subset need x)) ∙ here e x a l h
-
-  pub need-past : place_words ≤ p → NeedIs tokens (suffix (grammar_in t) first) need
-  need-past h = need-end (facing-past t p h)
-
-  pub need-never : {k : ℕ} → facing (grammar_in t) p ≡ Token k → not tokens ≡ true
-      → NeedIs tokens (suffix (grammar_in t) first) (2 ^ max_nonterminals - 1)
-  unfolding NeedIs
-  need-never e n x a l h =
-      let rest : Bool = passes tokens (test_bit x) (suffix (grammar_in t) (p + 1)) in
-      let q : (is_subset need x && (tokens && rest)) ≡ false = ap (λ (b : Bool). is_subset need x && (b && rest)) (not-true tokens n)
+  never n x a l h =
+      let q : (is_subset need x && passes tokens (test_bit x) rest) ≡ false = ap (λ (b : Bool). is_subset need x && b) (n (test_bit x))
       ∙ and_none (is_subset need x) in
       same (is_subset (2 ^ max_nonterminals - 1) x) false
       (λ s. rw h at ((subset_iff (2 ^ max_nonterminals - 1) x).0 s a (true→T (test_bit (2 ^ max_nonterminals - 1) a) (test_below max_nonterminals a l))))
       (λ s. absurd s)
-      ∙ sym q ∙ here e x a l h
+      ∙ sym q ∙ i x a l h
 
-  pub need-token : {k : ℕ} → facing (grammar_in t) p ≡ Token k → not tokens ≡ false → Asks t tokens first need (p + 1)
-  need-token e n x a l h =
-      ap (λ (b : Bool). is_subset need x && (b && passes tokens (test_bit x) (suffix (grammar_in t) (p + 1)))) (sym (not-false tokens n)) ∙ here e x a l h
+  module _ {y : Symbol} {next : List Symbol} (e : rest ≡ y ∷ next) where
+    pub asks-none : y ≡ End → NeedIs tokens whole (2 ^ max_nonterminals - 1)
+    unfolding passes
+    asks-none z = never (λ X. rw (e, z))
 
-  pub need-more : {b r : ℕ} → facing (grammar_in t) p ≡ Nonterminal b → r ≡ set_bit need b → Asks t tokens first r (p + 1)
-  need-more {b} e q x a l h =
-      rw (q, subset-set) (and_assoc (is_subset need x) (test_bit x b) (passes tokens (test_bit x) (suffix (grammar_in t) (p + 1))) ∙ here e x a l h)
+    pub asks-never : {k : ℕ} → y ≡ Token k → not tokens ≡ true → NeedIs tokens whole (2 ^ max_nonterminals - 1)
+    unfolding passes
+    asks-never z n = never (λ X. rw (e, z, not-true tokens n))
+
+    pub asks-token : {k : ℕ} → y ≡ Token k → not tokens ≡ false → Asks tokens whole need next
+    unfolding passes
+    asks-token z n x a l h =
+        ap (λ (b : Bool). is_subset need x && (b && passes tokens (test_bit x) next)) (sym (not-false tokens n)) ∙ rw (e, z) at (i x a l h)
+
+    pub asks-more : {b r : ℕ} → y ≡ Nonterminal b → r ≡ set_bit need b → Asks tokens whole r next
+    unfolding passes
+    asks-more {b} z q x a l h = rw (q, subset-set) (and_assoc (is_subset need x) (test_bit x b) (passes tokens (test_bit x) next) ∙ rw (e, z) at (i x a l h))
+
+-- ---- the productions of a nonterminal in tables
+module _ (t : List ℕ) (f : TablesFit t) (a : ℕ) (l : a < nonterminals_in t) (places : List ℕ) (e : places ≡ alternatives (grammar_in t) a) where
+  are-slice : places ≡ slice (rule_at t a) (rule_at t (suc a)) t
+  are-slice = e ∙ alternatives-in t a l
+
+  pub places-many : length places ≡ rule_at t (suc a) - rule_at t a
+  places-many =
+      rw are-slice (length-drop (rule_at t a) (take (rule_at t (suc a)) t)
+      ∙ ap (λ (n : ℕ). n - rule_at t a) (length-take (rule_at t (suc a)) t ∙ min-eq_left (omega (arith, f.within a l, f.long))))
+
+  pub place-is : (k : ℕ) → k < length places → get_or places k 0 ≡ get_or t (rule_at t a + k) 0
+  place-is k m =
+      let o = f.ordered a l in
+      rw are-slice (get_or-drop (rule_at t a) (take (rule_at t (suc a)) t) k 0
+      ∙ get_or-take (rule_at t (suc a)) t (rule_at t a + k) 0 (omega (arith, places-many)))
 
 -- ---- noting productions
 pub rule-from : (t : List ℕ) (a : ℕ) → firsts_at ≤ rule_at t a

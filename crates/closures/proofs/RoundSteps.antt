@@ -1,17 +1,18 @@
 -- Rounds over the rows of needs and owners: what a round adds, and that rounds come to the set of what derives.
-use mathlib.Core.Path.{◌≡◌, refl}
+use mathlib.Core.Path.{◌≡◌, refl, ◌∙◌}
 use mathlib.Core.Logic.{◌⊎◌, inl, inr}
 use mathlib.Core.Bool.{Bool, true, false, cond}
-use mathlib.Core.List.{List}
+use mathlib.Core.List.{List, [], ◌∷◌}
 use Prim.Native.Nat.{ℕ, zero, suc, ◌+◌, ◌-◌, ◌≤◌, ◌<◌}
 use native.Mathlib.Numerals.{add-one}
 use native.Mathlib.Omega.{arith}
 use lib.Dec.{T}
 use lib.Bits.{bit_or}
-use lib.ListN.{get_or}
-use lib.Seq.{slice}
+use lib.ListN.{length, get_or, take, drop, length-take}
+use lib.Seq.{slice, get_or-take}
+use Rattle.std.proofs.Math.Nat.{min-le_left}
 use Rattle.base.specs.Bits.{test_bit, is_subset}
-use Rattle.base.proofs.Booleans.{same, or-T, T-or-l, T-or-r, true→T, T→true}
+use Rattle.base.proofs.Booleans.{clash, same, or-T, T-or-l, T-or-r, true→T, T→true}
 use Rattle.base.proofs.Bits.{same?, test-or, test-none, or-ge}
 use Rattle.base.proofs.Fixpoint.{Within}
 use Rattle.base.proofs.Lists.{Found, any_of-T, T-any_of, slice_get, slice-from}
@@ -29,6 +30,20 @@ pub round-more : (needs owners : List ℕ) (x k : ℕ) {y r : ℕ} → y ≡ rou
     → bit_or y r ≡ round_of needs owners x (k + 1)
 unfolding round_of
 round-more needs owners x k i e = rw (add-one, ← i, ← e)
+
+-- the next of what is left of a list
+turn : (n : ℕ) (l rest : List ℕ) (x : ℕ) → drop n l ≡ x ∷ rest → (rest ≡ drop (suc n) l) × (x ≡ get_or l n 0) × (n < length l)
+turn zero [] rest x e = clash (cc)
+turn (suc n) [] rest x e = clash (cc)
+turn zero (y ∷ l) rest x e = (cc, cc, omega arith)
+turn (suc n) (y ∷ l) rest x e = let (q, z, m) = turn n l rest x e in (q, z, omega arith)
+
+-- the production whose words come next, and what is left behind it
+pub round-next : (l : List ℕ) (count n : ℕ) {m : ℕ} (rest : List ℕ) (x : ℕ) → drop n (take count l) ≡ x ∷ rest → m ≡ n + 1
+    → (rest ≡ drop m (take count l)) × (x ≡ get_or l n 0)
+round-next l count n rest x e q =
+    let (z, y, m) = turn n (take count l) rest x e in
+    (rw (q, add-one) z, y ∙ get_or-take count l n 0 (omega (arith, length-take count l, min-le_left count (length l))))
 
 -- ---- what a round adds
 module _ (needs owners : List ℕ) (x a : ℕ) where

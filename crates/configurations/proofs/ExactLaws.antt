@@ -19,22 +19,9 @@ use Rattle.configurations.specs.declared.config.Packed.{Packed}
 use Rattle.configurations.specs.Packing.{digits, unpack}
 use Rattle.configurations.specs.inside.Packed.{return_bits, config_of, Exact, Packs, MayPush, Pops}
 use Rattle.configurations.proofs.PackLaws.{unpack-key}
+use Rattle.configurations.proofs.UnpackLaws.{length_digits, unpack-packable}
 
 -- ---- digits
-pub length_digits : (n x : ℕ) → length (digits n x) ≡ n
-unfolding digits
-length_digits zero x = refl
-length_digits (suc n) x = ap suc (length_digits n (x / return_radix))
-
-digits_low : (n x r : ℕ) → In r (digits n x) → r < return_radix
-unfolding digits
-digits_low zero x r m = absurd (Memᴰ.not-nil m)
-digits_low (suc n) x r m = go (Memᴰ.cases_cons m) (digits_low n (x / return_radix) r)
-  where
-    go : (r ≡ x % return_radix) ⊎ In r (digits n (x / return_radix)) → (In r (digits n (x / return_radix)) → r < return_radix) → r < return_radix
-    go (inl e) rec = omega arith
-    go (inr k) rec = rec k
-
 key-digits : (n x : ℕ) → stack_key (digits n x) ≡ x % 2 ^ (return_bits * n)
 unfolding digits stack_key
 key-digits zero x = omega arith
@@ -44,15 +31,6 @@ key-digits (suc n) x =
     = mod-pow-add x (return_bits * n) return_bits in
     let r = key-digits n (x / return_radix) in
     rw e (omega (arith, h, r))
-
-pub unpack-packable : (u x : ℕ) → Packable (unpack u x)
-unfolding unpack
-unpack-packable u x = record {
-  place = omega arith;
-  alternative = omega arith;
-  entries = omega (arith, length_digits (u / (place_radix * alternative_radix) % entries_radix) x);
-  returns = λ r m. digits_low (u / (place_radix * alternative_radix) % entries_radix) x r m;
-}
 
 -- ---- any packed configuration
 module _ (c : Packed) where

@@ -1,11 +1,12 @@
 -- Whether any two words say a configuration that may be stored, test by test.
 use mathlib.Core.Path.{◌≡◌, refl, sym, ap, ◌∙◌}
-use mathlib.Core.Bool.{false, ◌&&◌}
+use mathlib.Core.Bool.{Bool, true, false, ◌&&◌}
 use Prim.Native.Nat.{ℕ, ◌*◌, ◌/◌, ◌%◌, ◌^◌, ◌≤◌, ◌<◌}
 use native.Mathlib.Omega.{arith}
-use lib.Dec.{T, eqb, leb}
+use native.Mathlib.Decide.{dec_le, dec_lt}
+use lib.Dec.{T, eqb, leb, ltb}
 use lib.ListN.{length}
-use borrow.Author.Tests.{eq-eqb, ne_eqb, eqb-true, leb-true, le-leb, lt-leb}
+use borrow.Author.Tests.{eq-eqb, ne_eqb, eqb-true, leb-true, le-leb, lt-leb, lt-ltb, le-ltb}
 use Rattle.base.proofs.Booleans.{and_T, T_and, T→true, true→T}
 use Rattle.grammar.specs.Limits.{max_productions}
 use Rattle.lookahead.specs.Closing.{max_entries}
@@ -81,6 +82,71 @@ module _ (c : Packed) where
                 le-leb (length (config_of c).stack) max_entries (omega arith),
                 y,
               ) refl
+
+-- the tests in order, on numbers that the code reads
+module _ (c : Packed) {n x : ℕ} (e : n ≡ length (config_of c).stack) (q : x ≡ c.stack % 2 ^ (return_bits * n)) where
+  last-two : c.head < head_radix → (config_of c).place ≤ past_end → 1 ≤ (config_of c).alternative → (config_of c).alternative ≤ max_productions
+      → (leb n max_entries && eqb x c.stack) ≡ fits? c
+  last-two l p b m = go (dec_le n max_entries)
+    where
+      go : Dec (n ≤ max_entries) → (leb n max_entries && eqb x c.stack) ≡ fits? c
+      go (yes h) = rw (le-leb n max_entries h) (stack-decides c l p b m e h q)
+      go (no h) = rw (lt-leb n max_entries (omega arith)) (stack-deep c l p b m (omega arith))
+
+  module _ {y : ℕ} (f : y ≡ (config_of c).alternative) where
+    last-three : c.head < head_radix → (config_of c).place ≤ past_end → 1 ≤ y → ((leb y max_productions && leb n max_entries) && eqb x c.stack) ≡ fits? c
+    last-three l p b = go (dec_le y max_productions)
+      where
+        go : Dec (y ≤ max_productions) → ((leb y max_productions && leb n max_entries) && eqb x c.stack) ≡ fits? c
+        go (yes h) = rw (le-leb y max_productions h) (last-two l p (omega arith) (omega arith))
+        go (no h) = rw (lt-leb y max_productions (omega arith)) (alternative-high c l p (omega arith) (omega arith))
+
+    last-four : c.head < head_radix → (config_of c).place ≤ past_end
+        → (((leb 1 y && leb y max_productions) && leb n max_entries) && eqb x c.stack) ≡ fits? c
+    last-four l p = go (dec_le 1 y)
+      where
+        go : Dec (1 ≤ y) → (((leb 1 y && leb y max_productions) && leb n max_entries) && eqb x c.stack) ≡ fits? c
+        go (yes h) = rw (le-leb 1 y h) (last-three l p h)
+        go (no h) = rw (lt-leb 1 y (omega arith)) (no-alternative c l p (omega arith))
+
+    module _ {z : ℕ} (g : z ≡ (config_of c).place) where
+      last-five : c.head < head_radix → ((((leb z past_end && leb 1 y) && leb y max_productions) && leb n max_entries) && eqb x c.stack) ≡ fits? c
+      last-five l = go (dec_le z past_end)
+        where
+          go : Dec (z ≤ past_end) → ((((leb z past_end && leb 1 y) && leb y max_productions) && leb n max_entries) && eqb x c.stack) ≡ fits? c
+          go (yes h) = rw (le-leb z past_end h) (last-four l (omega arith))
+          go (no h) = rw (lt-leb z past_end (omega arith)) (place-high c l (omega arith))
+
+      -- all but the last
+      abbrev Before : Bool
+      Before = (((ltb c.head head_radix && leb z past_end) && leb 1 y) && leb y max_productions) && leb n max_entries
+
+      all-tests : (Before && eqb x c.stack) ≡ fits? c
+      all-tests = go (dec_lt c.head head_radix)
+        where
+          go : Dec (c.head < head_radix) → (Before && eqb x c.stack) ≡ fits? c
+          go (yes h) = rw (lt-ltb c.head head_radix h) (last-five h)
+          go (no h) = rw (le-ltb c.head head_radix (omega arith)) (head-long c (omega arith))
+
+      module _ {s t u v : Bool} (s-is : s ≡ (ltb c.head head_radix && leb z past_end)) (t-is : t ≡ (s && leb 1 y))
+          (u-is : u ≡ (t && leb y max_productions)) (v-is : v ≡ (u && leb n max_entries)) where
+        w : v ≡ Before
+        w =
+            v-is ∙ ap (λ (b : Bool). b && leb n max_entries) (u-is ∙ ap (λ (b : Bool). b && leb y max_productions)
+            (t-is ∙ ap (λ (b : Bool). b && leb 1 y) s-is))
+
+        pub tests-on : v ≡ true → eqb x c.stack ≡ fits? c
+        tests-on t = sym (ap (λ (b : Bool). b && eqb x c.stack) (sym w ∙ t)) ∙ all-tests
+
+        pub tests-off : v ≡ false → v ≡ fits? c
+        tests-off t = t ∙ sym (ap (λ (b : Bool). b && eqb x c.stack) (sym w ∙ t)) ∙ all-tests
+
+-- a test behind one that holds, and behind one that does not
+pub test-on : {t v b : Bool} → t ≡ true → v ≡ b → v ≡ (t && b)
+test-on e f = rw e f
+
+pub test-off : {t v : Bool} (b : Bool) → t ≡ false → v ≡ t → v ≡ (t && b)
+test-off b e f = rw e (f ∙ e)
 
 -- ---- what the test decides
 pub record Fitting (c : Packed) : Type 0 where

@@ -15,7 +15,7 @@ use Rattle.lookahead.specs.Closing.{max_members, max_entries, member?, shallow, 
 use Rattle.lookahead.proofs.ListLaws.{in-get}
 use Rattle.lookahead.proofs.AddLaws.{member-in}
 use Rattle.configurations.specs.declared.config.Packed.{Packed}
-use Rattle.configurations.specs.declared.members.Added.TheVariants.{Count, Full}
+use Rattle.std.specs.Prelude.{Some, None}
 use Rattle.configurations.specs.inside.Packed.{config_of, Exact, put_config}
 use Rattle.configurations.specs.inside.Held.{config_at, configs_from, Room, held_after, RoomAfter, Grows}
 use Rattle.configurations.proofs.HeldLaws.{length-held, held-add, held_one, get-held, room-has, stored, held_below, room-put}
@@ -25,7 +25,7 @@ module _ (ws : List ℕ) (n : ℕ) (room : Room ws n) where
   ms = configs_from ws 0 n
 
   -- one that is a member
-  pub add-member : (d : Config) {r : Bool} → r ≡ member? d ms → r ≡ true → Grows (Count n) ws (add ms d)
+  pub add-member : (d : Config) {r : Bool} → r ≡ member? d ms → r ≡ true → Grows (Some n) ws (add ms d)
   unfolding add held_after RoomAfter
   add-member d e f = record { is = rw (sym e ∙ f); room = room }
 
@@ -37,11 +37,11 @@ module _ (ws : List ℕ) (n : ℕ) (room : Room ws n) where
     unfolding shallow
     shallow-is = le-leb (length d.stack) max_entries exact.shallow
 
-    pub add-full : n ≡ max_members → {ws' : List ℕ} → Grows Full ws' (add ms d)
+    pub add-full : n ≡ max_members → {ws' : List ℕ} → Grows None ws' (add ms d)
     unfolding add held_after RoomAfter
     add-full q = record { is = rw (sym e ∙ f, shallow-is, le-ltb (length ms) max_members (omega (arith, length-held ws 0 n))); room = tt }
 
-    pub add-new : (n ≡ max_members → ⊥) → {ws' : List ℕ} → ws' ≡ put_config ws n c → Grows (Count (n + 1)) ws' (add ms d)
+    pub add-new : (n ≡ max_members → ⊥) → {ws' : List ℕ} → ws' ≡ put_config ws n c → Grows (Some (n + 1)) ws' (add ms d)
     unfolding add held_after RoomAfter
     add-new q p =
         rw p (record {
@@ -61,7 +61,7 @@ module _ (ws : List ℕ) (n : ℕ) (room : Room ws n) where
             held-add (put_config ws n c) 0 n 1 ∙ (λ i. a i ++ b i)
 
   -- one that is too deep is no member
-  pub add-deep : (d : Config) → max_entries < length d.stack → {ws' : List ℕ} → Grows Full ws' (add ms d)
+  pub add-deep : (d : Config) → max_entries < length d.stack → {ws' : List ℕ} → Grows None ws' (add ms d)
   unfolding add shallow held_after RoomAfter config_at
   add-deep d h = record { is = go (member? d ms) refl; room = tt }
     where

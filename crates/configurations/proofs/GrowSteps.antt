@@ -4,12 +4,11 @@ use mathlib.Core.Option.{Option, none, some}
 use mathlib.Core.List.{List, [], ◌∷◌, ◌++◌}
 use Prim.Native.Nat.{ℕ}
 use Rattle.configurations.specs.declared.config.Packed.{Packed}
-use Rattle.configurations.specs.declared.members.Added.{Added}
-use Rattle.configurations.specs.declared.members.Added.TheVariants.{Count, Full}
+use Rattle.std.specs.Prelude.{Some, None}
 use Rattle.lookahead.specs.Configs.{Config}
 use Rattle.lookahead.specs.Closing.{add, add_all}
 use Rattle.configurations.specs.inside.Packed.{config_of, Packs}
-use Rattle.configurations.specs.inside.Held.{configs_from, Room, held_after, RoomAfter, Grows}
+use Rattle.configurations.specs.inside.Held.{Added, configs_from, Room, held_after, RoomAfter, Grows}
 
 -- what follows an answer
 abbrev pub then : Option (List Config) → (List Config → Option (List Config)) → Option (List Config)
@@ -17,27 +16,27 @@ then none k = none
 then (some ms) k = k ms
 
 -- ---- answers
-pub grow-room : {r : Added} {ws : List ℕ} {o : Option (List Config)} → Grows r ws o → (m : ℕ) → r ≡ Count m → Room ws m
+pub grow-room : {r : Added} {ws : List ℕ} {o : Option (List Config)} → Grows r ws o → (m : ℕ) → r ≡ Some m → Room ws m
 unfolding RoomAfter
 grow-room {r} {ws} g m e = subst (λ (y : Added). RoomAfter y ws) e g.room
 
 pub grow-cast : {r : Added} {ws : List ℕ} {o p : Option (List Config)} → o ≡ p → Grows r ws o → Grows r ws p
 grow-cast e g = record { is = g.is ∙ e; room = g.room }
 
-pub grow-count : (ws : List ℕ) (n : ℕ) {o : Option (List Config)} → Room ws n → some (configs_from ws 0 n) ≡ o → Grows (Count n) ws o
+pub grow-count : (ws : List ℕ) (n : ℕ) {o : Option (List Config)} → Room ws n → some (configs_from ws 0 n) ≡ o → Grows (Some n) ws o
 unfolding held_after RoomAfter
 grow-count ws n room e = record { is = e; room = room }
 
 -- the answer is taken, and k follows
 module _ {r : Added} {ws : List ℕ} {o : Option (List Config)} (g : Grows r ws o)
     (k : List Config → Option (List Config)) {end : Option (List Config)} (h : then o k ≡ end) where
-  pub then-on : (m : ℕ) → r ≡ Count m → k (configs_from ws 0 m) ≡ end
+  pub then-on : (m : ℕ) → r ≡ Some m → k (configs_from ws 0 m) ≡ end
   unfolding held_after
   then-on m e =
       let q : some (configs_from ws 0 m) ≡ o = subst (λ (y : Added). held_after y ws ≡ o) e g.is in
       ap (λ (x : Option (List Config)). then x k) q ∙ h
 
-  pub then-stop : r ≡ Full → {ws' : List ℕ} → Grows Full ws' end
+  pub then-stop : r ≡ None → {ws' : List ℕ} → Grows None ws' end
   unfolding held_after RoomAfter
   then-stop e =
       let q : none ≡ o = subst (λ (y : Added). held_after y ws ≡ o) e g.is in
@@ -88,7 +87,7 @@ module _ {ws : List ℕ} {n : ℕ} {l : List Config} {end : Option (List Config)
   pub left_by : {m : List Config} → l ≡ m → Left ws n m end
   left_by e = record { room = h.room; same = ap (add_all (configs_from ws 0 n)) (sym e) ∙ h.same }
 
-  pub left-none : l ≡ [] → Grows (Count n) ws end
+  pub left-none : l ≡ [] → Grows (Some n) ws end
   left-none e = grow-count ws n h.room (sym (add_all-none (configs_from ws 0 n)) ∙ ap (add_all (configs_from ws 0 n)) (sym e) ∙ h.same)
 
   -- the first of them is added
@@ -96,8 +95,8 @@ module _ {ws : List ℕ} {n : ℕ} {l : List Config} {end : Option (List Config)
     opened : then (add (configs_from ws 0 n) d) (λ m. add_all m ds) ≡ end
     opened = sym (add_all-cons (configs_from ws 0 n) d ds) ∙ ap (add_all (configs_from ws 0 n)) (sym e) ∙ h.same
 
-    pub left-on : (m : ℕ) → r ≡ Count m → Left ws' m ds end
+    pub left-on : (m : ℕ) → r ≡ Some m → Left ws' m ds end
     left-on m q = record { room = grow-room g m q; same = then-on g (λ m. add_all m ds) opened m q }
 
-    pub left-stop : r ≡ Full → {ws'' : List ℕ} → Grows Full ws'' end
+    pub left-stop : r ≡ None → {ws'' : List ℕ} → Grows None ws'' end
     left-stop q = then-stop g (λ m. add_all m ds) opened q

@@ -1,16 +1,17 @@
 -- What rows of words hold: parts of it, what a store changes, searches from one index on.
 use mathlib.Core.Path.{◌≡◌, refl, sym, ap, ◌∙◌}
 use mathlib.Core.Logic.{◌⊎◌, inl, inr}
-use mathlib.Core.Bool.{Bool, true, false, ◌||◌}
+use mathlib.Core.Bool.{Bool, true, false, ◌&&◌, ◌||◌, not}
 use mathlib.Core.Option.{some}
 use mathlib.Core.List.{List, [], ◌∷◌, ◌++◌}
 use Prim.Native.Nat.{ℕ, zero, suc, ◌+◌, ◌-◌, ◌≤◌, ◌<◌}
 use native.Mathlib.Omega.{arith}
 use lib.ListN.{length, get_elem?}
+use Rattle.std.specs.List.{list_any, list_all, range_with_len}
 use Rattle.base.specs.Rounds.{any_of}
 use Rattle.base.proofs.Bits.{same?}
 use Rattle.lookahead.specs.Configs.{Config}
-use Rattle.lookahead.specs.Closing.{max_members, same_config, member?}
+use Rattle.lookahead.specs.Closing.{max_members}
 use Rattle.configurations.specs.declared.config.Packed.{Packed}
 use Rattle.configurations.specs.inside.Packed.{config_of, Exact, Has, packed_at, put_config}
 use Rattle.configurations.specs.inside.Held.{config_at, configs_from, Room}
@@ -62,6 +63,23 @@ module _ (ws : List ℕ) where
   pub test_at : (p : Config → Bool) (k : ℕ) {c : Packed} {r v : Bool} → c ≡ packed_at ws k → r ≡ p (config_of c) → r ≡ v → p (config_at ws k) ≡ v
   test_at p k a e f = ap p (sym (said_at k a)) ∙ sym e ∙ f
 
+  -- ---- a test of n of them, from k on, as a chain over their numbers makes it
+  pub any-range : (p : Config → Bool) (k n : ℕ) → list_any (λ j. p (config_at ws j)) (range_with_len k n) ≡ any_of p (configs_from ws k n)
+  unfolding any_of configs_from
+  any-range p k zero = refl
+  any-range p k (suc n) = let z : k + 1 ≡ suc k = omega arith in rw z (ap (λ (b : Bool). p (config_at ws k) || b) (any-range p (suc k) n))
+
+  pub all-range : (p : Config → Bool) (k n : ℕ) → list_all (λ j. p (config_at ws j)) (range_with_len k n)
+      ≡ not (any_of (λ (c : Config). not (p c)) (configs_from ws k n))
+  unfolding any_of configs_from
+  all-range p k zero = refl
+  all-range p k (suc n) =
+      let z : k + 1 ≡ suc k = omega arith in rw z (go (p (config_at ws k)) _ (all-range p (suc k) n))
+    where
+      go : (b : Bool) {r : Bool} (s : Bool) → r ≡ not s → (b && r) ≡ not (not b || s)
+      go true s e = e
+      go false s e = refl
+
   -- ---- a search from k on among the first n
   module _ (p : Config → Bool) (k n : ℕ) {b : Bool} (h : any_of p (configs_from ws k (n - k)) ≡ b) where
     first : k < n → (p (config_at ws k) || any_of p (configs_from ws (k + 1) (n - (k + 1)))) ≡ b
@@ -77,21 +95,6 @@ module _ (ws : List ℕ) where
     pub any-end : n ≤ k → false ≡ b
     unfolding any_of
     any-end l = ap (any_of p) (sym (held_none k n l)) ∙ h
-
-  -- the search for a member
-  module _ (d : Config) (k n : ℕ) {b : Bool} (h : member? d (configs_from ws k (n - k)) ≡ b) where
-    module _ {c : Packed} {r : Bool} (p : c ≡ packed_at ws k) (e : r ≡ same_config d (config_of c)) (l : k < n) where
-      pub find-hit : r ≡ true → true ≡ b
-      unfolding member?
-      find-hit t = any-hit (λ (c : Config). same_config d c) k n h l (test_at (λ (c : Config). same_config d c) k p e t)
-
-      pub find-next : r ≡ false → member? d (configs_from ws (k + 1) (n - (k + 1))) ≡ b
-      unfolding member?
-      find-next t = any_next (λ (c : Config). same_config d c) k n h l (test_at (λ (c : Config). same_config d c) k p e t)
-
-    pub find-end : n ≤ k → false ≡ b
-    unfolding member?
-    find-end l = any-end (λ (c : Config). same_config d c) k n h l
 
 -- ---- members
 module _ {ws : List ℕ} {n : ℕ} (room : Room ws n) where

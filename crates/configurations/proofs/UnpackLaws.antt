@@ -11,7 +11,7 @@ use Rattle.lookahead.specs.Order.{place_radix, alternative_radix, entries_radix,
 use Rattle.lookahead.specs.Rules.{Each}
 use Rattle.configurations.specs.Packing.{digits, unpack, word_radix, unpack_all}
 
-length_digits : (n x : ℕ) → length (digits n x) ≡ n
+pub length_digits : (n x : ℕ) → length (digits n x) ≡ n
 unfolding digits
 length_digits zero x = refl
 length_digits (suc n) x = let h = length_digits n (x / return_radix) in omega arith

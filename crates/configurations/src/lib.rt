@@ -8,5 +8,5 @@ mod words;
 
 pub use config::{ENTRIES, Packed, begun};
 pub use kept::{KEPT, sort};
-pub use members::{Added, MEMBER_WORDS, add};
+pub use members::{MEMBER_WORDS, add};
 pub use words::{CONFIG_WORDS, member};

@@ -1,14 +1,13 @@
 -- The loops of left recursion by cases, as the code meets them; and that the rows they end with are where moves lead.
 use mathlib.Core.Path.{◌≡◌, refl, sym, ap, ◌∙◌}
 use mathlib.Core.Bool.{Bool, true, false, cond, not, ◌&&◌, ◌||◌}
-use mathlib.Core.List.{List}
+use mathlib.Core.List.{List, [], ◌∷◌}
 use Prim.Native.Nat.{ℕ, suc, ◌+◌, ◌≤◌, ◌<◌}
 use native.Mathlib.Numerals.{add-one}
-use native.Mathlib.Omega.{arith}
 use lib.Bits.{bit_or}
 use lib.Dec.{eqb, eqb→eq, eqb_refl}
-use lib.ListN.{length, get_or, set, take, length-take, drop_of_length-le}
-use lib.Seq.{slice, slice-cons, set-get_or}
+use lib.ListN.{length, get_or, set, drop, drop_of_length-le}
+use lib.Seq.{drop-cons, set-get_or}
 use borrow.Author.Tests.{not-true, not-false, eq-eqb, ne_eqb}
 use Rattle.base.specs.Bits.{test_bit, set_bit}
 use Rattle.base.specs.Rounds.{any_of}
@@ -16,86 +15,73 @@ use Rattle.base.proofs.Booleans.{same, or_assoc, or-none}
 use Rattle.base.proofs.Bits.{test-set, test-none}
 use Rattle.grammar.specs.declared.Symbol.{Symbol}
 use Rattle.grammar.specs.declared.Symbol.TheVariants.{Token, Nonterminal, End}
-use Rattle.grammar.specs.Grammar.{suffix, facing, alternatives}
-use Rattle.grammar.specs.inside.Tables.{place_words, grammar_in, nonterminals_in, rule_at}
-use Rattle.grammar.proofs.WordLaws.{facing-past, alternatives-in}
-use Rattle.corners.specs.Corners.{leads, leads_by}
+use Rattle.grammar.specs.Grammar.{Grammar, suffix, alternatives}
+use Rattle.corners.specs.Corners.{leads}
 use Rattle.corners.specs.inside.Steps.{LeadsTo, MovesFrom, join_of, pivot_below, pivot_of, reach_of}
-use Rattle.corners.proofs.LeftRecursion.{leads-place}
 
 -- ---- Booleans
 eqb-sym : (a b : ℕ) → eqb a b ≡ eqb b a
 eqb-sym a b = same (eqb a b) (eqb b a) (λ t. rw (eqb→eq a b t) (eqb_refl b)) (λ t. rw (eqb→eq b a t) (eqb_refl a))
 
 -- ---- along a production
--- what the set and the rest of the production lead to together is what the whole leads to
-abbrev pub Onward : List ℕ → ℕ → ℕ → ℕ → ℕ → ℕ → Type 0
-Onward t nullable first from x p = (c : ℕ) → (test_bit x c || leads (test_bit nullable) c (suffix (grammar_in t) p))
-    ≡ (test_bit from c || leads (test_bit nullable) c (suffix (grammar_in t) first))
+-- what the set and the symbols still to come lead to together is what the whole leads to
+abbrev pub Onward : ℕ → ℕ → List Symbol → ℕ → List Symbol → Type 0
+Onward nullable from whole x rest = (c : ℕ) → (test_bit x c || leads (test_bit nullable) c rest) ≡ (test_bit from c || leads (test_bit nullable) c whole)
 
-module _ (t : List ℕ) (nullable first from x p : ℕ) (i : Onward t nullable first from x p) where
-  along : {s : Symbol} → facing (grammar_in t) p ≡ s → (c : ℕ)
-      → (test_bit x c || leads_by (test_bit nullable) c s (leads (test_bit nullable) c (suffix (grammar_in t) (suc p))))
-      ≡ (test_bit from c || leads (test_bit nullable) c (suffix (grammar_in t) first))
-  along e c = rw (← e) (ap (λ (b : Bool). test_bit x c || b) (sym (leads-place (test_bit nullable) c (grammar_in t) p)) ∙ i c)
+module _ (nullable from : ℕ) (whole : List Symbol) (x : ℕ) (rest : List Symbol) (i : Onward nullable from whole x rest) where
+  pub left-ends : rest ≡ [] → LeadsTo nullable from whole x
+  unfolding LeadsTo leads
+  left-ends e c = sym (or-none (test_bit x c)) ∙ rw e at (i c)
 
-  pub left_end : facing (grammar_in t) p ≡ End → LeadsTo nullable from (suffix (grammar_in t) first) x
-  unfolding LeadsTo
-  left_end e c = sym (or-none (test_bit x c)) ∙ along e c
+  -- a symbol that is no nonterminal leads to none
+  pub left-token : {s : Symbol} {next : List Symbol} → rest ≡ s ∷ next → ((b : ℕ) → s ≡ Nonterminal b → ⊥) → LeadsTo nullable from whole x
+  unfolding LeadsTo leads
+  left-token {s} {next} e n c = go s e n
+    where
+      go : (s : Symbol) → rest ≡ s ∷ next → ((b : ℕ) → s ≡ Nonterminal b → ⊥) → test_bit x c ≡ (test_bit from c || leads (test_bit nullable) c whole)
+      go (Token k) e n = sym (or-none (test_bit x c)) ∙ rw e at (i c)
+      go End e n = sym (or-none (test_bit x c)) ∙ rw e at (i c)
+      go (Nonterminal b) e n = absurd (n b refl)
 
-  pub left-token : {k : ℕ} → facing (grammar_in t) p ≡ Token k → LeadsTo nullable from (suffix (grammar_in t) first) x
-  unfolding LeadsTo
-  left-token e c = sym (or-none (test_bit x c)) ∙ along e c
-
-  pub left-past : place_words ≤ p → LeadsTo nullable from (suffix (grammar_in t) first) x
-  left-past h = left_end (facing-past t p h)
-
-  module _ {b : ℕ} (e : facing (grammar_in t) p ≡ Nonterminal b) {y : ℕ} (q : y ≡ set_bit x b) {d : Bool} (h : d ≡ test_bit nullable b) where
+  module _ {b : ℕ} {s : Symbol} {next : List Symbol} (e : rest ≡ s ∷ next) (z : s ≡ Nonterminal b)
+      {y : ℕ} (q : y ≡ set_bit x b) {d : Bool} (h : d ≡ test_bit nullable b) where
     -- the set with b, and the rest if b is nullable
-    joined : (c : ℕ) → (test_bit y c || (d && leads (test_bit nullable) c (suffix (grammar_in t) (suc p))))
-        ≡ (test_bit from c || leads (test_bit nullable) c (suffix (grammar_in t) first))
+    joined : (c : ℕ) → (test_bit y c || (d && leads (test_bit nullable) c next)) ≡ (test_bit from c || leads (test_bit nullable) c whole)
+    unfolding leads
     joined c =
-        rw (q, h, test-set, eqb-sym c b)
-        (or_assoc (test_bit x c) (eqb b c) (test_bit nullable b && leads (test_bit nullable) c (suffix (grammar_in t) (suc p))) ∙ along e c)
+        rw (q, h, test-set, eqb-sym c b) (or_assoc (test_bit x c) (eqb b c) (test_bit nullable b && leads (test_bit nullable) c next) ∙ rw (e, z) at (i c))
 
-    pub left-stops : not d ≡ true → LeadsTo nullable from (suffix (grammar_in t) first) y
+    pub left-stops : not d ≡ true → LeadsTo nullable from whole y
     unfolding LeadsTo
     left-stops n c =
-        let z : d ≡ false = not-true d n in
-        sym (or-none (test_bit y c)) ∙ ap (λ (v : Bool). test_bit y c || (v && leads (test_bit nullable) c (suffix (grammar_in t) (suc p)))) (sym z) ∙ joined c
+        sym (or-none (test_bit y c)) ∙ ap (λ (v : Bool). test_bit y c || (v && leads (test_bit nullable) c next)) (sym (not-true d n)) ∙ joined c
 
-    pub left-goes : not d ≡ false → Onward t nullable first from y (p + 1)
+    pub left-goes : not d ≡ false → Onward nullable from whole y next
     left-goes n c =
-        let z : d ≡ true = not-false d n in
-        rw add-one (ap (λ (v : Bool). test_bit y c || (v && leads (test_bit nullable) c (suffix (grammar_in t) (suc p)))) (sym z) ∙ joined c)
+        ap (λ (v : Bool). test_bit y c || (v && leads (test_bit nullable) c next)) (sym (not-false d n)) ∙ joined c
 
 -- ---- over the productions of a nonterminal
 -- what the set and the productions from k on lead to together is what all of them lead to
-abbrev pub Rest : List ℕ → ℕ → ℕ → ℕ → ℕ → ℕ → Type 0
-Rest t nullable a e x k =
-    (c : ℕ) → (test_bit x c || any_of (λ f. leads (test_bit nullable) c (suffix (grammar_in t) f)) (slice k e t))
-    ≡ any_of (λ f. leads (test_bit nullable) c (suffix (grammar_in t) f)) (alternatives (grammar_in t) a)
+abbrev pub Rest : Grammar → ℕ → ℕ → ℕ → List ℕ → Type 0
+Rest g nullable a x rest =
+    (c : ℕ) → (test_bit x c || any_of (λ f. leads (test_bit nullable) c (suffix g f)) rest)
+    ≡ any_of (λ f. leads (test_bit nullable) c (suffix g f)) (alternatives g a)
 
-module _ (t : List ℕ) (nullable a e : ℕ) where
-  pub moves-begin : {f : ℕ} → a < nonterminals_in t → f ≡ rule_at t a → e ≡ rule_at t (a + 1) → Rest t nullable a e 0 f
-  moves-begin h p q c = rw (test-none, p, q, add-one, alternatives-in t a h)
+module _ (g : Grammar) (nullable a : ℕ) (places : List ℕ) where
+  pub moves-begin : places ≡ alternatives g a → Rest g nullable a 0 places
+  moves-begin e c = rw (test-none, e)
 
-  module _ (x k : ℕ) (i : Rest t nullable a e x k) where
-    pub moves_next : (f y : ℕ) → k < e → e ≤ length t → f ≡ get_or t k 0 → LeadsTo nullable x (suffix (grammar_in t) f) y
-        → Rest t nullable a e y (k + 1)
+  module _ (x k : ℕ) (i : Rest g nullable a x (drop k places)) where
+    pub moves_next : (f y : ℕ) → k < length places → f ≡ get_or places k 0 → LeadsTo nullable x (suffix g f) y → Rest g nullable a y (drop (k + 1) places)
     unfolding any_of LeadsTo
-    moves_next f y l h q z c =
-        rw (z c, add-one) (or_assoc (test_bit x c) (leads (test_bit nullable) c (suffix (grammar_in t) f))
-        (any_of (λ f. leads (test_bit nullable) c (suffix (grammar_in t) f)) (slice (suc k) e t))
-        ∙ (rw (slice-cons k e t 0 l h, ← q) at (i c)))
+    moves_next f y l q z c =
+        rw (z c, add-one) (or_assoc (test_bit x c) (leads (test_bit nullable) c (suffix g f))
+        (any_of (λ f. leads (test_bit nullable) c (suffix g f)) (drop (suc k) places))
+        ∙ (rw (drop-cons places k 0 l, ← q) at (i c)))
 
-    pub moves-done : e ≤ k → MovesFrom nullable (grammar_in t) a x
+    pub moves-done : length places ≤ k → MovesFrom nullable g a x
     unfolding any_of MovesFrom
-    moves-done h c =
-        sym (or-none (test_bit x c))
-        ∙ ap (λ (l : List ℕ). test_bit x c || any_of (λ f. leads (test_bit nullable) c (suffix (grammar_in t) f)) l)
-        (sym (drop_of_length-le (take e t) {i = k} (omega (arith, length-take e t))))
-        ∙ i c
+    moves-done h c = sym (or-none (test_bit x c)) ∙ rw (drop_of_length-le places {i = k} h) at (i c)
 
 -- ---- the code's ways through a turn
 pub through-more : (row b a : ℕ) (rows₀ rows : List ℕ) → rows ≡ pivot_below row b a rows₀ → {x : ℕ} → x

@@ -25,10 +25,8 @@ fn round(rows: &[u32], n: usize, set: u32) -> u32
     ensures { result ≡ ended_below rows.now set n }
 {
     let mut next = 0;
-    let mut a = 0;
-    while a < n {
-        next = next | ended(rows[a], a, set);
-        a += 1;
+    for (a, row) in rows[..n].iter().enumerate() {
+        next = next | ended(*row, a, set);
     }
     next
 }
@@ -40,8 +38,7 @@ pub fn all_end(rows: &[u32], n: usize, from: u32) -> bool
 {
     let all = base::below(n);
     let mut set = from;
-    let mut k = 0;
-    while k < ROUNDS {
+    for _ in 0..ROUNDS {
         let next = round(rows, n, set);
         if next == all {
             return true;
@@ -50,7 +47,6 @@ pub fn all_end(rows: &[u32], n: usize, from: u32) -> bool
             return false;
         }
         set = next;
-        k += 1;
     }
     false
 }

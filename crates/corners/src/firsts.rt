@@ -1,5 +1,5 @@
 // What stands first in productions: by it alone most nonterminals are told that derive the empty row, and most left corners.
-ghost use Rattle.std.specs.Prelude.{◌≡◌, false, replicate};
+ghost use Rattle.std.specs.Prelude.{◌≡◌, false, length, replicate};
 ghost use Rattle.grammar.specs.Limits.{max_nonterminals};
 ghost use Rattle.grammar.specs.inside.Tables.{grammar_in, nonterminals_in, TablesFit};
 ghost use Rattle.closures.specs.inside.Steps.{DerivingIs};
@@ -19,6 +19,20 @@ pub struct HeadSets {
     pub led: u32,
 }
 
+impl Firsts {
+    // The nonterminals that derive the empty row. Without an empty production there is none.
+    fn nullable(self, tables: &[u16], rows: &[u32]) -> u32
+        requires { TablesFit tables.now × (length rows.now ≡ max_nonterminals)
+            × FirstsAre (grammar_in tables.now) (nonterminals_in tables.now) self.empty self.led rows.now }
+        ensures { DerivingIs false (grammar_in tables.now) result }
+    {
+        if self.empty == 0 {
+            return 0;
+        }
+        closures::nullable(tables, rows, self.led, self.empty)
+    }
+}
+
 // What stands first in all productions: the sets, and for each nonterminal the row of the nonterminals that its productions begin with. The first places of
 // productions stand one behind the other in the tables, and the place itself says whose it is: one of MAX_NONTERMINALS, which the remainder tells the
 // compiler. A production that begins with a token, as most do, adds nothing; its code is enough to tell.
@@ -30,11 +44,9 @@ fn all_firsts(tables: &[u16], rows: &mut [u32]) -> Firsts
     let end = grammar::rule_at(tables, n);
     let mut empty = 0;
     let mut led = 0;
-    let mut k = grammar::FIRSTS;
-    while k < end {
+    for k in grammar::FIRSTS..end {
         let first = grammar::first_place(tables, k);
         let code = grammar::code_at(tables, first);
-        k += 1;
         if code % 2 == 0 {
             let place = grammar::place_at(tables, first);
             let a = place.owner % grammar::MAX_NONTERMINALS;
@@ -50,18 +62,16 @@ fn all_firsts(tables: &[u16], rows: &mut [u32]) -> Firsts
 }
 
 // The nonterminals that derive the empty row, those that are led by a nonterminal, and in the rows, which come in as zeros, for each nonterminal those that
-// stand first in its productions. Without an empty production none derives the empty row.
+// stand first in its productions.
 pub fn heads(tables: &[u16], rows: &mut [u32]) -> HeadSets
     requires { TablesFit tables.now × (rows.old ≡ replicate max_nonterminals 0) }
     ensures { Found tables.now result.nullable result.led rows.new }
 {
     let firsts = all_firsts(tables, rows);
-    let led = firsts.led;
-    if firsts.empty == 0 {
-        return HeadSets { nullable: 0, led };
+    HeadSets {
+        nullable: firsts.nullable(tables, rows),
+        led: firsts.led,
     }
-    let nullable = closures::nullable(tables, rows, led, firsts.empty);
-    HeadSets { nullable, led }
 }
 
 // The nonterminals that derive the empty row, alone. The check has `heads` to itself: called from one place, it becomes part of the check's own code.
@@ -70,9 +80,5 @@ pub fn nullable(tables: &[u16]) -> u32
     ensures { DerivingIs false (grammar_in tables.now) result }
 {
     let mut rows = [0u32; grammar::MAX_NONTERMINALS];
-    let firsts = all_firsts(tables, &mut rows);
-    if firsts.empty == 0 {
-        return 0;
-    }
-    closures::nullable(tables, &rows, firsts.led, firsts.empty)
+    all_firsts(tables, &mut rows).nullable(tables, &rows)
 }

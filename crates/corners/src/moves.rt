@@ -13,20 +13,13 @@ fn left_from(tables: &[u16], nullable: u32, first: usize, from: u32) -> u32
     ensures { LeadsTo nullable from (suffix (grammar_in tables.now) first) result }
 {
     let mut set = from;
-    let mut p = first;
-    while p <= grammar::END_PLACE {
-        let place = grammar::place_at(tables, p);
-        let symbol = place.symbol;
-        p += 1;
-        match symbol {
-            Symbol::End => return set,
-            Symbol::Token(_) => return set,
-            Symbol::Nonterminal(b) => {
-                set = base::with(set, b);
-                if !base::has(nullable, b) {
-                    return set;
-                }
-            }
+    for symbol in grammar::symbols_from(tables, first) {
+        let Symbol::Nonterminal(b) = symbol else {
+            return set;
+        };
+        set = base::with(set, b);
+        if !base::has(nullable, b) {
+            return set;
         }
     }
     set
@@ -37,14 +30,9 @@ fn moves(tables: &[u16], nullable: u32, a: usize) -> u32
     requires { TablesFit tables.now × (a < nonterminals_in tables.now) }
     ensures { MovesFrom nullable (grammar_in tables.now) a result }
 {
-    let start = grammar::rule_at(tables, a);
-    let end = grammar::rule_at(tables, a + 1);
     let mut set = 0;
-    let mut k = start;
-    while k < end {
-        let first = grammar::first_place(tables, k);
-        set = left_from(tables, nullable, first, set);
-        k += 1;
+    for first in grammar::first_places(tables, a) {
+        set = left_from(tables, nullable, usize::from(*first), set);
     }
     set
 }
@@ -69,9 +57,7 @@ pub fn corners(tables: &mut [u16], nullable: u32, led: u32, rows: &mut [u32]) ->
 {
     let n = grammar::nonterminals(tables);
     let mut done = base::below(n) & base::opposite(led);
-    let mut a = n;
-    while 0 < a {
-        a -= 1;
+    for a in (0..n).rev() {
         let first = rows[a];
         if first != 0 {
             let row = widened(tables, nullable, a, first);

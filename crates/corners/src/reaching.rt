@@ -18,10 +18,8 @@ fn through(rows: &mut [u32], n: usize, row: u32, b: usize)
     requires { Joining n b rows.old }
     ensures { rows.new ≡ pivot_below row b n rows.old }
 {
-    let mut a = 0;
-    while a < n {
+    for a in 0..n {
         rows[a] = joined(rows[a], b, row);
-        a += 1;
     }
 }
 
@@ -30,13 +28,10 @@ pub fn reach(rows: &mut [u32], n: usize)
     requires { (n ≤ max_nonterminals) × (length rows.old ≡ max_nonterminals) }
     ensures { rows.new ≡ reach_of n n rows.old }
 {
-    let mut b = 0;
-    while b < n {
+    for b in 0..n {
         let row = rows[b];
-        let here = b;
-        b += 1;
         if row != 0 {
-            through(rows, n, row, here);
+            through(rows, n, row, b);
         }
     }
 }

@@ -8,11 +8,11 @@ use native.Mathlib.Omega.{arith}
 use lib.Dec.{ltb}
 use lib.ListN.{length}
 use borrow.Author.Tests.{ltb-true, ltb-false, lt-ltb, le-ltb}
+use Rattle.std.specs.Prelude.{Ok}
 use Rattle.base.proofs.Booleans.{T→true, true→T, false→¬T, ¬T→false}
 use Rattle.number.specs.Refusals.{refusal_number, refusal_place}
 use Rattle.grammar.specs.Decode.{Rules, Mark, got, decode}
 use Rattle.grammar.specs.Grammar.{compile}
-use Rattle.soundness.specs.declared.judgement.Verdict.TheVariants.{Sound}
 use Rattle.soundness.specs.Check.{check_of, CheckDid}
 use Rattle.soundness.proofs.VerdictLaws.{zero-sound}
 use Rattle.derivation.specs.Gate.{Gate, at_gate}
@@ -40,7 +40,7 @@ module _ (bytes c : List ℕ) where
   behind x = at_gate audited (λ g. from12 g bytes c) x
 
   -- ---- EVERY AUDIT HAS AN ANSWER, the one of `audit_of`
-  module _ (r : Rules) (m : Mark) (d : decode bytes ≡ got r m) (v : check_of bytes ≡ Sound) where
+  module _ (r : Rules) (m : Mark) (d : decode bytes ≡ got r m) (v : check_of bytes ≡ Ok tt) where
     checked : CheckDid bytes 0 0
     checked = (rw v, rw v)
 
@@ -125,7 +125,7 @@ pub record Yes (bytes c : List ℕ) : Type 0 where
   pub rules : Rules
   pub mark : Mark
   pub decoded : decode bytes ≡ got rules mark
-  pub sound : check_of bytes ≡ Sound
+  pub sound : check_of bytes ≡ Ok tt
   pub words : Coherent (compile rules) bytes c
 
 pub yes-means : (bytes c : List ℕ) (place : ℕ) → AuditDid bytes c 0 place → Yes bytes c

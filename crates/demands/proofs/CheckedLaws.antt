@@ -2,10 +2,10 @@
 use mathlib.Core.Path.{◌≡◌, refl}
 use mathlib.Core.List.{List}
 use Prim.Native.Nat.{ℕ}
+use Rattle.std.specs.Prelude.{Ok}
 use Rattle.base.proofs.Booleans.{clash}
 use Rattle.grammar.specs.Decode.{Rules, Mark, got, decode}
 use Rattle.grammar.specs.Grammar.{Grammar, compile}
-use Rattle.soundness.specs.declared.judgement.Verdict.TheVariants.{Sound}
 use Rattle.soundness.specs.Check.{check_of, CheckDid}
 use Rattle.soundness.proofs.VerdictLaws.{zero-sound}
 use Rattle.derivation.specs.Gate.{Gate, at_gate, sound_gate}
@@ -25,6 +25,6 @@ module _ {A : Type 0} (bytes : List ℕ) (refuse : ℕ → ℕ → A) (on : Gram
       → (r : Rules) × (m : Mark) × (decode bytes ≡ got r m) × (on (compile r) ≡ at_gate refuse on (sound_gate bytes))
   open_is p k = go (zero-sound bytes p k) (sound-gate bytes)
     where
-      go : check_of bytes ≡ Sound → {x : Gate} → Checked bytes x → (r : Rules) × (m : Mark) × (decode bytes ≡ got r m) × (on (compile r) ≡ at_gate refuse on x)
+      go : check_of bytes ≡ Ok tt → {x : Gate} → Checked bytes x → (r : Rules) × (m : Mark) × (decode bytes ≡ got r m) × (on (compile r) ≡ at_gate refuse on x)
       go v (refuses r e) = clash (cc)
       go v (sound r m d w) = (r, m, d, refl)

@@ -19,7 +19,7 @@ use Rattle.derivation.specs.Demand2.{Known}
 use Rattle.derivation.proofs.GateLaws.{Early, gate-early, passed-means}
 use Rattle.words.specs.Layout.{min_words}
 use Rattle.words.specs.Begin.{Begun, begun, begin_words, begin12, beginning}
-use Rattle.words.specs.declared.standing.Standing.{Standing}
+use Rattle.words.specs.inside.Standings.{Standing}
 use Rattle.words.proofs.StandingLaws.{Stands, short, foreign, stands}
 use Rattle.adaptive.specs.Quick.{Reply, reply, quick_note, over_cache, quick_reading}
 use Rattle.adaptive.proofs.QuickLaws.{over-12, over-13, over-begun}

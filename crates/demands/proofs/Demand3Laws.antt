@@ -2,10 +2,10 @@
 use mathlib.Core.Path.{◌≡◌, refl, sym, subst, ap, ◌∙◌}
 use mathlib.Core.List.{List, [], ◌∷◌}
 use Prim.Native.Nat.{ℕ}
+use Rattle.std.specs.Prelude.{Ok}
 use Rattle.grammar.specs.Decode.{Rules, Mark, got, decode}
 use Rattle.grammar.specs.Grammar.{Grammar, compile}
 use Rattle.reader.proofs.ReadLaws.{decode-limited}
-use Rattle.soundness.specs.declared.judgement.Verdict.TheVariants.{Sound}
 use Rattle.soundness.specs.Check.{check_of}
 use Rattle.derivation.specs.Plain.{Answer, answer}
 use Rattle.cache.specs.Coherent.{Coherent}
@@ -57,7 +57,7 @@ module _ (s : List ℕ) (g : Grammar) (alone : (c d e : List ℕ) (k : Call) →
       last-cache xs x.cache ds ∙ ap (λ (e : List ℕ). last_words e (in_turn (quick s) e (calls xs))) (sym (same-words d))
 
 -- ---- from coherent words
-throughout : (s : List ℕ) (r : Rules) (m : Mark) → decode s ≡ got r m → check_of s ≡ Sound → (c : List ℕ) → Coherent (compile r) s c
+throughout : (s : List ℕ) (r : Rules) (m : Mark) → decode s ≡ got r m → check_of s ≡ Ok tt → (c : List ℕ) → Coherent (compile r) s c
     → (xs : List Both) → Session s c xs → Throughout (compile r) c xs
 throughout s r m q v c h xs d =
     let x = agreement s r m q v c (calls xs) h in

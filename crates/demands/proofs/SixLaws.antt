@@ -5,10 +5,10 @@ use mathlib.Core.List.{List, [], ◌∷◌}
 use Prim.Native.Nat.{ℕ, zero, suc, ◌+◌, ◌*◌, ◌≤◌}
 use native.Mathlib.Omega.{arith}
 use lib.ListN.{length}
+use Rattle.std.specs.Prelude.{Ok}
 use Rattle.grammar.specs.Limits.{end_place}
 use Rattle.grammar.specs.Decode.{mark}
 use Rattle.grammar.specs.Grammar.{Grammar, compile}
-use Rattle.soundness.specs.declared.judgement.Verdict.TheVariants.{Sound}
 use Rattle.soundness.specs.Check.{check_of}
 use Rattle.derivation.specs.Space.{max_tokens, space_words}
 use Rattle.derivation.specs.Runs.{marked}
@@ -35,7 +35,7 @@ use Rattle.adaptive.proofs.AgreementLaws.{quick-keeps}
 abbrev g : Grammar
 g = compile g1_rules
 
-sound : check_of g1 ≡ Sound
+sound : check_of g1 ≡ Ok tt
 unfolding check_of
 sound = refl
 

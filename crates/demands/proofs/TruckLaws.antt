@@ -8,10 +8,10 @@ use native.Mathlib.Omega.{arith}
 use lib.Dec.{eqb}
 use lib.ListN.{length}
 use borrow.Author.Tests.{eqb-true, eqb-false}
+use Rattle.std.specs.Prelude.{Ok}
 use Rattle.base.proofs.Booleans.{true→T}
 use Rattle.number.specs.Refusals.{refusal_number, refusal_place}
 use Rattle.grammar.specs.Grammar.{Grammar, compile}
-use Rattle.soundness.specs.declared.judgement.Verdict.TheVariants.{Sound}
 use Rattle.soundness.specs.Check.{check_of, CheckDid}
 use Rattle.derivation.specs.Gate.{Gate, at_gate}
 use Rattle.derivation.specs.Plain.{Answer, answer}
@@ -64,7 +64,7 @@ module _ (bytes tokens lengths answers row : List ℕ) (space : ℕ) (cache : Li
   unfolding batch_reading from18 read_all
   batch-is = go (sound-gate bytes)
     where
-      fitting : check_of bytes ≡ Sound → (b : Bool) → fits? tokens lengths answers row ≡ b
+      fitting : check_of bytes ≡ Ok tt → (b : Bool) → fits? tokens lengths answers row ≡ b
           → Is (cond b (read_all bytes tokens lengths row space cache) (batched 18 0 answers row cache))
       fitting v true e =
           let part = length row / length lengths in

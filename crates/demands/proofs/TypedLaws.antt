@@ -20,7 +20,7 @@ use Rattle.derivation.specs.Machine.{plainly, reading}
 use Rattle.derivation.specs.Gate.{Gate, shut, passed, at_gate, gate, known?, first_unknown}
 use Rattle.derivation.specs.Plain.{Answer, refuse, read_note, plain_reading}
 use Rattle.derivation.proofs.GateLaws.{Noted, eight, nine, eleven, admitted, Gated, refuses, sound, gated, Unknown, first-unknown, refusal-early}
-use Rattle.words.specs.declared.standing.Standing.{Standing}
+use Rattle.words.specs.inside.Standings.{Standing}
 use Rattle.words.proofs.StandingLaws.{Stands, short, foreign, begun, stands}
 use Rattle.adaptive.specs.Quick.{Reply, reply, quick_note, over_cache, quick_reading}
 use Rattle.adaptive.proofs.QuickLaws.{over-12, over-13, over-begun}

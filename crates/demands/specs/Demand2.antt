@@ -10,7 +10,7 @@ use Rattle.number.specs.Refusals.{refusal_number, refusal_place}
 use Rattle.grammar.specs.Decode.{Rules, Mark, got, refused, decode}
 use Rattle.grammar.specs.Grammar.{size_all}
 use Rattle.grammar.specs.Derivation.{of_rules}
-use Rattle.soundness.specs.declared.judgement.Verdict.{Verdict}
+use Rattle.soundness.specs.Verdict.{Verdict}
 use Rattle.soundness.specs.Check.{verdict_number, verdict_place, CheckDid}
 use Rattle.soundness.specs.Verdicts.{IsSound, Means}
 use Rattle.derivation.specs.Space.{max_tokens, space_words}

@@ -34,3 +34,14 @@ module _ (t : List ℕ) (ready : Ready t) (a : ℕ) (h : a < nonterminals_in t) 
   -- a first place is a place of the grammar
   pub first-in : (k : ℕ) {f : ℕ} → s ≤ k → k < e → f ≡ get_or t k 0 → f < (grammar_in t).size
   first-in k {f} m l d = ready-first t ready a (suc (k - s)) f (first-at k m l d)
+
+-- ---- the first places fs of nonterminal a, as a slice
+module _ (t : List ℕ) (ready : Ready t) (a : ℕ) {fs : List ℕ} (e : fs ≡ alternatives (grammar_in t) a) (k : ℕ) {f : ℕ} (m : k < length fs)
+    (d : f ≡ get_or fs k 0) where
+  -- they are its alternatives in order
+  pub alternative-at : first (grammar_in t) a (suc k) ≡ some f
+  alternative-at = rw (← e, d) (get-some fs k m)
+
+  -- a first place is a place of the grammar
+  pub place-of : f < (grammar_in t).size
+  place-of = ready-first t ready a (suc k) f alternative-at

@@ -9,6 +9,7 @@ use native.Mathlib.Omega.{arith}
 use lib.Dec.{T, leb, ltb, leb→le}
 use lib.ListN.{length, get_or}
 use borrow.Author.Tests.{ltb-true, ltb-false, lt-ltb, le-ltb, le-leb}
+use Rattle.std.specs.Prelude.{Ok, Err}
 use Rattle.base.specs.Search.{LowestIs, this, nothing}
 use Rattle.base.proofs.Booleans.{clash, and_T, true→T}
 use Rattle.base.proofs.Lowest.{lowest-is}
@@ -17,8 +18,7 @@ use Rattle.number.specs.declared.Refusal.TheVariants.{Unfinished, Malformed, Ove
 use Rattle.number.specs.Refusals.{refusal_number}
 use Rattle.grammar.specs.Decode.{Rules, Mark, Parsed, got, refused, decode}
 use Rattle.grammar.specs.Grammar.{Grammar, compile}
-use Rattle.soundness.specs.declared.judgement.Verdict.{Verdict}
-use Rattle.soundness.specs.declared.judgement.Verdict.TheVariants.{Sound, Refused}
+use Rattle.soundness.specs.Verdict.{Verdict}
 use Rattle.soundness.specs.Check.{judge_of, check_of}
 use Rattle.derivation.specs.Space.{max_tokens, space_words}
 use Rattle.derivation.specs.Gate.{Gate, shut, passed, at_gate, shut_by, on_verdict, on_rules, sound_gate, known?, first_unknown, note_gate, gate}
@@ -61,32 +61,32 @@ module _ (kinds : ℕ) (w : List ℕ) where
 -- ---- 1 to 7: the gate of sound bytes refuses as the check does
 -- what that gate says, in facts
 pub data Checked (s : List ℕ) : Gate → Type 0 where
-  refuses : (r : Refusal) → check_of s ≡ Refused r → Checked s (shut_by r)
-  sound : (r : Rules) (m : Mark) → decode s ≡ got r m → check_of s ≡ Sound → Checked s (passed (compile r))
+  refuses : (r : Refusal) → check_of s ≡ Err r → Checked s (shut_by r)
+  sound : (r : Rules) (m : Mark) → decode s ≡ got r m → check_of s ≡ Ok tt → Checked s (passed (compile r))
 
 pub sound-gate : (s : List ℕ) → Checked s (sound_gate s)
 unfolding sound_gate check_of
 sound-gate s = go (decode s) refl
   where
     verdict : (r : Rules) (m : Mark) → decode s ≡ got r m → (v : Verdict) → judge_of (compile r) ≡ v → Checked s (on_verdict (compile r) v)
-    verdict r m e Sound q = sound r m e (rw e q)
-    verdict r m e (Refused f) q = refuses f (rw e q)
+    verdict r m e (Ok tt) q = sound r m e (rw e q)
+    verdict r m e (Err f) q = refuses f (rw e q)
 
     go : (d : Parsed Rules) → decode s ≡ d → Checked s (on_rules d)
     go (refused f) e = refuses f (rw e)
     go (got r m) e = verdict r m e (judge_of (compile r)) refl
 
-pub judged-sound : (s : List ℕ) (r : Rules) (m : Mark) → decode s ≡ got r m → check_of s ≡ Sound → judge_of (compile r) ≡ Sound
+pub judged-sound : (s : List ℕ) (r : Rules) (m : Mark) → decode s ≡ got r m → check_of s ≡ Ok tt → judge_of (compile r) ≡ Ok tt
 unfolding check_of
 judged-sound s r m e v = rw e at v
 
 -- sound bytes pass
-pub sound-passes : (s : List ℕ) (r : Rules) (m : Mark) → decode s ≡ got r m → check_of s ≡ Sound → sound_gate s ≡ passed (compile r)
+pub sound-passes : (s : List ℕ) (r : Rules) (m : Mark) → decode s ≡ got r m → check_of s ≡ Ok tt → sound_gate s ≡ passed (compile r)
 unfolding sound_gate
 sound-passes s r m e v = rw (e, judged-sound s r m e v)
 
 -- others are refused as the check refuses them
-pub sound-refuses : (s : List ℕ) (r : Refusal) → check_of s ≡ Refused r → sound_gate s ≡ shut_by r
+pub sound-refuses : (s : List ℕ) (r : Refusal) → check_of s ≡ Err r → sound_gate s ≡ shut_by r
 sound-refuses s r e = go (sound-gate s)
   where
     go : {x : Gate} → Checked s x → x ≡ shut_by r
@@ -139,11 +139,11 @@ module _ (g : Grammar) (w : List ℕ) (space : ℕ) where
 
 -- ---- the whole gate
 module _ (s w : List ℕ) (space : ℕ) where
-  pub gate-refuses : (r : Refusal) → check_of s ≡ Refused r → gate s w space ≡ shut_by r
+  pub gate-refuses : (r : Refusal) → check_of s ≡ Err r → gate s w space ≡ shut_by r
   unfolding gate
   gate-refuses r e = rw (sound-refuses s r e)
 
-  pub gate-sound : (r : Rules) (m : Mark) → decode s ≡ got r m → check_of s ≡ Sound → gate s w space ≡ note_gate (compile r) w space
+  pub gate-sound : (r : Rules) (m : Mark) → decode s ≡ got r m → check_of s ≡ Ok tt → gate s w space ≡ note_gate (compile r) w space
   unfolding gate
   gate-sound r m e v = rw (sound-passes s r m e v)
 
@@ -153,7 +153,7 @@ module _ (s w : List ℕ) (space : ℕ) where
     pub mark : Mark
     pub says : decode s ≡ got rules mark
     pub same : compile rules ≡ g
-    pub checked : check_of s ≡ Sound
+    pub checked : check_of s ≡ Ok tt
     pub short : length w ≤ max_tokens
     pub tokens : Known g.kinds w
     pub roomy : space_words g.size (length w) ≤ space
@@ -165,8 +165,8 @@ module _ (s w : List ℕ) (space : ℕ) where
 
   -- what the whole gate says, in facts
   pub data Gated : Gate → Type 0 where
-    refuses : (r : Refusal) → check_of s ≡ Refused r → Gated (shut_by r)
-    sound : (r : Rules) (m : Mark) {x : Gate} → decode s ≡ got r m → check_of s ≡ Sound → Noted (compile r) w space x → Gated x
+    refuses : (r : Refusal) → check_of s ≡ Err r → Gated (shut_by r)
+    sound : (r : Rules) (m : Mark) {x : Gate} → decode s ≡ got r m → check_of s ≡ Ok tt → Noted (compile r) w space x → Gated x
 
   pub gated : Gated (gate s w space)
   unfolding gate
@@ -180,7 +180,7 @@ module _ (s w : List ℕ) (space : ℕ) where
   pub passed-means : (g : Grammar) → gate s w space ≡ passed g → Passes g
   passed-means g e = go gated e
     where
-      noted : (r : Rules) (m : Mark) {x : Gate} → decode s ≡ got r m → check_of s ≡ Sound → Noted (compile r) w space x → x ≡ passed g → Passes g
+      noted : (r : Rules) (m : Mark) {x : Gate} → decode s ≡ got r m → check_of s ≡ Ok tt → Noted (compile r) w space x → x ≡ passed g → Passes g
       noted r m d v (eight l) q = clash (cc)
       noted r m d v (nine i l u) q = clash (cc)
       noted r m d v (eleven l k h) q = clash (cc)

@@ -4,6 +4,7 @@ use mathlib.Core.Option.{some}
 use mathlib.Core.List.{List}
 use Prim.Native.Nat.{ℕ, suc, ◌≤◌, ◌<◌}
 use native.Mathlib.Omega.{arith}
+use Rattle.std.specs.Prelude.{Ok, Err}
 use Rattle.base.proofs.Booleans.{clash}
 use Rattle.grammar.specs.declared.Symbol.TheVariants.{Token, Nonterminal, End}
 use Rattle.grammar.specs.Limits.{max_places, max_nonterminals}
@@ -16,8 +17,7 @@ use Rattle.grammar.proofs.OwnerLaws.{compile-first, compile-next, compile-kind}
 use Rattle.grammar.proofs.PlaceLaws.{compile-within}
 use Rattle.reader.proofs.ReadLaws.{decode-limited}
 use Rattle.number.specs.declared.Refusal.{Refusal}
-use Rattle.soundness.specs.declared.judgement.Verdict.{Verdict}
-use Rattle.soundness.specs.declared.judgement.Verdict.TheVariants.{Sound, Refused}
+use Rattle.soundness.specs.Verdict.{Verdict}
 use Rattle.soundness.specs.Check.{judge_of, on_decoded, check_of}
 use Rattle.soundness.specs.inside.Compiled.{Compiled}
 use Rattle.soundness.proofs.CheckLaws.{check_sound}
@@ -28,7 +28,7 @@ use Rattle.derivation.proofs.CellLaws.{Kept}
 use Rattle.derivation.proofs.SoundGrammar.{sound-straight}
 
 -- a sound grammar's check leaves tables that are ready
-pub ready : (s : List ℕ) (v : Verdict) (t : List ℕ) (r : Rules) (m : Mark) → Compiled s v t → decode s ≡ got r m → v ≡ Sound → Ready t
+pub ready : (s : List ℕ) (v : Verdict) (t : List ℕ) (r : Rules) (m : Mark) → Compiled s v t → decode s ≡ got r m → v ≡ Ok tt → Ready t
 ready s v t r m c e q =
     record {
       rules = r;
@@ -44,7 +44,7 @@ pub record Judged (s t : List ℕ) : Type 0 where
   pub rules : Rules
   pub mark : Mark
   pub decoded : decode s ≡ got rules mark
-  pub sound : judge_of (compile rules) ≡ Sound
+  pub sound : judge_of (compile rules) ≡ Ok tt
   pub says : grammar_in t ≡ compile rules
 
 -- what follows from a verdict
@@ -53,26 +53,26 @@ module _ (s : List ℕ) {v : Verdict} {t : List ℕ} (c : Compiled s v t) where
   unfolding check_of
   verdict-is e = sym c.verdict ∙ e
 
-  pub sound-judged : v ≡ Sound → Judged s t
+  pub sound-judged : v ≡ Ok tt → Judged s t
   sound-judged e = go (decode s) refl (verdict-is e)
     where
-      go : (d : Parsed Rules) → decode s ≡ d → on_decoded d ≡ Sound → Judged s t
+      go : (d : Parsed Rules) → decode s ≡ d → on_decoded d ≡ Ok tt → Judged s t
       go (refused q) f j = clash (cc)
       go (got r m) f j = record { rules = r; mark = m; decoded = f; sound = j; says = c.says r m f }
 
-  pub sound-ready : v ≡ Sound → Ready t
+  pub sound-ready : v ≡ Ok tt → Ready t
   sound-ready e = let j = sound-judged e in ready s v t j.rules j.mark c j.decoded e
 
   -- the gates, from the verdict and the tables
-  pub compiled-refuses : {r : Refusal} → v ≡ Refused r → sound_gate s ≡ shut_by r
+  pub compiled-refuses : {r : Refusal} → v ≡ Err r → sound_gate s ≡ shut_by r
   compiled-refuses {r} e = sound-refuses s r (sym c.verdict ∙ e)
 
-  pub compiled-passes : v ≡ Sound → sound_gate s ≡ passed (grammar_in t)
+  pub compiled-passes : v ≡ Ok tt → sound_gate s ≡ passed (grammar_in t)
   compiled-passes e =
       let j = sound-judged e in
       sound-passes s j.rules j.mark j.decoded (sym c.verdict ∙ e) ∙ ap passed (sym j.says)
 
-  pub compiled-gate : (w : List ℕ) (space : ℕ) → v ≡ Sound → gate s w space ≡ note_gate (grammar_in t) w space
+  pub compiled-gate : (w : List ℕ) (space : ℕ) → v ≡ Ok tt → gate s w space ≡ note_gate (grammar_in t) w space
   unfolding gate
   compiled-gate w space e = rw (compiled-passes e)
 

@@ -1,13 +1,12 @@
 -- The gate before every reading: refusals 1 to 9 and 11, in the scope's order, from the grammar's bytes, the note and the words of working space.
-use Rattle.std.specs.Prelude.{Bool, true, false, ◌&&◌, not, List, ℕ, leb, ltb, length, get_or}
+use Rattle.std.specs.Prelude.{Bool, true, false, ◌&&◌, not, List, ℕ, leb, ltb, length, get_or, Ok, Err}
 use Rattle.std.proofs.Math.Option.{Option, none, some}
 use Rattle.base.specs.Search.{lowest_from}
 use Rattle.number.specs.declared.Refusal.{Refusal}
 use Rattle.number.specs.Refusals.{refusal_number, refusal_place}
 use Rattle.grammar.specs.Decode.{Rules, Parsed, got, refused, decode}
 use Rattle.grammar.specs.Grammar.{Grammar, compile}
-use Rattle.soundness.specs.declared.judgement.Verdict.{Verdict}
-use Rattle.soundness.specs.declared.judgement.Verdict.TheVariants.{Sound, Refused}
+use Rattle.soundness.specs.Verdict.{Verdict}
 use Rattle.soundness.specs.Check.{judge_of}
 use Rattle.derivation.specs.Space.{max_tokens, space_words}
 
@@ -27,8 +26,8 @@ shut_by r = shut (refusal_number r) (refusal_place r)
 -- ---- 1 to 7
 -- 7 and 6
 abbrev pub on_verdict : Grammar → Verdict → Gate
-on_verdict g Sound = passed g
-on_verdict g (Refused r) = shut_by r
+on_verdict g (Ok tt) = passed g
+on_verdict g (Err r) = shut_by r
 
 -- 1 to 5, and then 7 and 6
 abbrev pub on_rules : Parsed Rules → Gate

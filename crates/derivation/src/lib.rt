@@ -15,10 +15,7 @@ pub fn token_at(note: &[u16], i: usize) -> usize
     requires { i ≤ length note.now }
     ensures { get_elem? (marked note.now) i ≡ some result }
 {
-    if i == note.len() {
-        return 0;
-    }
-    base::index(note[i])
+    note.get(i).map_or(0, |token| usize::from(*token))
 }
 
 // How many alternatives nonterminal a has.
@@ -26,5 +23,5 @@ pub fn alternatives(tables: &[u16], a: usize) -> usize
     requires { Ready tables.now × (a < nonterminals_in tables.now) }
     ensures { result ≡ length (alternatives (grammar_in tables.now) a) }
 {
-    grammar::rule_at(tables, a + 1) - grammar::rule_at(tables, a)
+    grammar::first_places(tables, a).len()
 }

@@ -19,23 +19,19 @@ fn begun(tables: &[u16], note: &[u16], ws: &[u32], ends: &[u32], i: usize, f: us
 {
     let places = grammar::size(tables);
     let mut r = Positions::empty();
-    let mut p = f;
-    while p <= grammar::END_PLACE {
-        let place = grammar::place_at(tables, p);
-        let symbol = place.symbol;
-        p += 1;
-        match symbol {
+    for p in f..=grammar::END_PLACE {
+        match grammar::place_at(tables, p).symbol {
             Symbol::End => return r.with(i),
             Symbol::Token(k) => {
                 if !cells::matches(tables, note, k, i) {
                     return r;
                 }
-                let t = cells::cell(ws, places, p, i + 1);
+                let t = cells::cell(ws, places, p + 1, i + 1);
                 return r.union(t);
             }
             Symbol::Nonterminal(b) => {
                 let s = positions::read(ends, positions::WORDS * b);
-                let t = cells::through(ws, places, note.len(), s, i + 1, p);
+                let t = cells::through(ws, places, note.len(), s, i + 1, p + 1);
                 r = r.union(t);
                 if !s.has(i) {
                     return r;
@@ -51,15 +47,10 @@ fn look(tables: &[u16], note: &[u16], ws: &[u32], ends: &mut [u32], i: usize, a:
     requires { LooksAlong tables.now note.now i ws.now ends.old a }
     ensures { Looked tables.now note.now ws.now i a ends.old ends.new }
 {
-    let start = grammar::rule_at(tables, a);
-    let end = grammar::rule_at(tables, a + 1);
     let mut r = Positions::empty();
-    let mut k = start;
-    while k < end {
-        let f = grammar::first_place(tables, k);
-        let t = begun(tables, note, ws, ends, i, f);
+    for f in grammar::first_places(tables, a) {
+        let t = begun(tables, note, ws, ends, i, usize::from(*f));
         r = r.union(t);
-        k += 1;
     }
     positions::put(ends, positions::WORDS * a, r);
 }
@@ -69,11 +60,7 @@ pub fn settle(tables: &[u16], note: &[u16], ws: &[u32], ends: &mut [u32], order:
     requires { Settles tables.now note.now i ws.now order.now ends.old }
     ensures { RightEnds tables.now note.now i ends.new }
 {
-    let n = grammar::nonterminals(tables);
-    let mut k = 0;
-    while k < n {
-        let a = order[k];
-        look(tables, note, ws, ends, i, a);
-        k += 1;
+    for a in &order[..grammar::nonterminals(tables)] {
+        look(tables, note, ws, ends, i, *a);
     }
 }

@@ -1,95 +1,67 @@
--- Rows joined for the members of a set, from the least on; and the sets of every kind, worked out one kind after the other.
+-- Rows joined for the members of a set; and the sets of every kind, worked out one kind after the other.
 use mathlib.Core.Path.{◌≡◌, refl, ◌∙◌}
-use mathlib.Core.Logic.{◌⊎◌, inl, inr}
+use mathlib.Core.Logic.{◌⊎◌, ◌↔◌, inl, inr}
+use mathlib.Core.Bool.{true, not, ◌&&◌}
 use mathlib.Core.List.{List}
 use Prim.Native.Nat.{ℕ, suc, ◌+◌, ◌^◌, ◌≤◌, ◌<◌}
 use native.Mathlib.Omega.{arith}
-use native.Mathlib.Decide.{dec_lt}
-use lib.Bits.{bit_or}
-use lib.Dec.{T}
+use lib.Bits.{bit_or, bit_xor}
+use lib.Dec.{T, eqb}
 use lib.ListN.{length, get_or, set}
 use lib.Seq.{get_or-set_other}
-use Rattle.base.specs.Bits.{word_bits, test_bit}
-use Rattle.base.proofs.Booleans.{true→T, false→¬T}
-use Rattle.base.proofs.Bits.{test-high, same?}
-use Rattle.positions.specs.inside.Positions.{FromBit}
+use borrow.Author.Tests.{ne_eqb}
+use Rattle.base.specs.Bits.{test_bit, HighestIs}
+use Rattle.base.proofs.Booleans.{and_T, T_and, true→T}
+use Rattle.base.proofs.Bits.{same?, test-none, test-without}
 use Rattle.grammar.specs.Limits.{max_kinds}
 use Rattle.first_follow.specs.inside.Words.{start_at, follow_at, mask_words}
-use Rattle.first_follow.specs.inside.Steps.{SetIs, Relations, Joined, KindIs, Kind, Kinds}
+use Rattle.first_follow.specs.inside.Steps.{Relations, Joined, KindIs, Kind, Kinds}
 use Rattle.first_follow.proofs.PassLaws.{adds-or, stored-start, stored-follow}
 
--- the rows of the members below k are joined
-unfoldable pub JoinedTo : List ℕ → ℕ → ℕ → ℕ → ℕ → Type 0
-JoinedTo rows x from k r = SetIs r (λ a. T (test_bit from a) ⊎ ((c : ℕ) × (c < k) × T (test_bit x c) × T (test_bit (get_or rows c 0) a)))
+-- some member of x has a row with the member a
+abbrev Through : List ℕ → ℕ → ℕ → Type 0
+Through rows x a = (c : ℕ) × T (test_bit x c) × T (test_bit (get_or rows c 0) a)
+
+-- the set so far and the rows of the members still to come are together the set `from` and the rows of the members of x
+unfoldable pub Joining : List ℕ → ℕ → ℕ → ℕ → ℕ → Type 0
+Joining rows x from left r = (a : ℕ) → (T (test_bit r a) ⊎ Through rows left a) ↔ (T (test_bit from a) ⊎ Through rows x a)
 
 module _ (rows : List ℕ) (x from : ℕ) where
-  pub join-none : JoinedTo rows x from 0 from
-  unfolding JoinedTo
-  join-none a = (λ t. inl t, go)
-    where
-      go : T (test_bit from a) ⊎ ((c : ℕ) × (c < 0) × T (test_bit x c) × T (test_bit (get_or rows c 0) a)) → T (test_bit from a)
-      go (inl t) = t
-      go (inr (c, l, s, t)) = absurd (omega arith)
+  pub joining-begins : {left : ℕ} → left ≡ x → Joining rows x from left from
+  unfolding Joining
+  joining-begins e a = rw e (λ y. y, λ y. y)
 
-  module _ (k r v : ℕ) (h : JoinedTo rows x from k r) (b : FromBit x k v) where
-    -- the next member's row is joined
-    pub join-next : v < word_bits → JoinedTo rows x from (v + 1) (bit_or r (get_or rows v 0))
-    unfolding JoinedTo
-    join-next l a = (λ t. up ((adds-or r (get_or rows v 0) a).0 t), λ y. (adds-or r (get_or rows v 0) a).1 (down y))
+  module _ (left r : ℕ) (h : Joining rows x from left r) where
+    -- a member's row is joined, and it is to come no more
+    pub joining-next : (v rest : ℕ) → HighestIs left v → rest ≡ bit_xor left (2 ^ v) → Joining rows x from rest (bit_or r (get_or rows v 0))
+    unfolding Joining
+    joining-next v rest m q a = (λ y. (h a).0 (up y), λ y. down ((h a).1 y))
       where
-        later : T (test_bit from a) ⊎ ((c : ℕ) × (c < k) × T (test_bit x c) × T (test_bit (get_or rows c 0) a))
-            → T (test_bit from a) ⊎ ((c : ℕ) × (c < v + 1) × T (test_bit x c) × T (test_bit (get_or rows c 0) a))
-        later (inl t) = inl t
-        later (inr (c, m, s, t)) = let n = b.above l in inr (c, omega arith, s, t)
+        rest-is : (c : ℕ) → test_bit rest c ≡ (test_bit left c && not (eqb c v))
+        rest-is c = rw q (test-without left v c m.member)
 
-        up : T (test_bit r a) ⊎ T (test_bit (get_or rows v 0) a)
-            → T (test_bit from a) ⊎ ((c : ℕ) × (c < v + 1) × T (test_bit x c) × T (test_bit (get_or rows c 0) a))
-        up (inl t) = later ((h a).0 t)
-        up (inr t) = inr (v, omega arith, true→T (test_bit x v) (b.found l), t)
+        up : T (test_bit (bit_or r (get_or rows v 0)) a) ⊎ Through rows rest a → T (test_bit r a) ⊎ Through rows left a
+        up (inl t) =
+            elim ((adds-or r (get_or rows v 0) a).0 t) [ inl s ↦ inl s | inr s ↦ inr (v, true→T (test_bit left v) m.member, s) ]
+        up (inr (c, s, t)) = inr (c, (and_T (test_bit left c) (not (eqb c v)) (rw (rest-is c) at s)).0, t)
 
-        back : (c : ℕ) → c < v + 1 → T (test_bit x c) → T (test_bit (get_or rows c 0) a) → Dec (c < k) → Dec (c < v)
-            → T (test_bit r a) ⊎ T (test_bit (get_or rows v 0) a)
-        back c m s t (yes n) o = inl ((h a).1 (inr (c, n, s, t)))
-        back c m s t (no n) (yes o) = absurd (false→¬T (test_bit x c) (b.none c (omega arith) o) s)
-        back c m s t (no n) (no o) = let z : c ≡ v = omega arith in inr (rw z at t)
+        other : (c : ℕ) → T (test_bit left c) → T (test_bit (get_or rows c 0) a) → (c ≡ v) ⊎ (c ≡ v → ⊥)
+            → T (test_bit (bit_or r (get_or rows v 0)) a) ⊎ Through rows rest a
+        other c s t (inl e) = inl ((adds-or r (get_or rows v 0) a).1 (inr (rw e at t)))
+        other c s t (inr n) = inr (c, rw (rest-is c, ne_eqb c v n) (T_and (test_bit left c) true s tt), t)
 
-        down : T (test_bit from a) ⊎ ((c : ℕ) × (c < v + 1) × T (test_bit x c) × T (test_bit (get_or rows c 0) a))
-            → T (test_bit r a) ⊎ T (test_bit (get_or rows v 0) a)
-        down (inl t) = inl ((h a).1 (inl t))
-        down (inr (c, m, s, t)) = back c m s t (dec_lt c k) (dec_lt c v)
+        down : T (test_bit r a) ⊎ Through rows left a → T (test_bit (bit_or r (get_or rows v 0)) a) ⊎ Through rows rest a
+        down (inl t) = inl ((adds-or r (get_or rows v 0) a).1 (inl t))
+        down (inr (c, s, t)) = other c s t (same? c v)
 
-  -- no member is left
-  join-all : (k r : ℕ) → JoinedTo rows x from k r → ((c : ℕ) → k ≤ c → ¬ T (test_bit x c)) → Joined rows x from r
-  unfolding JoinedTo
-  join-all k r h n a = (λ t. up ((h a).0 t), λ y. (h a).1 (down y))
-    where
-      up : T (test_bit from a) ⊎ ((c : ℕ) × (c < k) × T (test_bit x c) × T (test_bit (get_or rows c 0) a))
-          → T (test_bit from a) ⊎ ((c : ℕ) × T (test_bit x c) × T (test_bit (get_or rows c 0) a))
-      up (inl t) = inl t
-      up (inr (c, m, s, t)) = inr (c, s, t)
-
-      below : (c : ℕ) → T (test_bit x c) → Dec (c < k) → c < k
-      below c s (yes m) = m
-      below c s (no m) = absurd (n c (omega arith) s)
-
-      down : T (test_bit from a) ⊎ ((c : ℕ) × T (test_bit x c) × T (test_bit (get_or rows c 0) a))
-          → T (test_bit from a) ⊎ ((c : ℕ) × (c < k) × T (test_bit x c) × T (test_bit (get_or rows c 0) a))
-      down (inl t) = inl t
-      down (inr (c, s, t)) = inr (c, below c s (dec_lt c k), s, t)
-
-  module _ (fits : x < 2 ^ word_bits) (k r : ℕ) (h : JoinedTo rows x from k r) where
-    high : (c : ℕ) → word_bits ≤ c → ¬ T (test_bit x c)
-    high c l = false→¬T (test_bit x c) (test-high x c fits l)
-
-    pub join-done : word_bits ≤ k → Joined rows x from r
-    join-done l = join-all k r h (λ c m. high c (omega arith))
-
-    pub join_last : (v : ℕ) → FromBit x k v → word_bits ≤ v → Joined rows x from r
-    join_last v b l = join-all k r h (λ c m. go c m (dec_lt c word_bits))
+    -- none is left to come
+    pub joining-ends : left ≡ 0 → Joined rows x from r
+    unfolding Joining
+    joining-ends z a = (λ t. (h a).0 (inl t), λ y. end ((h a).1 y))
       where
-        go : (c : ℕ) → k ≤ c → Dec (c < word_bits) → ¬ T (test_bit x c)
-        go c m (yes n) = false→¬T (test_bit x c) (b.none c m (omega arith))
-        go c m (no n) = high c (omega arith)
+        end : T (test_bit r a) ⊎ Through rows left a → T (test_bit r a)
+        end (inl t) = t
+        end (inr (c, s, t)) = absurd (rw (z, test-none c) at s)
 
 -- ---- one kind
 module _ (R : Relations) (long : length R.masks ≡ mask_words) where

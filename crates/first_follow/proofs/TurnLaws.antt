@@ -9,7 +9,7 @@ use Rattle.base.proofs.Booleans.{true→T, false→¬T}
 use Rattle.grammar.specs.declared.Symbol.TheVariants.{Token, Nonterminal, End}
 use Rattle.grammar.specs.declared.Place.{Place}
 use Rattle.grammar.specs.Limits.{max_kinds, max_nonterminals}
-use Rattle.grammar.specs.Grammar.{Grammar, place_at, owner}
+use Rattle.grammar.specs.Grammar.{Grammar, place_at}
 use Rattle.grammar.specs.inside.Tables.{grammar_in}
 use Rattle.grammar.proofs.WordLaws.{facing-of, owner_of}
 use Rattle.closures.specs.Closures.{nullable?}

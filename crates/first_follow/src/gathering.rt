@@ -63,13 +63,10 @@ pub fn gather(
     let size = grammar::size(tables);
     let mut ahead = 0;
     let mut lead = true;
-    let mut p = 0;
-    while p < size {
+    for p in 0..size {
         let place = grammar::place_at(tables, p);
         let owner = place.owner;
-        let symbol = place.symbol;
-        p += 1;
-        match symbol {
+        match place.symbol {
             Symbol::End => {
                 note_end(last, owner, ahead);
                 ahead = 0;

@@ -9,14 +9,8 @@ pub fn joined(rows: &[u32], set: u32, from: u32) -> u32
     ensures { Joined rows.now set from result }
 {
     let mut all = from;
-    let mut k = 0;
-    while k < base::WORD_BITS {
-        let x = positions::from_bit(set, k);
-        if base::WORD_BITS <= x {
-            return all;
-        }
+    for x in base::members(set) {
         all = all | rows[x];
-        k = x + 1;
     }
     all
 }

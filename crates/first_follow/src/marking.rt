@@ -37,10 +37,8 @@ fn mark_kinds(masks: &mut [u32], kinds: usize, above: &[u32], before: &[u32], la
       last = last.now;
     }) (suc kinds) masks.new }
 {
-    let mut t = 0;
-    while t <= kinds {
+    for t in 0..kinds + 1 {
         mark_kind(masks, t, above, before, last);
-        t += 1;
     }
 }
 

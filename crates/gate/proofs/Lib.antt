@@ -1,3 +1,2 @@
 -- Laws on the gate.
-pub mod SearchLaws
 pub mod PassingLaws

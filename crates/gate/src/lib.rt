@@ -5,5 +5,5 @@ pub mod passing;
 pub mod reading;
 pub mod tokens;
 
-pub use passing::{Gate, MAX_TOKENS, SPACE_WORDS, SPACE_WORDS_EACH, note_gate, pass};
-pub use reading::Reading;
+pub use passing::{MAX_TOKENS, SPACE_WORDS, SPACE_WORDS_EACH, note_gate, pass};
+pub use reading::ReadingRefusal;

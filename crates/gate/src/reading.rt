@@ -1,14 +1,13 @@
-// What a reading answers, with the scope's number, place and count.
+// Why a reading is refused, with the scope's number and place.
 ghost use Rattle.std.specs.Prelude.{◌≡◌};
-ghost use Rattle.gate.specs.Reading.{reading_number, reading_place, reading_count};
+ghost use Rattle.gate.specs.Reading.{refused_number, refused_place};
+ghost use Rattle.gate.specs.declared.reading.ReadingRefusal.TheVariants.{Grammar};
 
-use number::Refusal;
+use number::{Numbered, Refusal};
 
-// What a reading answers.
-#[derive(Clone, Copy)]
-pub enum Reading {
-    // The note is read: so many entries of the row are its derivation.
-    Accepted(usize),
+// Why a note is not read. Where it is, a reading answers how many entries of the row are its derivation.
+#[derive(Clone, Copy, Debug, PartialEq, Eq)]
+pub enum ReadingRefusal {
     // 1 to 7: the grammar is refused.
     Grammar(Refusal),
     // 8: more than 128 tokens.
@@ -27,55 +26,42 @@ pub enum Reading {
     ShortRow,
 }
 
-impl Reading {
-    // The scope's number: 0 where the note was read.
-    pub fn number(self) -> u32
-        ensures { result ≡ reading_number self }
-    {
+impl From<Refusal> for ReadingRefusal {
+    ghost from_gives = { λ r e. e ≡ Grammar r };
+
+    fn from(refusal: Refusal) -> ReadingRefusal {
+        ReadingRefusal::Grammar(refusal)
+    }
+}
+
+impl Numbered for ReadingRefusal {
+    ghost scope_number = { refused_number };
+
+    ghost scope_place = { refused_place };
+
+    fn number(&self) -> u32 {
         match self {
-            Reading::Accepted(_) => 0,
-            Reading::Grammar(r) => r.number(),
-            Reading::LongNote => 8,
-            Reading::UnknownToken(_) => 9,
-            Reading::NoSentence(_) => 10,
-            Reading::ShortWorkspace => 11,
-            Reading::ShortCache => 12,
-            Reading::ForeignCache => 13,
-            Reading::ShortRow => 14,
+            ReadingRefusal::Grammar(r) => r.number(),
+            ReadingRefusal::LongNote => 8,
+            ReadingRefusal::UnknownToken(_) => 9,
+            ReadingRefusal::NoSentence(_) => 10,
+            ReadingRefusal::ShortWorkspace => 11,
+            ReadingRefusal::ShortCache => 12,
+            ReadingRefusal::ForeignCache => 13,
+            ReadingRefusal::ShortRow => 14,
         }
     }
 
-    // The scope's place: 0 where none is named.
-    pub fn place(self) -> usize
-        ensures { result ≡ reading_place self }
-    {
+    // 0 where none is named.
+    fn place(&self) -> usize {
         match self {
-            Reading::Accepted(_) => 0,
-            Reading::Grammar(r) => r.place(),
-            Reading::LongNote => 0,
-            Reading::UnknownToken(at) => at,
-            Reading::NoSentence(at) => at,
-            Reading::ShortWorkspace => 0,
-            Reading::ShortCache => 0,
-            Reading::ForeignCache => 0,
-            Reading::ShortRow => 0,
-        }
-    }
-
-    // The entries of the row: 0 where refused.
-    pub fn count(self) -> usize
-        ensures { result ≡ reading_count self }
-    {
-        match self {
-            Reading::Accepted(count) => count,
-            Reading::Grammar(_) => 0,
-            Reading::LongNote => 0,
-            Reading::UnknownToken(_) => 0,
-            Reading::NoSentence(_) => 0,
-            Reading::ShortWorkspace => 0,
-            Reading::ShortCache => 0,
-            Reading::ForeignCache => 0,
-            Reading::ShortRow => 0,
+            ReadingRefusal::Grammar(r) => r.place(),
+            ReadingRefusal::UnknownToken(at) | ReadingRefusal::NoSentence(at) => *at,
+            ReadingRefusal::LongNote
+            | ReadingRefusal::ShortWorkspace
+            | ReadingRefusal::ShortCache
+            | ReadingRefusal::ForeignCache
+            | ReadingRefusal::ShortRow => 0,
         }
     }
 }

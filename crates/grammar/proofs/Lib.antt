@@ -1,5 +1,7 @@
 -- Laws on grammars, one subject a file.
 pub mod WordLaws
+pub mod SymbolLaws
+pub mod SymbolChains
 pub mod GrammarLaws
 pub mod CompileLaws
 pub mod OrderedLaws

@@ -2,10 +2,15 @@
 #![tactic(auto)]
 
 ghost use Rattle.std.specs.Prelude.{◌≡◌, suc, ◌+◌, ◌≤◌, ◌<◌, length, get_or};
-ghost use Rattle.grammar.specs.Grammar.{place_at, facing, admits};
-ghost use Rattle.grammar.specs.inside.Tables.{codes, word_of, symbol_of, place_of, grammar_in, nonterminals_in, rule_at, table_words, corner_row, with_corners};
+ghost use Rattle.grammar.specs.Grammar.{place_at, facing, admits, alternatives};
+ghost use Rattle.grammar.specs.inside.Tables.{codes, word_of, symbol_of, place_of, grammar_in, nonterminals_in, rule_at, table_words};
+ghost use Rattle.grammar.specs.inside.Tables.{corner_row, with_corners, TablesFit};
 ghost use Rattle.grammar.specs.Limits.{max_nonterminals};
 ghost use Rattle.grammar.specs.Decode.{written};
+
+mod production;
+
+pub use production::{Symbols, symbols_from};
 
 // The limits of a grammar: the highest token kind, nonterminals, productions of a nonterminal, symbols of a production, places of all productions.
 // specs/Limits has the same.
@@ -86,7 +91,7 @@ fn symbol_of(code: usize) -> Symbol
 pub fn place_of(word: u16) -> Place
     ensures { result ≡ place_of word }
 {
-    let w = base::index(word);
+    let w = usize::from(word);
     Place {
         owner: (w / CODES + NOBODY) % OWNERS,
         symbol: symbol_of(w % CODES),
@@ -127,7 +132,7 @@ pub fn code_at(tables: &[u16], p: usize) -> usize
     if END_PLACE < p {
         return 0;
     }
-    base::index(tables[p]) % CODES
+    usize::from(tables[p]) % CODES
 }
 
 // How many nonterminals there are.
@@ -135,7 +140,7 @@ pub fn nonterminals(tables: &[u16]) -> usize
     requires { length tables.now ≡ table_words }
     ensures { result ≡ nonterminals_in tables.now }
 {
-    base::index(tables[NONTERMINALS])
+    usize::from(tables[NONTERMINALS])
 }
 
 // The highest token kind.
@@ -143,7 +148,7 @@ pub fn kinds(tables: &[u16]) -> usize
     requires { length tables.now ≡ table_words }
     ensures { result ≡ (grammar_in tables.now).kinds }
 {
-    base::index(tables[KINDS])
+    usize::from(tables[KINDS])
 }
 
 // How many places the productions have.
@@ -151,7 +156,7 @@ pub fn size(tables: &[u16]) -> usize
     requires { length tables.now ≡ table_words }
     ensures { result ≡ (grammar_in tables.now).size }
 {
-    base::index(tables[SIZE])
+    usize::from(tables[SIZE])
 }
 
 // Where in the tables the first places of the productions of nonterminal a begin, and where those of the one before it end.
@@ -159,7 +164,7 @@ pub fn rule_at(tables: &[u16], a: usize) -> usize
     requires { (a ≤ max_nonterminals) × (length tables.now ≡ table_words) }
     ensures { result ≡ rule_at tables.now a }
 {
-    FIRSTS + base::index(tables[RULES + a])
+    FIRSTS + usize::from(tables[RULES + a])
 }
 
 // The first place of the production whose word stands at k in the tables.
@@ -167,7 +172,15 @@ pub fn first_place(tables: &[u16], k: usize) -> usize
     requires { (k < table_words) × (length tables.now ≡ table_words) }
     ensures { result ≡ get_or tables.now k 0 }
 {
-    base::index(tables[k])
+    usize::from(tables[k])
+}
+
+// The first places of the productions of nonterminal a.
+pub fn first_places(tables: &[u16], a: usize) -> &[u16]
+    requires { TablesFit tables.now × (a < nonterminals_in tables.now) }
+    ensures { result.now ≡ alternatives (grammar_in tables.now) a }
+{
+    &tables[rule_at(tables, a)..rule_at(tables, a + 1)]
 }
 
 // The row of left corners that the tables hold for nonterminal a.
@@ -176,8 +189,8 @@ pub fn corner_row(tables: &[u16], a: usize) -> u32
     ensures { result ≡ corner_row tables.now a }
 {
     let at = CORNERS + 2 * a;
-    let low = base::index(tables[at]);
-    let high = base::index(tables[at + 1]);
+    let low = usize::from(tables[at]);
+    let high = usize::from(tables[at + 1]);
     base::word(low + high * HALF)
 }
 

@@ -33,13 +33,14 @@ module _ (g : Grammar) (t place : ℕ) {p : ℕ} {x : Place} (at : p ≡ place) 
   unfolding passes_at
   passes-token k e a = a ∙ passes-here (Token k) e
 
-  pub passes-call : (a : ℕ) → x.symbol ≡ Nonterminal a → false ≡ passes_at g t (facing g place)
+  pub passes-other : ((k : ℕ) → x.symbol ≡ Token k → ⊥) → false ≡ passes_at g t (facing g place)
   unfolding passes_at
-  passes-call a e = passes-here (Nonterminal a) e
-
-  pub passes-end : x.symbol ≡ End → false ≡ passes_at g t (facing g place)
-  unfolding passes_at
-  passes-end e = passes-here End e
+  passes-other n = go x.symbol refl
+    where
+      go : (s : Symbol) → x.symbol ≡ s → false ≡ passes_at g t (facing g place)
+      go (Token k) e = absurd (n k e)
+      go (Nonterminal a) e = passes-here (Nonterminal a) e
+      go End e = passes-here End e
 
 -- what a token passes is a place of the tables
 pub passes-in : (ts : List ℕ) (t place : ℕ) {r : Bool} → r ≡ passes_at (grammar_in ts) t (facing (grammar_in ts) place) → r ≡ true → place ≤ end_place

@@ -1,20 +1,19 @@
 -- The code's ways through the rules: comparisons of words, searches in the arrays.
 use mathlib.Core.Path.{◌≡◌, refl, sym, ap, ◌∙◌}
 use mathlib.Core.Logic.{◌⊎◌, inl, inr}
-use mathlib.Core.Bool.{Bool, true, false, ◌||◌, not, cond}
+use mathlib.Core.Bool.{Bool, true, false, ◌||◌, cond}
 use mathlib.Core.List.Memᴰ
 use mathlib.Core.List.{List, [], ◌∷◌}
 use Prim.Native.Nat.{ℕ, ◌+◌, ◌-◌, ◌≤◌, ◌<◌}
 use native.Mathlib.Omega.{arith}
-use lib.Dec.{T, eqb}
-use borrow.Author.Tests.{eq-eqb, ne_eqb}
+use lib.Dec.{T}
 use Rattle.base.specs.Rounds.{any_of}
 use Rattle.base.proofs.Booleans.{same, or-T, T-or-l, T-or-r}
 use Rattle.learning.specs.declared.rules.Outcome.TheVariants.{Full, Alternative, State}
 use Rattle.lookahead.specs.Configs.{Config, In}
 use Rattle.configurations.specs.declared.config.Packed.{Packed}
 use Rattle.configurations.specs.inside.Packed.{config_of, packed_at}
-use Rattle.lookahead.specs.Outcomes.{alternative, state, rivals, conflicts, agreed, shared, settled, resolved, judged}
+use Rattle.lookahead.specs.Outcomes.{alternative, state, conflicts, agreed, shared, settled, resolved, judged}
 use Rattle.configurations.specs.inside.Held.{config_at, configs_from}
 use Rattle.learning.specs.inside.Told.{Tells, Judges}
 use Rattle.lookahead.proofs.TestLaws.{rivals-right, conflicts-right, shared-out, shared-in, any_out, any-in}
@@ -58,92 +57,8 @@ pub shared-pairs : (ks : List Config) → pairs ks ≡ shared ks
 shared-pairs ks = same (pairs ks) (shared ks) (λ t. let h = pairs-out ks t in shared-in ks h.0 h.1 h.2 h.3 h.4)
     (λ t. let h = shared-out ks t in pairs-in ks h.0 h.1 h.2 h.3 h.4)
 
--- the pairs of c with those from j on, and those of all from i on, are left to compare
-pub record Paired (ws : List ℕ) (f n i : ℕ) (c : Config) (j : ℕ) : Type 0 where
-  pub outer : i ≤ n
-  pub inner : j ≤ n
-  pub behind : i ≤ j
-  pub same : (any_of (conflicts c) (configs_from ws j (n - j)) || pairs (configs_from ws i (n - i))) ≡ shared (configs_from ws f (n - f))
-
 -- ---- searches among the members
 module _ (ws : List ℕ) where
-  -- all have alternative b
-  module _ (b k n : ℕ) {v : Bool} (h : agreed b (configs_from ws k (n - k)) ≡ v) where
-    other : Config → Bool
-    other c = not (eqb c.alternative b)
-
-    flip : (w : Bool) → not w ≡ v → w ≡ not v
-    flip true e = ap not e
-    flip false e = ap not e
-
-    back : (w : Bool) → w ≡ not v → not w ≡ v
-    back w e = ap not e ∙ twice v
-      where
-        twice : (v : Bool) → not (not v) ≡ v
-        twice true = refl
-        twice false = refl
-
-    asked : any_of other (configs_from ws k (n - k)) ≡ not v
-    unfolding agreed other
-    asked = flip (any_of (λ (c : Config). not (eqb c.alternative b)) (configs_from ws k (n - k))) h
-
-    module _ (l : k < n) {c : Packed} {a : ℕ} (is : c ≡ packed_at ws k) (e : a ≡ (config_of c).alternative) where
-      pub agreed-not : (a ≡ b → ⊥) → false ≡ v
-      unfolding other
-      agreed-not z = back true (any-hit ws other k n asked l (test_at ws other k is refl (ap not (ne_eqb (config_of c).alternative b (λ y. z (e ∙ y))))))
-
-      pub agreed-next : a ≡ b → agreed b (configs_from ws (k + 1) (n - (k + 1))) ≡ v
-      unfolding agreed other
-      agreed-next z = back (any_of (λ (c : Config). not (eqb c.alternative b)) (configs_from ws (k + 1) (n - (k + 1))))
-          (any_next ws other k n asked l (test_at ws other k is refl (ap not (eq-eqb (config_of c).alternative b (sym e ∙ z)))))
-
-    pub agreed-end : n ≤ k → true ≡ v
-    agreed-end l = back false (any-end ws other k n asked l)
-
-  -- no rival of c
-  module _ (c : Config) (k n : ℕ) {v : Bool} (h : not (any_of (rivals c) (configs_from ws k (n - k))) ≡ v) where
-    turn : (w : Bool) → not w ≡ v → w ≡ not v
-    turn true e = ap not e
-    turn false e = ap not e
-
-    turn-back : (w v : Bool) → w ≡ not v → not w ≡ v
-    turn-back w true e = ap not e
-    turn-back w false e = ap not e
-
-    module _ (l : k < n) {d : Packed} {r : Bool} (is : d ≡ packed_at ws k) (e : r ≡ rivals c (config_of d)) where
-      pub alone-not : r ≡ true → false ≡ v
-      alone-not z = turn-back true v (any-hit ws (rivals c) k n (turn (any_of (rivals c) (configs_from ws k (n - k))) h) l (test_at ws (rivals c) k is e z))
-
-      pub alone-next : r ≡ false → not (any_of (rivals c) (configs_from ws (k + 1) (n - (k + 1)))) ≡ v
-      alone-next z = turn-back (any_of (rivals c) (configs_from ws (k + 1) (n - (k + 1)))) v
-          (any_next ws (rivals c) k n (turn (any_of (rivals c) (configs_from ws k (n - k))) h) l (test_at ws (rivals c) k is e z))
-
-    pub alone-end : n ≤ k → true ≡ v
-    alone-end l = turn-back false v (any-end ws (rivals c) k n (turn (any_of (rivals c) (configs_from ws k (n - k))) h) l)
-
-  -- some place of one alternative only, among ks
-  module _ (ks : List Config) (k n : ℕ) {v : Bool} (h : any_of (λ (c : Config). not (any_of (rivals c) ks)) (configs_from ws k (n - k)) ≡ v) where
-    lone : Config → Bool
-    lone c = not (any_of (rivals c) ks)
-
-    module _ (l : k < n) {c : Packed} {r : Bool} (is : c ≡ packed_at ws k) (e : r ≡ not (any_of (rivals (config_of c)) ks)) where
-      pub settled-hit : r ≡ true → true ≡ v
-      unfolding lone
-      settled-hit z = any-hit ws lone k n h l (test_at ws lone k is e z)
-
-      pub settled-next : r ≡ false → any_of (λ (c : Config). not (any_of (rivals c) ks)) (configs_from ws (k + 1) (n - (k + 1))) ≡ v
-      unfolding lone
-      settled-next z = any_next ws lone k n h l (test_at ws lone k is e z)
-
-    pub settled-end : n ≤ k → false ≡ v
-    unfolding lone
-    settled-end l = any-end ws lone k n h l
-
-  pub settled-whole : (f n : ℕ) → any_of (λ (c : Config). not (any_of (rivals c) (configs_from ws f (n - f)))) (configs_from ws f (n - f))
-      ≡ settled (configs_from ws f (n - f))
-  unfolding settled
-  settled-whole f n = refl
-
   -- pairs from i on
   module _ (i n : ℕ) {v : Bool} (h : pairs (configs_from ws i (n - i)) ≡ v) where
     pub pairs_first : i < n → {c : Packed} → c ≡ packed_at ws i

@@ -13,7 +13,7 @@ ghost use Rattle.configurations.specs.inside.Held.{configs_from, Room, Grows};
 ghost use Rattle.learning.specs.inside.Told.{Tells, outcome_of, Gathers};
 
 use crate::rules::Outcome;
-use configurations::{Added, Packed};
+use configurations::Packed;
 use grammar::Symbol;
 
 // The outcome of the first members.
@@ -22,34 +22,25 @@ fn finish(tables: &[u16], members: &mut [u32], from: usize) -> Outcome
     ensures { Tells result members.new (outcome_of (grammar_in tables.now)
         (close_from (grammar_in tables.now) max_members 0 (configs_from members.old 0 from))) }
 {
-    let Added::Count(n) = closing::close(tables, members, from) else {
+    let Some(n) = closing::close(tables, members, from) else {
         return Outcome::Full;
     };
-    let Added::Count(first) = configurations::sort(tables, members, n) else {
+    let Some(first) = configurations::sort(tables, members, n) else {
         return Outcome::Full;
     };
     crate::rules::judge(members, first, n)
 }
 
 // The first place of each production of nonterminal a; alternatives count from 1.
-fn begin(tables: &[u16], members: &mut [u32], a: usize) -> Added
+fn begin(tables: &[u16], members: &mut [u32], a: usize) -> Option<usize>
     requires { Gathers tables.now members.old a }
     ensures { Grows result members.new (add_all [] (start_configs (grammar_in tables.now) a)) }
 {
-    let start = grammar::rule_at(tables, a);
-    let end = grammar::rule_at(tables, a + 1);
     let mut n = 0;
-    let mut k = start;
-    while k < end {
-        let f = grammar::first_place(tables, k);
-        let c = configurations::begun(f, k - start + 1);
-        let Added::Count(m) = configurations::add(members, n, c) else {
-            return Added::Full;
-        };
-        n = m;
-        k += 1;
+    for (k, f) in grammar::first_places(tables, a).iter().enumerate() {
+        n = configurations::add(members, n, configurations::begun(usize::from(*f), k + 1))?;
     }
-    Added::Count(n)
+    Some(n)
 }
 
 // Whether token t may stand where c is.
@@ -57,46 +48,37 @@ fn passes(tables: &[u16], t: usize, c: Packed) -> bool
     requires { length tables.now ≡ table_words }
     ensures { result ≡ passes_at (grammar_in tables.now) t (facing (grammar_in tables.now) (config_of c).place) }
 {
-    let place = grammar::place_at(tables, c.place());
-    let symbol = place.symbol;
-    match symbol {
+    match grammar::place_at(tables, c.place()).symbol {
         Symbol::Token(k) => grammar::admits(tables, k, t),
-        Symbol::Nonterminal(_) => false,
-        Symbol::End => false,
+        _ => false,
     }
 }
 
 // One place behind c, unless its stack is too deep.
-fn pass(members: &mut [u32], n: usize, c: Packed) -> Added
+fn pass(members: &mut [u32], n: usize, c: Packed) -> Option<usize>
     requires { Room members.old n × ((config_of c).place ≤ end_place) }
     ensures { Grows result members.new (add (configs_from members.old 0 n) (onward (config_of c))) }
 {
     if configurations::ENTRIES < c.entries() {
-        return Added::Full;
+        return None;
     }
     configurations::add(members, n, c.onward())
 }
 
 // The configurations of a state that face token t, one place on.
-fn advance(tables: &[u16], t: usize, configs: &[u32], members: &mut [u32]) -> Added
+fn advance(tables: &[u16], t: usize, configs: &[u32], members: &mut [u32]) -> Option<usize>
     requires { Ready tables.now × (length members.old ≡ member_words) }
     ensures { Grows result members.new
         (add_all [] (step_configs (grammar_in tables.now) t (unpack_all configs.now))) }
 {
-    let count = configs.len() / configurations::CONFIG_WORDS;
     let mut n = 0;
-    let mut j = 0;
-    while j < count {
+    for j in 0..configs.len() / configurations::CONFIG_WORDS {
         let c = configurations::member(configs, j);
-        j += 1;
         if passes(tables, t, c) {
-            let Added::Count(m) = pass(members, n, c) else {
-                return Added::Full;
-            };
-            n = m;
+            n = pass(members, n, c)?;
         }
     }
-    Added::Count(n)
+    Some(n)
 }
 
 // The outcome of the start of decision a. It is worked out in `members`, and so the words of a state are left there.
@@ -104,7 +86,7 @@ pub fn start(tables: &[u16], a: usize, members: &mut [u32]) -> Outcome
     requires { Gathers tables.now members.old a }
     ensures { Tells result members.new (start_outcome (grammar_in tables.now) a) }
 {
-    let Added::Count(n) = begin(tables, members, a) else {
+    let Some(n) = begin(tables, members, a) else {
         return Outcome::Full;
     };
     finish(tables, members, n)
@@ -115,7 +97,7 @@ pub fn step(tables: &[u16], t: usize, configs: &[u32], members: &mut [u32]) -> O
     requires { Ready tables.now × (length members.old ≡ member_words) }
     ensures { Tells result members.new (step_outcome (grammar_in tables.now) t (unpack_all configs.now)) }
 {
-    let Added::Count(n) = advance(tables, t, configs, members) else {
+    let Some(n) = advance(tables, t, configs, members) else {
         return Outcome::Full;
     };
     finish(tables, members, n)

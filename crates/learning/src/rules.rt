@@ -1,4 +1,5 @@
-// Rules 2 to 5 on the kept configurations, which stand from `first` on up to n.
+// Rules 2 to 5 on the kept configurations, which stand from `first` on up to n. As a struct of the row and the two numbers they were tried: each clause
+// then reads `self.entry.members.now` for `members.now`, which is no plainer.
 ghost use Rattle.std.specs.Prelude.{◌≡◌, not, ◌-◌, ◌≤◌};
 ghost use Rattle.base.specs.Rounds.{any_of};
 ghost use Rattle.configurations.specs.inside.Packed.{config_of};
@@ -21,15 +22,7 @@ fn agreed(members: &[u32], from: usize, n: usize, b: u32) -> bool
     requires { Room members.now n × (from ≤ n) }
     ensures { result ≡ agreed b (configs_from members.now from (n - from)) }
 {
-    let mut k = from;
-    while k < n {
-        let c = configurations::member(members, k);
-        if c.alternative() != b {
-            return false;
-        }
-        k += 1;
-    }
-    true
+    (from..n).all(|k| configurations::member(members, k).alternative() == b)
 }
 
 // Whether two alternatives share a place and a stack. The search ends at the first such pair. Those with the same stack stand together.
@@ -38,12 +31,9 @@ fn shared(members: &[u32], first: usize, n: usize) -> bool
     ensures { result ≡ shared (configs_from members.now first (n - first)) }
 {
     let mut found = false;
-    let mut i = first;
-    'search: while i < n {
+    'search: for i in first..n {
         let c = configurations::member(members, i);
-        i += 1;
-        let mut j = i;
-        while j < n {
+        for j in i + 1..n {
             let d = configurations::member(members, j);
             if !c.level(d) {
                 break;
@@ -52,7 +42,6 @@ fn shared(members: &[u32], first: usize, n: usize) -> bool
                 found = true;
                 break 'search;
             }
-            j += 1;
         }
     }
     found
@@ -63,15 +52,7 @@ fn alone(members: &[u32], first: usize, n: usize, c: Packed) -> bool
     requires { Room members.now n × (first ≤ n) }
     ensures { result ≡ not (any_of (rivals (config_of c)) (configs_from members.now first (n - first))) }
 {
-    let mut k = first;
-    while k < n {
-        let d = configurations::member(members, k);
-        if c.rivals(d) {
-            return false;
-        }
-        k += 1;
-    }
-    true
+    !(first..n).any(|k| c.rivals(configurations::member(members, k)))
 }
 
 // Whether some place belongs to one alternative only.
@@ -79,15 +60,7 @@ fn settled(members: &[u32], first: usize, n: usize) -> bool
     requires { Room members.now n × (first ≤ n) }
     ensures { result ≡ settled (configs_from members.now first (n - first)) }
 {
-    let mut k = first;
-    while k < n {
-        let c = configurations::member(members, k);
-        if alone(members, first, n, c) {
-            return true;
-        }
-        k += 1;
-    }
-    false
+    (first..n).any(|k| alone(members, first, n, configurations::member(members, k)))
 }
 
 // Rules 2 to 5, in order.
@@ -98,15 +71,11 @@ pub fn judge(members: &[u32], first: usize, n: usize) -> Outcome
     if first == n {
         return Outcome::Full;
     }
-    let c = configurations::member(members, first);
-    let b = c.alternative();
+    let b = configurations::member(members, first).alternative();
     if agreed(members, first + 1, n, b) {
         return Outcome::Alternative(b);
     }
-    if !shared(members, first, n) {
-        return Outcome::State(first, n - first);
-    }
-    if settled(members, first, n) {
+    if !shared(members, first, n) || settled(members, first, n) {
         return Outcome::State(first, n - first);
     }
     Outcome::Full

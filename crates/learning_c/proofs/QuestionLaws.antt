@@ -4,13 +4,13 @@ use mathlib.Core.List.{List}
 use Prim.Native.Nat.{ℕ, ◌≤◌, ◌<◌, ◌^◌}
 use lib.ListN.{length, get_or}
 use borrow.Author.Tests.{lt-ltb, le-ltb}
+use Rattle.std.specs.Prelude.{Ok, Err}
 use Rattle.number.specs.declared.Refusal.{Refusal}
 use Rattle.grammar.specs.Limits.{max_kinds}
 use Rattle.grammar.specs.Grammar.{Grammar}
 use Rattle.grammar.specs.inside.Tables.{grammar_in, nonterminals_in}
 use Rattle.grammar.proofs.WordLaws.{length-starts-in}
-use Rattle.soundness.specs.declared.judgement.Verdict.{Verdict}
-use Rattle.soundness.specs.declared.judgement.Verdict.TheVariants.{Sound, Refused}
+use Rattle.soundness.specs.Verdict.{Verdict}
 use Rattle.soundness.specs.inside.Compiled.{Compiled}
 use Rattle.derivation.proofs.ReadyLaws.{compiled-refuses, compiled-passes}
 use Rattle.words.specs.Layout.{min_words, slots, slot_at}
@@ -54,18 +54,18 @@ module _ (g : Grammar) (c : List ℕ) (s t : ℕ) where
 
 -- ---- for any bytes
 module _ (s c : List ℕ) {v : Verdict} {t : List ℕ} (k : Compiled s v t) where
-  pub start-refused : (a : ℕ) {q : Refusal} → v ≡ Refused q → learned 0 c ≡ start_asked s c a
+  pub start-refused : (a : ℕ) {q : Refusal} → v ≡ Err q → learned 0 c ≡ start_asked s c a
   unfolding start_asked
   start-refused a e = rw (compiled-refuses s k e)
 
-  pub start-asked : {a b : ℕ} {x : Learned} → v ≡ Sound → b ≡ a → x ≡ start_in (grammar_in t) c b → x ≡ start_asked s c a
+  pub start-asked : {a b : ℕ} {x : Learned} → v ≡ Ok tt → b ≡ a → x ≡ start_in (grammar_in t) c b → x ≡ start_asked s c a
   unfolding start_asked
   start-asked {a} e f q = rw (compiled-passes s k e) (rw f at q)
 
-  pub step-refused : (n i : ℕ) {q : Refusal} → v ≡ Refused q → learned 0 c ≡ step_asked s c n i
+  pub step-refused : (n i : ℕ) {q : Refusal} → v ≡ Err q → learned 0 c ≡ step_asked s c n i
   unfolding step_asked
   step-refused n i e = rw (compiled-refuses s k e)
 
-  pub step-asked : {n m i j : ℕ} {x : Learned} → v ≡ Sound → m ≡ n → j ≡ i → x ≡ step_in (grammar_in t) c m j → x ≡ step_asked s c n i
+  pub step-asked : {n m i j : ℕ} {x : Learned} → v ≡ Ok tt → m ≡ n → j ≡ i → x ≡ step_in (grammar_in t) c m j → x ≡ step_asked s c n i
   unfolding step_asked
   step-asked {n} {m} {i} e f h q = rw (compiled-passes s k e) (rw (f, h) at q)

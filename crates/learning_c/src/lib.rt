@@ -8,8 +8,6 @@ ghost use Rattle.derivation.specs.inside.Ready.{Ready};
 ghost use Rattle.cache.specs.Recording.{learned};
 ghost use Rattle.learning_c.specs.Questions.{start_in, step_in, start_asked, step_asked};
 
-use soundness::Verdict;
-
 // The start of decision a, for a sound grammar.
 fn start(tables: &[u16], cache: &mut [u32], a: usize) -> u32
     requires { Ready tables.now }
@@ -45,10 +43,9 @@ pub extern "C" fn learning_start(grammar: &[u8], cache: &mut [u32], decision: u3
     ensures { learned result cache.new ≡ start_asked grammar.now cache.old decision }
 {
     let mut tables = [0u16; grammar::TABLE_WORDS];
-    let verdict = soundness::compile(grammar, &mut tables);
-    match verdict {
-        Verdict::Refused(_) => 0,
-        Verdict::Sound => start(&tables, cache, base::number(decision)),
+    match soundness::compile(grammar, &mut tables) {
+        Err(_) => 0,
+        Ok(()) => start(&tables, cache, base::number(decision)),
     }
 }
 
@@ -58,9 +55,8 @@ pub extern "C" fn learning_step(grammar: &[u8], cache: &mut [u32], state: u32, t
     ensures { learned result cache.new ≡ step_asked grammar.now cache.old state token }
 {
     let mut tables = [0u16; grammar::TABLE_WORDS];
-    let verdict = soundness::compile(grammar, &mut tables);
-    match verdict {
-        Verdict::Refused(_) => 0,
-        Verdict::Sound => step(&tables, cache, base::number(state), base::number(token)),
+    match soundness::compile(grammar, &mut tables) {
+        Err(_) => 0,
+        Ok(()) => step(&tables, cache, base::number(state), base::number(token)),
     }
 }

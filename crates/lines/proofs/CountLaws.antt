@@ -3,8 +3,7 @@ use mathlib.Core.Path.{◌≡◌}
 use Prim.Native.Nat.{ℕ, ◌≤◌}
 use Rattle.lines.specs.Line.{max_line_tokens}
 use Rattle.lines.specs.inside.Parsed.{line_count}
-use Rattle.lines.specs.declared.Line.{Line}
-use Rattle.lines.specs.declared.Line.TheVariants.{Note}
+use Rattle.std.specs.Prelude.{Option, Some}
 
-pub count_most : {l : Line} (n : ℕ) → line_count l ≤ max_line_tokens → l ≡ Note n → n ≤ max_line_tokens
+pub count_most : {l : Option ℕ} (n : ℕ) → line_count l ≤ max_line_tokens → l ≡ Some n → n ≤ max_line_tokens
 count_most n h e = rw e at h

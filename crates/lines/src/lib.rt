@@ -1,9 +1,13 @@
-// The lines of the programs: what a line of `notes` says, and the part of a line that is kept while it is read.
+// The lines of the programs: what a line of `notes` says, the part of a line that is kept while it is read, and how input is read.
 #![tactic(auto)]
 
 ghost use Rattle.std.specs.Prelude.{◌≡◌, ◌++◌, ◌∷◌, [], ◌≤◌, length, take};
 ghost use Rattle.lines.specs.Line.{max_line_tokens, line_of};
 ghost use Rattle.lines.specs.inside.Parsed.{note_in, line_count};
+
+mod filling;
+
+pub use filling::read_full;
 
 // The most tokens of a line, the most digits of a token, and the highest token. specs/Line has the same.
 pub const MAX_TOKENS: usize = 16;
@@ -15,69 +19,56 @@ const MAX_TOKEN: usize = 65535;
 // The bytes of a line that are kept: one more than any good line has, so that a longer line is still bad.
 pub const KEPT_BYTES: usize = MAX_TOKENS * (MAX_DIGITS + 1);
 
-// What a line says.
-#[derive(Clone, Copy)]
-pub enum Line {
-    // A note of so many tokens.
-    Note(usize),
-    // Anything else.
-    Bad,
-}
-
 // Reads a line, without its end: up to MAX_TOKENS tokens, each of 1 to MAX_DIGITS digits and at most MAX_TOKEN, single blanks between. The tokens are put at
-// the note's start.
-pub fn parse(line: &[u8], note: &mut [u16]) -> Line
+// the note's start. Answers how many, or nothing where the line is anything else.
+pub fn parse(line: &[u8], note: &mut [u16]) -> Option<usize>
     requires { max_line_tokens ≤ length note.old }
     ensures note_after { note_in result note.new ≡ line_of line.now }
     ensures result_bound { line_count result ≤ max_line_tokens }
 {
-    let n = line.len();
-    if n == 0 {
-        return Line::Note(0);
+    if line.len() == 0 {
+        return Some(0);
     }
-    let mut i = 0;
     let mut count = 0;
     let mut digits = 0usize;
     let mut value = 0;
-    while i < n {
-        let b = base::wide(line[i]);
-        i += 1;
-        if b == 32 {
+    for byte in line {
+        if *byte == b' ' {
             if digits == 0 {
-                return Line::Bad;
+                return None;
             }
             if MAX_TOKENS <= count {
-                return Line::Bad;
+                return None;
             }
             note[count] = base::narrow(value);
             count += 1;
             digits = 0;
             value = 0;
-        } else {
-            if b < 48 {
-                return Line::Bad;
-            }
-            if 57 < b {
-                return Line::Bad;
-            }
-            if MAX_DIGITS <= digits {
-                return Line::Bad;
-            }
-            value = 10 * value + (b - 48);
-            if MAX_TOKEN < value {
-                return Line::Bad;
-            }
-            digits += 1;
+            continue;
         }
+        if *byte < b'0' {
+            return None;
+        }
+        if b'9' < *byte {
+            return None;
+        }
+        if MAX_DIGITS <= digits {
+            return None;
+        }
+        value = 10 * value + usize::from(*byte - b'0');
+        if MAX_TOKEN < value {
+            return None;
+        }
+        digits += 1;
     }
     if digits == 0 {
-        return Line::Bad;
+        return None;
     }
     if MAX_TOKENS <= count {
-        return Line::Bad;
+        return None;
     }
     note[count] = base::narrow(value);
-    Line::Note(count + 1)
+    Some(count + 1)
 }
 
 // Keeps one more byte of a line, if there is room, and answers how many are kept.

@@ -3,7 +3,7 @@ pub mod GoodLaws
 pub mod PushLaws
 pub mod ServingLaws
 pub mod KeepLaws
-pub mod SeekLaws
+pub mod LowestLaws
 pub mod AlternativeLaws
 pub mod MoveLaws
 pub mod AdvanceLaws

@@ -7,7 +7,7 @@ ghost use Rattle.gate.specs.Reading.{answered};
 ghost use Rattle.reach.specs.inside.Passes.{Given};
 ghost use Rattle.machine.specs.inside.Ending.{outcome_in, Counted};
 
-use gate::Reading;
+use gate::ReadingRefusal;
 use positions::Positions;
 
 // How the machine stops: with so many entries of the row written; where nothing fits; where the row is full and a nonterminal waits.
@@ -24,17 +24,22 @@ fn is_sentence(tables: &[u16], note: &[u16], ws: &[u32]) -> bool
     ensures { result ≡ sentence? (grammar_in tables.now) note.now }
 {
     let s = Positions::empty().with(note.len());
-    crate::choice::lowest(tables, ws, 0, 0, s) != 0
+    crate::choice::lowest(tables, ws, 0, 0, s).is_some()
 }
 
 // No sentence: zeros, and the place where the note goes wrong.
-fn no_sentence(tables: &[u16], note: &[u16], row: &mut [u16], ws: &[u32]) -> Reading
+fn no_sentence(
+    tables: &[u16],
+    note: &[u16],
+    row: &mut [u16],
+    ws: &[u32],
+) -> Result<usize, ReadingRefusal>
     requires { Given tables.now note.now ws.now }
     ensures { answered result row.new ≡ clear 10 (wrong_place (grammar_in tables.now) note.now) row.old }
 {
     base::clear_from(row, 0);
     let wrong = reach::wrong_place(tables, note, ws);
-    Reading::NoSentence(wrong)
+    Err(ReadingRefusal::NoSentence(wrong))
 }
 
 // What follows from how the machine stopped: where the row was full, the note alone decides between 10 and 14.
@@ -44,7 +49,7 @@ pub fn finish(
     row: &mut [u16],
     ws: &[u32],
     outcome: Conclusion,
-) -> Reading
+) -> Result<usize, ReadingRefusal>
     requires { Given tables.now note.now ws.now × Counted outcome row.old }
     ensures { answered result row.new
         ≡ on_conclusion (grammar_in tables.now) note.now row.old (outcome_in outcome row.old) }
@@ -52,13 +57,13 @@ pub fn finish(
     match outcome {
         Conclusion::Accepted(entries) => {
             base::clear_from(row, entries);
-            Reading::Accepted(entries)
+            Ok(entries)
         }
         Conclusion::Stuck => no_sentence(tables, note, row, ws),
         Conclusion::Full => {
             if is_sentence(tables, note, ws) {
                 base::clear_from(row, 0);
-                return Reading::ShortRow;
+                return Err(ReadingRefusal::ShortRow);
             }
             no_sentence(tables, note, row, ws)
         }

@@ -7,7 +7,7 @@ ghost use Rattle.derivation.specs.Runs.{marked};
 ghost use Rattle.derivation.specs.Space.{max_tokens};
 ghost use Rattle.derivation.specs.inside.Frames.{frame_words};
 ghost use Rattle.derivation.specs.inside.Ready.{Ready};
-ghost use Rattle.machine.specs.inside.Choice.{lowest_in};
+ghost use Rattle.machine.specs.inside.Choice.{Numbered, lowest_in};
 ghost use Rattle.machine.specs.inside.Space.{Named, push_if, Spaced};
 ghost use Rattle.machine.specs.inside.Moves.{Advanced, Entered};
 ghost use Rattle.machine.specs.inside.Waits.{Calling, Choosing, Enters, Called};
@@ -45,7 +45,7 @@ pub fn space_of(tables: &[u16], note: &[u16]) -> Space
 {
     let places = grammar::size(tables);
     Space {
-        places: places,
+        places,
         base: positions::WORDS * ((note.len() + 1) * places),
     }
 }
@@ -70,9 +70,7 @@ pub fn advance(tables: &[u16], note: &[u16], ws: &[u32], base: usize, from: At) 
     let mut i = from.position;
     let mut d = from.depth;
     loop {
-        let place = grammar::place_at(tables, p);
-        let symbol = place.symbol;
-        match symbol {
+        match grammar::place_at(tables, p).symbol {
             Symbol::End => {
                 if d == 0 {
                     if i == n + 1 {
@@ -127,25 +125,36 @@ pub fn enter(
     advance(tables, note, ws, base, start)
 }
 
-// The lowest alternative of a by which a position in s is come to, 0 if there is none. If there is one, at.place with s becomes frame at.depth.
-fn choose(tables: &[u16], ws: &mut [u32], base: usize, at: At, a: usize, s: Positions) -> usize
+// The lowest alternative of a by which a position in s is come to. If there is one, at.place with s becomes frame at.depth.
+fn choose(
+    tables: &[u16],
+    ws: &mut [u32],
+    base: usize,
+    at: At,
+    a: usize,
+    s: Positions,
+) -> Option<usize>
     requires { Choosing tables.now ws.old base at a }
-    ensures { (result ≡ lowest_in tables.now ws.old a at.position s.words)
-        × (ws.new ≡ push_if result ws.old base at.depth at.place s.words) }
+    ensures { Numbered result (λ r. (r ≡ lowest_in tables.now ws.old a at.position s.words)
+        × (ws.new ≡ push_if r ws.old base at.depth at.place s.words)) }
 {
-    let b = crate::choice::lowest(tables, ws, a, at.position, s);
-    if b == 0 {
-        return 0;
-    }
+    let b = crate::choice::lowest(tables, ws, a, at.position, s)?;
     crate::frames::push(ws, base, at.depth, at.place, s);
-    b
+    Some(b)
 }
 
-// Nonterminal a waits: the lowest alternative that serves, 0 if none does. If there is one, at.place becomes frame at.depth. The set of positions from
-// which what stays open derives the rest is the note's end alone where a reading begins.
-pub fn call(tables: &[u16], note: &[u16], ws: &mut [u32], space: Space, at: At, a: usize) -> usize
+// Nonterminal a waits: the lowest alternative that serves. If there is one, at.place becomes frame at.depth. The set of positions from which what stays open
+// derives the rest is the note's end alone where a reading begins.
+pub fn call(
+    tables: &[u16],
+    note: &[u16],
+    ws: &mut [u32],
+    space: Space,
+    at: At,
+    a: usize,
+) -> Option<usize>
     requires { Calling tables.now note.now ws.old space at a }
-    ensures { Called tables.now note.now ws.old ws.new at.depth at.place a at.position result }
+    ensures { Numbered result (Called tables.now note.now ws.old ws.new at.depth at.place a at.position) }
 {
     let n = note.len();
     if at.depth == 0 {

@@ -4,29 +4,27 @@ use mathlib.Core.Path.{◌≡◌, refl, ap, ◌∙◌}
 use mathlib.Core.List.{List, [], ◌∷◌}
 use Prim.Native.Nat.{ℕ}
 use lib.ListN.{length}
+use Rattle.std.specs.Prelude.{Ok, Err}
 use Rattle.base.proofs.Booleans.{clash}
 use Rattle.number.specs.declared.Refusal.{Refusal}
 use Rattle.grammar.specs.Decode.{Rules, Mark, Parsed, got, refused, decode}
 use Rattle.grammar.specs.Grammar.{Grammar, compile}
 use Rattle.grammar.proofs.PlaceLaws.{length-starts_all}
-use Rattle.soundness.specs.declared.judgement.Verdict.{Verdict}
-use Rattle.soundness.specs.declared.judgement.Verdict.TheVariants.{Sound, Refused as Unsound}
+use Rattle.soundness.specs.Verdict.{Verdict}
 use Rattle.soundness.specs.Check.{check_of, verdict_number, verdict_place}
 use Rattle.soundness.proofs.CheckLaws.{check-refuses}
-use Rattle.measuring.specs.declared.answer.Sizes.{Sizes}
-use Rattle.measuring.specs.declared.answer.Measure.{Measure}
-use Rattle.measuring.specs.declared.answer.Measure.TheVariants.{Measured}
-use Rattle.measuring.specs.Measuring.{sizes_of, measured, measured_as, measure_number, measure_place, measure_of, figures, figures_of}
+use Rattle.measuring.specs.declared.measuring.Sizes.{Sizes}
+use Rattle.measuring.specs.Measuring.{Measure, sizes_of, measured, measured_as, measure_number, measure_place, measure_of, figures, figures_of}
 
 -- a measure has the number and the place of a verdict
 abbrev pub Agrees : Measure → Verdict → Type 0
 Agrees m v = (measure_number m ≡ verdict_number v) × (measure_place m ≡ verdict_place v)
 
 by-verdict : (v : Verdict) (r : Rules) → Agrees (measured v r) v
-by-verdict Sound r = (refl, refl)
-by-verdict (Unsound f) r = (refl, refl)
+by-verdict (Ok tt) r = (refl, refl)
+by-verdict (Err f) r = (refl, refl)
 
-by-parsed : (v : Verdict) (d : Parsed Rules) → ((f : Refusal) → d ≡ refused f → v ≡ Unsound f) → Agrees (measured_as v d) v
+by-parsed : (v : Verdict) (d : Parsed Rules) → ((f : Refusal) → d ≡ refused f → v ≡ Err f) → Agrees (measured_as v d) v
 by-parsed v (got r m) h = by-verdict v r
 by-parsed v (refused f) h = rw (h f refl) (refl, refl)
 
@@ -40,12 +38,12 @@ pub record SizesOf (g : Grammar) (z : Sizes) : Type 0 where
   pub nonterminals : length g.starts ≡ z.nonterminals
   pub places : g.size ≡ z.places
 
-said : (v : Verdict) (d : Parsed Rules) (z : Sizes) → measured_as v d ≡ Measured z → (r : Rules) (m : Mark) → d ≡ got r m → sizes_of r ≡ z
-said Sound (got r' m') z e r m q = let y : r' ≡ r = cc in rw (← y) (cc)
-said (Unsound f) (got r' m') z e r m q = clash (cc)
+said : (v : Verdict) (d : Parsed Rules) (z : Sizes) → measured_as v d ≡ Ok z → (r : Rules) (m : Mark) → d ≡ got r m → sizes_of r ≡ z
+said (Ok tt) (got r' m') z e r m q = let y : r' ≡ r = cc in rw (← y) (cc)
+said (Err f) (got r' m') z e r m q = clash (cc)
 said v (refused f) z e r m q = clash (cc)
 
-pub measured-sizes : (s : List ℕ) (z : Sizes) → measure_of s ≡ Measured z → (r : Rules) (m : Mark) → decode s ≡ got r m → SizesOf (compile r) z
+pub measured-sizes : (s : List ℕ) (z : Sizes) → measure_of s ≡ Ok z → (r : Rules) (m : Mark) → decode s ≡ got r m → SizesOf (compile r) z
 unfolding measure_of sizes_of compile
 measured-sizes s z e r m q =
     let y : sizes_of r ≡ z = said (check_of s) (decode s) z e r m q in

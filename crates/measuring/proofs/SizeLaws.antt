@@ -3,6 +3,7 @@ use mathlib.Core.Path.{◌≡◌, refl, sym, ap, ◌∙◌}
 use mathlib.Core.List.{List}
 use Prim.Native.Nat.{ℕ}
 use lib.ListN.{length}
+use Rattle.std.specs.Prelude.{Ok, Err}
 use Rattle.base.proofs.Booleans.{clash}
 use Rattle.number.specs.declared.Refusal.{Refusal}
 use Rattle.grammar.specs.Decode.{Rules, Parsed, got, refused, decode}
@@ -10,13 +11,11 @@ use Rattle.grammar.specs.Grammar.{Grammar, compile}
 use Rattle.grammar.specs.inside.Tables.{grammar_in, nonterminals_in}
 use Rattle.grammar.proofs.PlaceLaws.{length-starts_all}
 use Rattle.grammar.proofs.WordLaws.{length-starts-in}
-use Rattle.soundness.specs.declared.judgement.Verdict.{Verdict}
-use Rattle.soundness.specs.declared.judgement.Verdict.TheVariants.{Sound, Refused as Unsound}
+use Rattle.soundness.specs.Verdict.{Verdict}
 use Rattle.soundness.specs.Check.{check_of}
 use Rattle.soundness.specs.inside.Compiled.{Compiled}
 use Rattle.soundness.proofs.CheckLaws.{check-refuses}
-use Rattle.measuring.specs.declared.answer.Sizes.{Sizes}
-use Rattle.measuring.specs.declared.answer.Measure.TheVariants.{Measured, Refused}
+use Rattle.measuring.specs.declared.measuring.Sizes.{Sizes}
 use Rattle.measuring.specs.Measuring.{sizes_of, measure_of}
 
 -- three sizes
@@ -33,31 +32,31 @@ sizes-in t r e =
 
 module _ (s : List ℕ) {v : Verdict} {t : List ℕ} (c : Compiled s v t) where
   -- what the check refuses is refused
-  pub measure-refused : {f : Refusal} → v ≡ Unsound f → Refused f ≡ measure_of s
+  pub measure-refused : {f : Refusal} → v ≡ Err f → Err f ≡ measure_of s
   unfolding measure_of
   measure-refused {f} e = go (decode s) refl
     where
-      verdict : check_of s ≡ Unsound f
+      verdict : check_of s ≡ Err f
       verdict = sym c.verdict ∙ e
 
-      go : (d : Parsed Rules) → decode s ≡ d → Refused f ≡ measure_of s
+      go : (d : Parsed Rules) → decode s ≡ d → Err f ≡ measure_of s
       go (got r m) q = rw (verdict, q)
       go (refused f') q =
-          let y : Unsound f' ≡ Unsound f = sym (check-refuses s f' q) ∙ verdict in
+          let y : Err f' ≡ Err f = sym (check-refuses s f' q) ∙ verdict in
           let z : f ≡ f' = cc in
           rw (q, z)
 
   -- and a sound grammar has the sizes that the tables say
-  module _ (e : v ≡ Sound) {k n p : ℕ} (is-k : k ≡ (grammar_in t).kinds) (is-n : n ≡ nonterminals_in t) (is-p : p ≡ (grammar_in t).size) where
-    pub measure-sound : Measured (sizes k n p) ≡ measure_of s
+  module _ (e : v ≡ Ok tt) {k n p : ℕ} (is-k : k ≡ (grammar_in t).kinds) (is-n : n ≡ nonterminals_in t) (is-p : p ≡ (grammar_in t).size) where
+    pub measure-sound : Ok (sizes k n p) ≡ measure_of s
     unfolding measure_of
     measure-sound = go (decode s) refl
       where
-        verdict : check_of s ≡ Sound
+        verdict : check_of s ≡ Ok tt
         verdict = sym c.verdict ∙ e
 
-        go : (d : Parsed Rules) → decode s ≡ d → Measured (sizes k n p) ≡ measure_of s
-        go (got r m) q = rw (verdict, q, is-k, is-n, is-p) (ap Measured (sizes-in t r (c.says r m q)))
+        go : (d : Parsed Rules) → decode s ≡ d → Ok (sizes k n p) ≡ measure_of s
+        go (got r m) q = rw (verdict, q, is-k, is-n, is-p) (ap Ok (sizes-in t r (c.says r m q)))
         go (refused f) q =
-            let y : Unsound f ≡ Sound = sym (check-refuses s f q) ∙ verdict in
+            let y : Err f ≡ Ok tt = sym (check-refuses s f q) ∙ verdict in
             clash (cc)

@@ -1,8 +1,6 @@
 // What a caller has to know of a grammar before lending working space: the check's verdict and, of a sound grammar, its three sizes.
 #![tactic(auto)]
 
-mod answer;
 mod measuring;
 
-pub use answer::{Measure, Sizes};
-pub use measuring::measure;
+pub use measuring::{Sizes, measure};

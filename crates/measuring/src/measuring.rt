@@ -2,21 +2,25 @@
 ghost use Rattle.std.specs.Prelude.{◌≡◌};
 ghost use Rattle.measuring.specs.Measuring.{measure_of};
 
-use crate::answer::{Measure, Sizes};
-use soundness::Verdict;
+use number::Refusal;
+
+// The sizes of a sound grammar: its highest token kind T, its nonterminals N, and the places P of all its productions.
+#[derive(Clone, Copy, Debug, Default, PartialEq, Eq)]
+pub struct Sizes {
+    pub kinds: usize,
+    pub nonterminals: usize,
+    pub places: usize,
+}
 
 // The sizes of a grammar, or why it is refused.
-pub fn measure(grammar: &[u8]) -> Measure
+pub fn measure(grammar: &[u8]) -> Result<Sizes, Refusal>
     ensures { result ≡ measure_of grammar.now }
 {
     let mut tables = [0u16; grammar::TABLE_WORDS];
-    let verdict = soundness::compile(grammar, &mut tables);
-    match verdict {
-        Verdict::Refused(r) => Measure::Refused(r),
-        Verdict::Sound => Measure::Measured(Sizes {
-            kinds: grammar::kinds(&tables),
-            nonterminals: grammar::nonterminals(&tables),
-            places: grammar::size(&tables),
-        }),
-    }
+    soundness::compile(grammar, &mut tables)?;
+    Ok(Sizes {
+        kinds: grammar::kinds(&tables),
+        nonterminals: grammar::nonterminals(&tables),
+        places: grammar::size(&tables),
+    })
 }

@@ -6,7 +6,7 @@ ghost use Rattle.std.specs.Prelude.{◌≡◌, ◌≤◌, Contains, IfOk, OnErr,
 ghost use Rattle.lines.specs.Line.{max_kept_bytes};
 ghost use Rattle.lines.specs.Kept.{line_end, kept_on, kept_after};
 
-use lines::Line;
+use allstar::Numbered;
 use std::io;
 use std::io::{Read, Write};
 
@@ -50,15 +50,16 @@ fn tell<W: Write>(
     space: &mut [u32],
 ) -> io::Result<()> {
     let mut row = [0u16; ROW_ENTRIES];
-    let reading = allstar::quick(&G1, note, &mut row, cache, space);
-    let number = reading.number();
-    if number == 0 {
-        out.write_all(b"ok")?;
-        write_entries(out, &row, reading.count())?;
-    } else {
-        out.write_all(b"no")?;
-        write_number(out, u64::from(number))?;
-        write_number(out, reading.place() as u64)?;
+    match allstar::quick(&G1, note, &mut row, cache, space) {
+        Ok(count) => {
+            out.write_all(b"ok")?;
+            write_entries(out, &row, count)?;
+        }
+        Err(refusal) => {
+            out.write_all(b"no")?;
+            write_number(out, u64::from(refusal.number()))?;
+            write_number(out, refusal.place() as u64)?;
+        }
     }
     out.write_all(b"\n")
 }
@@ -72,8 +73,8 @@ fn answer<W: Write>(
 ) -> io::Result<()> {
     let mut note = [0u16; lines::MAX_TOKENS];
     match lines::parse(line, &mut note) {
-        Line::Note(n) => tell(out, &note[..n], cache, space),
-        Line::Bad => out.write_all(b"bad\n"),
+        Some(n) => tell(out, &note[..n], cache, space),
+        None => out.write_all(b"bad\n"),
     }
 }
 
@@ -158,6 +159,6 @@ fn answer_all<R: Read, W: Write>(
 fn main(rt: HostRuntime) -> io::Result<()> {
     let mut cache = [0u32; CACHE_WORDS];
     let mut space = [0u32; SPACE_WORDS];
-    allstar::begin(&G1, &mut cache);
+    let _ = allstar::begin(&G1, &mut cache);
     answer_all(&mut rt.stdin(), &mut rt.stdout(), &mut cache, &mut space)
 }

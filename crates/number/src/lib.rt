@@ -1,13 +1,14 @@
 // Numbers in groups of seven bits, lowest group first; only the shortest form, at most three bytes, at most 65,535.
 #![tactic(auto)]
 
-ghost use Rattle.std.specs.Prelude.{◌≡◌, ◌+◌, ◌*◌, ◌%◌, ◌<◌, length};
+ghost use Rattle.std.specs.Prelude.{◌≡◌, ℕ, ◌+◌, ◌*◌, ◌%◌, ◌<◌, length};
 ghost use Rattle.number.specs.Refusals.{refusal_number, refusal_place};
+ghost use Rattle.number.specs.Answers.{told};
 ghost use Rattle.number.specs.Fetching.{Tallied, fetch_at};
 ghost use Rattle.number.specs.Number.{number_at, limited_at, legal, symbol_at};
 
 // Why an input is refused, each with its place. `refusal_number` of specs/Refusals gives the scope's numbers.
-#[derive(Clone, Copy)]
+#[derive(Clone, Copy, Debug, PartialEq, Eq)]
 pub enum Refusal {
     Unfinished(usize),
     Malformed(usize),
@@ -18,27 +19,28 @@ pub enum Refusal {
     LeftRecursive(usize),
 }
 
-impl Refusal {
-    // The same refusal, taken apart and put together: what lies between its parts in memory is not copied, and need not be kept until then.
-    pub fn copy(self) -> Refusal
-        ensures { result ≡ self }
-    {
-        match self {
-            Refusal::Unfinished(at) => Refusal::Unfinished(at),
-            Refusal::Malformed(at) => Refusal::Malformed(at),
-            Refusal::OverLimit(at) => Refusal::OverLimit(at),
-            Refusal::UnknownSymbol(at) => Refusal::UnknownSymbol(at),
-            Refusal::Trailing(at) => Refusal::Trailing(at),
-            Refusal::Unproductive(a) => Refusal::Unproductive(a),
-            Refusal::LeftRecursive(a) => Refusal::LeftRecursive(a),
-        }
-    }
+// What has a number and a place in the scope's table of refusals: a refusal, or an answer that may be one.
+pub trait Numbered {
+    ghost scope_number: { Self → ℕ };
+
+    ghost scope_place: { Self → ℕ };
 
     // The scope's number.
-    pub fn number(self) -> u32
-        ensures { result ≡ refusal_number self }
-    {
-        match self {
+    fn number(&self) -> u32
+        ensures { result ≡ scope_number self.now };
+
+    // The scope's place.
+    fn place(&self) -> usize
+        ensures { result ≡ scope_place self.now };
+}
+
+impl Numbered for Refusal {
+    ghost scope_number = { refusal_number };
+
+    ghost scope_place = { refusal_place };
+
+    fn number(&self) -> u32 {
+        match *self {
             Refusal::Unfinished(_) => 1,
             Refusal::Malformed(_) => 2,
             Refusal::OverLimit(_) => 3,
@@ -49,18 +51,36 @@ impl Refusal {
         }
     }
 
-    // The scope's place: a byte of the grammar for 1 to 5, a nonterminal for 6 and 7.
-    pub fn place(self) -> usize
-        ensures { result ≡ refusal_place self }
-    {
+    // A byte of the grammar for 1 to 5, a nonterminal for 6 and 7.
+    fn place(&self) -> usize {
+        match *self {
+            Refusal::Unfinished(at)
+            | Refusal::Malformed(at)
+            | Refusal::OverLimit(at)
+            | Refusal::UnknownSymbol(at)
+            | Refusal::Trailing(at) => at,
+            Refusal::Unproductive(a) | Refusal::LeftRecursive(a) => a,
+        }
+    }
+}
+
+// Of an answer both are 0 where nothing is refused.
+impl<T, E: Numbered> Numbered for Result<T, E> {
+    ghost scope_number = { told E.scope_number };
+
+    ghost scope_place = { told E.scope_place };
+
+    fn number(&self) -> u32 {
         match self {
-            Refusal::Unfinished(at) => at,
-            Refusal::Malformed(at) => at,
-            Refusal::OverLimit(at) => at,
-            Refusal::UnknownSymbol(at) => at,
-            Refusal::Trailing(at) => at,
-            Refusal::Unproductive(a) => a,
-            Refusal::LeftRecursive(a) => a,
+            Ok(_) => 0,
+            Err(e) => e.number(),
+        }
+    }
+
+    fn place(&self) -> usize {
+        match self {
+            Ok(_) => 0,
+            Err(e) => e.place(),
         }
     }
 }

@@ -3,12 +3,12 @@ use mathlib.Core.Path.{◌≡◌, refl, ◌∙◌}
 use mathlib.Core.Logic.{◌↔◌}
 use mathlib.Core.Bool.{true, false}
 use mathlib.Core.List.{List, ◌∷◌}
-use Prim.Native.Nat.{ℕ, suc, ◌+◌, ◌-◌, ◌*◌, ◌≤◌, ◌<◌}
+use Prim.Native.Nat.{ℕ, suc, ◌+◌, ◌*◌, ◌≤◌, ◌<◌}
 use native.Mathlib.Omega.{arith}
 use native.Mathlib.Decide.{dec_lt, ℕ_discrete}
 use lib.Dec.{T, eqb, eqb→eq, eqb_refl}
 use lib.ListN.{length, get_or}
-use Rattle.grammar.specs.Limits.{max_nonterminals}
+use Rattle.std.specs.Prelude.{Result, Ok, Err, IfOk}
 use Rattle.grammar.specs.Grammar.{owner}
 use Rattle.grammar.specs.inside.Tables.{grammar_in, nonterminals_in}
 use Rattle.grammar.specs.inside.Ordered.{Ordered}
@@ -28,13 +28,16 @@ use Rattle.search.specs.inside.Words.{search_words, pair_set}
 use Rattle.search.specs.inside.Searching.{Searching, set_of}
 use Rattle.search.specs.inside.Ways.{MayGo, EndsAt, EndsNowhere, GoesOn}
 use Rattle.search.specs.inside.Trials.{CameSoFar}
+use Rattle.search.specs.inside.Places.{Placed}
+use Rattle.search.proofs.ReplyLaws.{placed}
 use Rattle.opening.specs.inside.Marks.{mark_at, mark_if_new, meets_of, Marks}
 use Rattle.opening.specs.inside.Stacks.{Stacked, StackKept}
 use Rattle.opening.specs.inside.Leading.{Worked, Led}
-use Rattle.opening.specs.inside.Descent.{MayDescend, MaySpread, Descended, Scattered}
+use Rattle.opening.specs.inside.Descent.{MayDescend, MaySpread, ComesTo, Descended, AllCome, Scattered}
 use Rattle.search.specs.declared.words.Size.{Size}
-use Rattle.search.specs.declared.words.Meter.{Meter}
-use Rattle.opening.specs.declared.leading.Course.{Course}
+use Rattle.search.specs.declared.meter.Meter.{Meter}
+use Rattle.search.specs.declared.meter.Exhausted.{Exhausted}
+use Rattle.search.specs.declared.ways.Way.{Way}
 use Rattle.opening.specs.declared.descent.Descent.{Descent}
 use Rattle.opening.proofs.KeptLaws.{searching-on, returns-kept, stack-begins, stack-then, stack-on}
 use Rattle.opening.proofs.MarkLaws.{meets-T, mark-there, mark-other, mark-known, kept-worked, kept-mark, came-mark}
@@ -53,13 +56,13 @@ module _ {t w ms ws₀ : List ℕ} {base known : ℕ} {R : Type 0} {m : Meter} w
   going-none x = record { kept = stack-begins x; spent = omega arith; far = λ r y. y }
 
   -- pairs were worked out
-  pub going-worked : {ws after : List ℕ} {at r : Meter} {left : ℕ} → search_words (nonterminals_in t) (length w) ≤ base
+  pub going-worked : {ws after : List ℕ} {at r paid : Meter} → search_words (nonterminals_in t) (length w) ≤ base
       → Going t w ms ws₀ base known R m ws at → Worked t w ms ws after at r → (R → CameSoFar t w ms ws at.high → CameSoFar t w ms after r.high)
-      → left ≤ r.left → Going t w ms ws₀ base known R m after (record { left = left; high = r.high })
-  going-worked {ws} {after} b x y f l = record {
+      → paid.left ≤ r.left → paid.high ≡ r.high → Going t w ms ws₀ base known R m after paid
+  going-worked {ws} {after} b x y f l e = record {
     kept = kept-worked t w ms base known b ws₀ ws after y.kept y.holds x.kept;
     spent = omega (arith, x.spent, y.spent);
-    far = λ r c. f r (x.far r c);
+    far = λ r c. rw e (f r (x.far r c));
   }
 
   -- a frame was marked
@@ -133,15 +136,20 @@ module _ {t w ms ws₀ : List ℕ} {s : Size} {base d known q i : ℕ} {m : Mete
     }
 
     -- where the place leads is known, in other words
-    pub down-kept : {us : List ℕ} {r : Course} → Led t w ms ws us p j at r → StackKept t w ms ws₀ us base known
-    down-kept {us} y = kept-worked t w ms base known may.stacked.behind ws₀ ws us y.worked.kept y.worked.holds x.down.going.kept
+    pub down-kept : {us : List ℕ} {r : Meter} → Worked t w ms ws us at r → StackKept t w ms ws₀ us base known
+    down-kept {us} y = kept-worked t w ms base known may.stacked.behind ws₀ ws us y.kept y.holds x.down.going.kept
 
-    pub down-led : {us : List ℕ} {r : Course} → Led t w ms ws us p j at r → 0 < r.meter.left
-        → Downwards t w ms ws₀ base d known q i m us (record { left = r.meter.left - 1; high = r.meter.high }) p j k
-    down-led y l = record {
+    -- the budget is out
+    pub down_out : {us : List ℕ} {r last : Meter} {z : Exhausted} → Worked t w ms ws us at r → last.left ≤ r.left
+        → Descended t w ms ws₀ us base d known q i m last (Err z)
+    down_out y l = record { kept = down-kept y; spent = omega (arith, x.down.going.spent, y.spent); told = tt }
+
+    pub down-led : {us : List ℕ} {r paid : Meter} {way : Way} → Led t w ms ws us p j at r (Ok way) → paid.left ≤ r.left → paid.high ≡ r.high
+        → Downwards t w ms ws₀ base d known q i m us paid p j k
+    down-led y l e = record {
       down = record {
         going = going-worked may.stacked.behind x.down.going y.worked
-            (λ z c. y.far l (reached-top ws₀ base k down-some (x.down.reached z)) c) (omega arith);
+            (λ z c. y.there.far (reached-top ws₀ base k down-some (x.down.reached z)) c) l e;
         position = x.down.position;
         same = x.down.same;
         reached = x.down.reached;
@@ -154,17 +162,19 @@ module _ {t w ms ws₀ : List ℕ} {s : Size} {base d known q i : ℕ} {m : Mete
 
     -- ---- nowhere
     pub down-nowhere : {n : ℕ} → EndsNowhere t w ms ws p j n
-        → Descended t w ms ws₀ ws base d known q i m (record { yes = false; single = false; meter = at })
+        → Descended t w ms ws₀ ws base d known q i m at (Ok (record { yes = false; single = false }))
     down-nowhere y = record {
       kept = x.down.going.kept;
       spent = x.down.going.spent;
-      answer = λ l. (
-        λ z. absurd z,
-        λ o.
-            let (n, e, u) = (opens-place (stack-order may.stacked) (stack-closed may.stacked) x.stack).0 (x.down.same.0 o) in absurd (y.none n e),
-      );
-      all-marked = λ l z. absurd z;
-      far = λ l. x.down.going.far;
+      told = record {
+        answer = (
+          λ z. absurd z,
+          λ o.
+              let (n, e, u) = (opens-place (stack-order may.stacked) (stack-closed may.stacked) x.stack).0 (x.down.same.0 o) in absurd (y.none n e),
+        );
+        all-marked = λ z. absurd z;
+        far = x.down.going.far;
+      };
     }
 
     -- ---- to several positions
@@ -180,12 +190,8 @@ module _ {t w ms ws₀ : List ℕ} {s : Size} {base d known q i : ℕ} {m : Mete
           let order = stack-order may.stacked in
           rw y.behind (open-call order y.came.place b y.faces (rw (walks-owner order y.came.walks) x.stack))
 
-      pub down-set : (b < s.nonterminals) × (n ≤ s.n) × (s.nonterminals ≤ max_nonterminals) × (s.n ≤ 128)
-          × (search_words s.nonterminals s.n ≤ length ws)
-      down-set =
-          let h = going-searching may.stacked.searching x.down.going in
-          rw (may.stacked.sized.names, may.stacked.sized.tokens)
-          (y.named, y.came.within, h.given.ready.fits.few, h.given.short, h.room)
+      pub down-set : Placed s (record { nonterminal = b; position = n }) ws
+      down-set = placed (going-searching may.stacked.searching x.down.going) may.stacked.sized (y.named, y.came.within)
 
       down-spread : MaySpread t w ms ws s base k known r (set_of t w ws b n)
       down-spread = record {
@@ -195,14 +201,12 @@ module _ {t w ms ws₀ : List ℕ} {s : Size} {base d known q i : ℕ} {m : Mete
         within = y.members;
       }
 
-      down-several : {after : List ℕ} {a : Descent} → Scattered t w ms ws after base k known r (set_of t w ws b n) at a
-          → Descended t w ms ws₀ after base d known q i m a
-      down-several {after} {a} z = record {
+      down-several : {after : List ℕ} {last : Meter} {a : Result Descent Exhausted}
+          → Scattered t w ms ws after base k known r (set_of t w ws b n) at last a → Descended t w ms ws₀ after base d known q i m last a
+      down-several {after} {last} {a} z = record {
         kept = stack-then x.down.going.kept z.kept;
         spent = omega (arith, z.spent, x.down.going.spent);
-        answer = λ l. (λ u. x.down.same.1 (from ((z.answer l).0 u)), λ o. (z.answer l).1 (to (x.down.same.0 o)));
-        all-marked = λ l u v. absurd (z.several v);
-        far = λ l u c. z.far l (λ e h. still e h (x.down.reached u)) (x.down.going.far u c);
+        told = go a z.told;
       }
         where
           to : Opens (grammar_in t) (marked w) (p ∷ returns_of ws₀ base k) j → (e : ℕ) × Members e
@@ -221,6 +225,15 @@ module _ {t w ms ws₀ : List ℕ} {s : Size} {base d known q i : ℕ} {m : Mete
               → Reached (grammar_in t) (marked w) (r ∷ returns_of ws base k) e
           still e h u =
               rw (same-returns, y.behind) (reached-on (returns_of ws₀ base k) u (on y.came.walks (Over.call y.faces ((y.pair e).1 h))))
+
+          go : (a : Result Descent Exhausted) → IfOk a (λ c. AllCome t w ms ws after base k r (set_of t w ws b n) at.high last.high c)
+              → IfOk a (λ c. ComesTo t w ms ws₀ after base d q i m.high last.high c)
+          go (Ok c) y = record {
+            answer = (λ u. x.down.same.1 (from (y.answer.0 u)), λ o. y.answer.1 (to (x.down.same.0 o)));
+            all-marked = λ u v. absurd (y.several v);
+            far = λ u v. y.far (λ e h. still e h (x.down.reached u)) (x.down.going.far u v);
+          }
+          go (Err e) y = tt
 
     -- ---- to one position, on the frame below
     module _ {l n : ℕ} (y : EndsAt t w ms ws p j n) (e : k ≡ suc l) where
@@ -260,13 +273,15 @@ module _ {t w ms ws₀ : List ℕ} {s : Size} {base d known q i : ℕ} {m : Mete
         go (no c) = rw (returns-kept ws₀ ws base (suc f) x.going.kept.places) (x.marks f (h f (omega arith)) b (omega arith) o)
 
     -- the mark of the frame says so
-    down-met : l < known → mark_at ws base l ≡ j → Descended t w ms ws₀ ws base d known q i m (record { yes = true; single = true; meter = at })
+    down-met : l < known → mark_at ws base l ≡ j → Descended t w ms ws₀ ws base d known q i m at (Ok (record { yes = true; single = true }))
     down-met c e = record {
       kept = x.going.kept;
       spent = x.going.spent;
-      answer = λ a. (λ u. x.same.1 here, λ u. tt);
-      all-marked = λ a u v. all-marks (λ f b. omega arith) here;
-      far = λ a. x.going.far;
+      told = record {
+        answer = (λ u. x.same.1 here, λ u. tt);
+        all-marked = λ u v. all-marks (λ f b. omega arith) here;
+        far = x.going.far;
+      };
     }
       where
         here : Opens (grammar_in t) (marked w) (returns_of ws₀ base (suc l)) j
@@ -274,13 +289,15 @@ module _ {t w ms ws₀ : List ℕ} {s : Size} {base d known q i : ℕ} {m : Mete
 
     -- it is the lowest, where the note's end is due
     down-lowest : {a n : ℕ} → l ≡ 0 → n ≡ length w → Open (grammar_in t) a (returns_of ws₀ base (suc l))
-        → Descended t w ms ws₀ ws base d known q i m (record { yes = eqb j n; single = true; meter = at })
+        → Descended t w ms ws₀ ws base d known q i m at (Ok (record { yes = eqb j n; single = true }))
     down-lowest {a} {n} z h o = record {
       kept = x.going.kept;
       spent = x.going.spent;
-      answer = λ b. (λ u. x.same.1 (here u), λ u. there (ends.0 (x.same.0 u)));
-      all-marked = λ b u v. all-marks (λ f c. omega arith) (here u);
-      far = λ b. x.going.far;
+      told = record {
+        answer = (λ u. x.same.1 (here u), λ u. there (ends.0 (x.same.0 u)));
+        all-marked = λ u v. all-marks (λ f c. omega arith) (here u);
+        far = x.going.far;
+      };
     }
       where
         ends : Opens (grammar_in t) (marked w) (returns_of ws₀ base (suc l)) j ↔ (j ≡ length w)
@@ -310,7 +327,8 @@ module _ {t w ms ws₀ : List ℕ} {s : Size} {base d known q i : ℕ} {m : Mete
     pub spread-may : MaySpread t w ms ws s base k known r v
     spread-may = rw read_set (down-spread may x y)
 
-    pub spread-did : {after : List ℕ} {a : Descent} → Scattered t w ms ws after base k known r v at a → Descended t w ms ws₀ after base d known q i m a
+    pub spread-did : {after : List ℕ} {last : Meter} {a : Result Descent Exhausted} → Scattered t w ms ws after base k known r v at last a
+        → Descended t w ms ws₀ after base d known q i m last a
     spread-did z = down-several may x y (rw read_set at z)
 
   module _ {l n : ℕ} (y : EndsAt t w ms ws p j n) (e : k ≡ suc l) {us : List ℕ} (f : us ≡ mark_if_new ws base known l n) where
@@ -320,24 +338,13 @@ module _ {t w ms ws₀ : List ℕ} {s : Size} {base d known q i : ℕ} {m : Mete
     pub frame-kept : StackKept t w ms ws₀ us base known
     frame-kept = frame-there.going.kept
 
-    pub frame-met : T (meets_of ws base known l n) → Descended t w ms ws₀ us base d known q i m (record { yes = true; single = true; meter = at })
+    pub frame-met : T (meets_of ws base known l n) → Descended t w ms ws₀ us base d known q i m at (Ok (record { yes = true; single = true }))
     frame-met u =
         let z = meets-T ws base known l n u in
         down-met may frame-there z.0 (rw f (mark-known ws base known l n l z.0) ∙ z.1)
 
-    pub frame-lowest : {o : ℕ} → l ≡ 0 → o ≡ length w → Descended t w ms ws₀ us base d known q i m (record { yes = eqb n o; single = true; meter = at })
+    pub frame-lowest : {o : ℕ} → l ≡ 0 → o ≡ length w → Descended t w ms ws₀ us base d known q i m at (Ok (record { yes = eqb n o; single = true }))
     frame-lowest z h = down-lowest may frame-there z h (down-open may x y e)
 
     pub frame-next : {o : ℕ} → ¬ (l ≡ 0) → o ≡ get_or us (base + frame_words * l) 0 → Downwards t w ms ws₀ base d known q i m us at o n l
     frame-next z h = down-next may frame-there z (omega (arith, x.low)) (down-open may x y e) h
-
--- nothing is left of the budget
-pub down_out : {t w ms ws₀ ws : List ℕ} {base d known q i : ℕ} {m : Meter} (r : Descent) → StackKept t w ms ws₀ ws base known → r.meter.left ≡ 0
-    → Descended t w ms ws₀ ws base d known q i m r
-down_out r k e = record {
-  kept = k;
-  spent = omega arith;
-  answer = λ l. absurd (omega arith);
-  all-marked = λ l. absurd (omega arith);
-  far = λ l. absurd (omega arith);
-}

@@ -7,9 +7,11 @@ use mathlib.Core.List.{List}
 use Prim.Native.Nat.{ℕ, ◌≤◌, ◌<◌}
 use native.Mathlib.Omega.{arith}
 use lib.ListN.{length, get_or, get_elem?}
+use Rattle.std.specs.Prelude.{Result, Ok, Some, None}
+use Rattle.std.specs.Prelude.{Option as Answer}
 use Rattle.base.specs.Bits.{test_bit}
 use Rattle.base.specs.Search.{this}
-use Rattle.base.proofs.Booleans.{failed, true→T, false→¬T}
+use Rattle.base.proofs.Booleans.{clash, failed, true→T, false→¬T}
 use Rattle.base.proofs.Lists.{get_or-get}
 use Rattle.base.proofs.Lowest.{lowest-one}
 use Rattle.grammar.specs.Limits.{end_mark}
@@ -27,15 +29,18 @@ use Rattle.first_follow.specs.inside.Words.{nullable_at, masks_in}
 use Rattle.filtering.specs.inside.OpenStacks.{Open}
 use Rattle.filtering.specs.inside.Tags.{one_end, one, Tagged}
 use Rattle.filtering.proofs.SingleLaws.{serves_by, single-lowest}
+use Rattle.machine.specs.inside.Choice.{Numbered}
 use Rattle.machine.proofs.AlternativeLaws.{named_some}
-use Rattle.search.specs.declared.words.Meter.{Meter}
+use Rattle.machine.proofs.LowestLaws.{numbered-map}
+use Rattle.search.specs.declared.meter.Meter.{Meter}
 use Rattle.search.specs.declared.words.Size.{Size}
+use Rattle.search.specs.declared.meter.Exhausted.{Exhausted}
 use Rattle.search.specs.declared.words.Tag.{Tag}
 use Rattle.search.specs.declared.words.Tag.TheVariants.{One}
 use Rattle.search.specs.inside.Words.{tag_at, tag_from, tag_in}
 use Rattle.search.specs.inside.Searching.{state_of, MayAsk}
 use Rattle.search.specs.inside.Trials.{Settled}
-use Rattle.opening.specs.inside.Choice.{empty_of, AskedFor, Taken}
+use Rattle.opening.specs.inside.Choice.{empty_of, AskedFor, Taken, LowestWhere}
 use Rattle.search.proofs.WordLaws.{done-here}
 use Rattle.opening.proofs.KeptLaws.{same-words}
 use Rattle.opening.proofs.EmptyLaws.{empty-lowest}
@@ -53,10 +58,19 @@ single-taken : {g : Grammar} {M : Masks} {w : List ℕ} (order : Ordered g) (c :
 single-taken order c a i o m b more (one p u e) k s =
     let (n, x, y) = (serves_by order c a i o k).0 s in single-lowest order c a i o m b more (one p u e) (rw (u k n x).0 at y)
 
+-- no end is given by alternative 0
+named-end : {g : Grammar} {M : Masks} {w : List ℕ} (a : ℕ) {i m b : ℕ} {more : Bool} → Tagged g M w a i (one_end m b more) → ¬ (b ≡ 0)
+named-end a (one (f, d, x, y) u e) z = let q = rw z at d in clash (cc)
+
 -- ---- a pair that is worked out
-pub asked-now : {t w ms ws after : List ℕ} {a i budget : ℕ} {r : Meter} → Settled t w ms ws after a i (record { left = budget; high = 0 }) r
+pub asked-now : {t w ms ws after : List ℕ} {a i budget : ℕ} {r : Meter} → Settled t w ms ws after a i (record { left = budget; high = 0 }) r (Ok tt)
     → AskedFor t w ms ws after a i budget r.left
-asked-now y = record { kept = y.kept; holds = y.holds; spent = y.spent; done = y.done }
+asked-now y = record { kept = y.kept; holds = y.holds; spent = y.spent; done = λ _. y.done }
+
+-- or the budget is out
+pub asked-out : {t w ms ws after : List ℕ} {a i budget : ℕ} {m r : Meter} {z : Result (Unit {0}) Exhausted} → Settled t w ms ws after a i m r z
+    → AskedFor t w ms ws after a i budget 0
+asked-out y = record { kept = y.kept; holds = y.holds; spent = omega arith; done = λ l. absurd (omega arith) }
 
 module _ {t w ms ws : List ℕ} {s : Size} {a i : ℕ} (h : MayAsk t w ms ws s a i) (budget : ℕ) where
   pub asked-before : {b : Bool} → b ≡ test_bit (get_or ws i 0) a → b ≡ true → AskedFor t w ms ws ws a i budget budget
@@ -69,17 +83,18 @@ module _ {t w ms ws : List ℕ} {s : Size} {a i : ℕ} (h : MayAsk t w ms ws s a
       }
 
   -- ---- the ways out
-  pub taken-only : {n : ℕ} → n ≡ length (alternatives (grammar_in t) a) → n < 2 → Taken t w ms ws ws a i budget (record { alternative = 1; left = budget })
+  pub taken-only : {n : ℕ} → n ≡ length (alternatives (grammar_in t) a) → n < 2 → Taken t w ms ws ws a i budget (record { alternative = Some 1; left = budget })
   taken-only e l =
       record {
         kept = same-words _ ws;
         holds = h.searching.holds;
         spent = omega arith;
-        taken = λ S o b x z. only-lowest t h.searching.given.ready (marked w) S a i (omega (arith, e)) b x;
+        taken = (λ z. clash (cc), λ S o b x z. only-lowest t h.searching.given.ready (marked w) S a i (omega (arith, e)) b x);
       }
 
-  pub taken-empty : {u : ℕ} {b : Bool} → get_elem? (marked w) i ≡ some u → b ≡ (masks_in ms).starts u a → not b ≡ true → {set r : ℕ}
-      → set ≡ get_or ms nullable_at 0 → r ≡ empty_of (grammar_in t) set a → Taken t w ms ws ws a i budget (record { alternative = r; left = budget })
+  pub taken-empty : {u : ℕ} {b : Bool} → get_elem? (marked w) i ≡ some u → b ≡ (masks_in ms).starts u a → not b ≡ true → {set : ℕ} {r : Answer ℕ}
+      → set ≡ get_or ms nullable_at 0 → Numbered r (λ r. r ≡ empty_of (grammar_in t) set a)
+      → Taken t w ms ws ws a i budget (record { alternative = r; left = budget })
   taken-empty {u} {b} e q n {set} {r} f v =
       let g = h.searching.given in
       let y : (masks_in ms).starts (get_or (marked w) i end_mark) a ≡ false = rw (get_or-get (marked w) i end_mark e) (failed q n) in
@@ -87,13 +102,14 @@ module _ {t w ms ws : List ℕ} {s : Size} {a i : ℕ} (h : MayAsk t w ms ws s a
         kept = same-words _ ws;
         holds = h.searching.holds;
         spent = omega arith;
-        taken = λ S o k x z. empty-lowest (ready-ordered t g.ready) g.closed a i o (omega (arith, h.pair.1, length_marked w))
-            (false→¬T ((masks_in ms).starts (get_or (marked w) i end_mark) a) y) set (rw f g.nullable) k x v z;
+        taken = numbered-map r {Q = LowestWhere t w a i} (λ c v S o k x z.
+            empty-lowest (ready-ordered t g.ready) g.closed a i o (omega (arith, h.pair.1, length_marked w))
+            (false→¬T ((masks_in ms).starts (get_or (marked w) i end_mark) a) y) set (rw f g.nullable) k x v z) v;
       }
 
   module _ {after : List ℕ} {left : ℕ} (y : AskedFor t w ms ws after a i budget left) where
     -- nothing is told
-    pub taken_none : {n : ℕ} → n ≤ left → Taken t w ms ws after a i budget (record { alternative = 0; left = n })
+    pub taken_none : {n : ℕ} → n ≤ left → Taken t w ms ws after a i budget (record { alternative = None; left = n })
     taken_none l =
         record { kept = y.kept; holds = y.holds; spent = omega (arith, y.spent); taken = λ S o b x z. absurd (z refl) }
 
@@ -103,7 +119,7 @@ module _ {t w ms ws : List ℕ} {s : Size} {a i : ℕ} (h : MayAsk t w ms ws s a
       unfolding tag_in
       tag-here = let z = rw (h.sized.names, h.sized.tokens) at (sym e ∙ q) in rw z
 
-      pub taken-single : Taken t w ms ws after a i budget (record { alternative = b; left = left })
+      pub taken-single : Taken t w ms ws after a i budget (record { alternative = Some b; left = left })
       taken-single =
           let g = h.searching.given in
           let v : Tagged (grammar_in t) (masks_in ms) (marked w) a i (one_end m b more) = rw tag-here at (y.holds a i (y.done (omega arith))) in
@@ -111,5 +127,5 @@ module _ {t w ms ws : List ℕ} {s : Size} {a i : ℕ} (h : MayAsk t w ms ws s a
             kept = y.kept;
             holds = y.holds;
             spent = y.spent;
-            taken = λ S o k u _. single-taken (ready-ordered t g.ready) g.closed a i o m b more v k u;
+            taken = (named-end a v, λ S o k u _. single-taken (ready-ordered t g.ready) g.closed a i o m b more v k u);
           }

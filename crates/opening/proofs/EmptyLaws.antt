@@ -1,20 +1,25 @@
--- C4: where a nonterminal does not start with the token there, the plain chooser's alternative is the lowest that derives the empty row. And the loop that
--- looks for it.
+-- C4: where a nonterminal does not start with the token there, the plain chooser's alternative is the lowest that derives the empty row. And where it
+-- stands among the first places.
 use mathlib.Core.Path.{◌≡◌, refl, sym, ap, ap₂, ◌∙◌}
 use mathlib.Core.Logic.{◌↔◌}
-use mathlib.Core.Bool.{Bool, true, false, ◌&&◌}
-use mathlib.Core.Option.{some}
+use mathlib.Core.Bool.{Bool, false, ◌&&◌}
+use mathlib.Core.Option.{Option, some}
 use mathlib.Core.List.{List, [], ◌∷◌, append-nil}
-use Prim.Native.Nat.{ℕ, suc, ◌+◌, ◌-◌, ◌≤◌, ◌<◌}
+use Prim.Native.Nat.{ℕ, suc, ◌+◌, ◌≤◌}
+use native.Mathlib.Omega.{arith}
 use lib.Dec.{T}
-use lib.ListN.{length, get_or}
+use lib.ListN.{length}
+use Rattle.std.specs.Prelude as prelude
+use Rattle.std.specs.List.{position_from}
 use Rattle.base.specs.Bits.{test_bit}
+use Rattle.base.specs.Search.{lowest_from}
 use Rattle.base.proofs.Booleans.{T_and}
+use Rattle.base.proofs.Lists.{get-get_or}
 use Rattle.grammar.specs.declared.Symbol.{Symbol}
 use Rattle.grammar.specs.declared.Symbol.TheVariants.{Token, Nonterminal, End}
-use Rattle.grammar.specs.Grammar.{Grammar, facing, first, suffix, of_places}
+use Rattle.grammar.specs.Grammar.{Grammar, alternatives, facing, first, suffix, of_places}
 use Rattle.grammar.specs.inside.Ordered.{Ordered}
-use Rattle.grammar.specs.inside.Tables.{grammar_in, nonterminals_in, rule_at}
+use Rattle.grammar.specs.inside.Tables.{grammar_in}
 use Rattle.grammar.specs.Derivation.{Leftmost, Derives}
 use Rattle.grammar.proofs.GrammarLaws.{leftmost-append}
 use Rattle.closures.specs.Textbook.{Vanishing, nil, also}
@@ -24,7 +29,6 @@ use Rattle.closures.proofs.Deriving.{passes-place, vanish-iff}
 use Rattle.derivation.specs.Runs.{Opens, Serves}
 use Rattle.derivation.specs.Machine.{lowest}
 use Rattle.derivation.specs.inside.BigSteps.{DerivesBy}
-use Rattle.derivation.specs.inside.Ready.{Ready}
 use Rattle.derivation.proofs.RunLaws.{der+run}
 use Rattle.first_follow.specs.FirstFollow.{Skips, here, over}
 use Rattle.first_follow.specs.inside.Masks.{Masks, Closed}
@@ -36,35 +40,22 @@ use Rattle.filtering.proofs.FilterLaws.{der_f-der}
 use Rattle.filtering.proofs.AloneLaws.{empty-der, alone}
 use Rattle.filtering.proofs.OpensLaws.{opens_by, lowest-opens}
 use Rattle.filtering.proofs.SingleLaws.{serves_by}
-use Rattle.machine.specs.inside.Choice.{or_zero}
+use Rattle.machine.specs.inside.Choice.{or_zero, Numbered}
 use Rattle.machine.proofs.AlternativeLaws.{some_of}
 use Rattle.opening.specs.inside.Choice.{vanishes_in, empty_of}
-use Rattle.machine.proofs.SeekLaws.{Seeking, seeking-begins, seeking-found, seeking-on, seeking-ends}
+use Rattle.machine.proofs.LowestLaws.{lowest-place, counted}
 
--- ---- the loop
-module _ (t : List ℕ) (set a : ℕ) where
-  -- alternative k is looked at next, of those between `from` and `to` in the tables
-  pub Looking : ℕ → ℕ → ℕ → Type 0
-  Looking = Seeking t a (vanishes_in (grammar_in t) set)
-
-  module _ (h : Ready t) (named : a < nonterminals_in t) {from to : ℕ} (p : from ≡ rule_at t a) (q : to ≡ rule_at t (a + 1)) where
-    pub empty-begins : Looking from to from
-    unfolding Looking vanishes_in
-    empty-begins = seeking-begins t a (vanishes_in (grammar_in t) set) h named p q refl
-
-    module _ (k : ℕ) {f : ℕ} {b : Bool} (x : Looking from to k) (l : from ≤ k) (m : k < to) (d : f ≡ get_or t k 0)
-        (e : b ≡ passes false (test_bit set) (suffix (grammar_in t) f)) where
-      pub empty-found : b ≡ true → k + 1 - from ≡ empty_of (grammar_in t) set a
-      unfolding Looking vanishes_in empty_of
-      empty-found y = seeking-found t a (vanishes_in (grammar_in t) set) h named p q k x l m d e y
-
-      pub empty-on : b ≡ false → Looking from to (k + 1)
-      unfolding Looking vanishes_in
-      empty-on y = seeking-on t a (vanishes_in (grammar_in t) set) h named p q k x l m d e y
-
-  pub empty-ends : (from to k : ℕ) → Looking from to k → to ≤ k → 0 ≡ empty_of (grammar_in t) set a
-  unfolding Looking empty_of
-  empty-ends from to k x l = seeking-ends t a (vanishes_in (grammar_in t) set) from to k x l
+-- ---- found in the list of first places
+pub placed-empty : (t : List ℕ) (set a : ℕ)
+    → Numbered (prelude.option_map (λ k. k + 1)
+    (position_from (λ f. passes false (test_bit set) (suffix (grammar_in t) f)) 0 (alternatives (grammar_in t) a)))
+    (λ r. r ≡ empty_of (grammar_in t) set a)
+unfolding empty_of vanishes_in lowest_from
+placed-empty t set a =
+    let l : List ℕ = alternatives (grammar_in t) a in
+    let P : ℕ → Bool = λ f. passes false (test_bit set) (suffix (grammar_in t) f) in
+    counted (position_from P 0 l) (lowest-place (λ b. vanishes_in (grammar_in t) set (first (grammar_in t) a b)) P l 0
+    (λ k n. let e : 0 + k ≡ k = omega arith in rw e (ap (λ (o : Option ℕ). vanishes_in (grammar_in t) set o) (get-get_or l k 0 n))))
 
 -- ---- what derives the empty row
 -- two sets that agree let the same lists pass

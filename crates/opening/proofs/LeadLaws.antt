@@ -2,9 +2,11 @@
 use mathlib.Core.Path.{◌≡◌, ◌∙◌}
 use mathlib.Core.Logic.{◌⊎◌, inl, inr}
 use mathlib.Core.List.{List}
-use Prim.Native.Nat.{ℕ, ◌≤◌, ◌<◌}
+use Prim.Native.Nat.{ℕ, ◌≤◌}
 use native.Mathlib.Omega.{arith}
 use lib.Dec.{T}
+use Rattle.std.specs.Prelude.{Result, Ok, Err}
+use Rattle.positions.specs.declared.Positions.{Positions}
 use Rattle.grammar.specs.inside.Tables.{grammar_in}
 use Rattle.positions.specs.inside.Positions.{member}
 use Rattle.derivation.specs.Runs.{marked}
@@ -18,10 +20,11 @@ use Rattle.search.specs.inside.Walks.{MayWalk, Raised, WantsPair, EndsIn, WalksT
 use Rattle.search.specs.inside.Trials.{CameSoFar, Settled}
 use Rattle.opening.specs.inside.Leading.{Worked, Led, LedAll}
 use Rattle.search.specs.declared.words.Size.{Size}
-use Rattle.search.specs.declared.words.Meter.{Meter}
+use Rattle.search.specs.declared.meter.Meter.{Meter}
+use Rattle.search.specs.declared.meter.Exhausted.{Exhausted}
+use Rattle.search.specs.declared.words.Pair.{Pair}
+use Rattle.search.specs.declared.ways.Way.{Way}
 use Rattle.search.specs.declared.ways.Way.TheVariants.{Needs}
-use Rattle.opening.specs.declared.leading.Course.{Course}
-use Rattle.opening.specs.declared.leading.Scatter.{Scatter}
 use Rattle.opening.proofs.KeptLaws.{same-words, searching-on}
 
 -- after some turns from words ws₀ and meter m: pairs were worked out, and where R holds, that came so far as the meter says
@@ -35,8 +38,8 @@ module _ {t w ms ws₀ : List ℕ} {R : Type 0} {m : Meter} where
       record { worked = record { kept = same-words _ ws₀; holds = h; spent = omega arith }; far = λ r x. x }
 
   -- a pair is worked out
-  pub turned-worked : {ws after : List ℕ} {at spent : Meter} {a i : ℕ} → Turned t w ms ws₀ R m ws at → Settled t w ms ws after a i at spent
-      → Worked t w ms ws₀ after m spent
+  pub turned-worked : {ws after : List ℕ} {at spent : Meter} {a i : ℕ} {z : Result (Unit {0}) Exhausted} → Turned t w ms ws₀ R m ws at
+      → Settled t w ms ws after a i at spent z → Worked t w ms ws₀ after m spent
   turned-worked x s = record {
     kept = record { long = s.kept.long ∙ x.worked.kept.long; word = λ j h. s.kept.word j h ∙ x.worked.kept.word j h };
     holds = s.holds;
@@ -44,15 +47,12 @@ module _ {t w ms ws₀ : List ℕ} {R : Type 0} {m : Meter} where
   }
 
   -- one that is called where R holds
-  pub turned-settled : {ws after : List ℕ} {at spent : Meter} {a i left : ℕ} → Turned t w ms ws₀ R m ws at → Settled t w ms ws after a i at spent
-      → (R → Called (grammar_in t) (marked w) a i) → left < spent.left → Turned t w ms ws₀ R m after (record { left = left; high = spent.high })
-  turned-settled x s c l =
+  pub turned-settled : {ws after : List ℕ} {at spent paid : Meter} {a i : ℕ} {z : Result (Unit {0}) Exhausted} → Turned t w ms ws₀ R m ws at
+      → Settled t w ms ws after a i at spent z → (R → Called (grammar_in t) (marked w) a i) → paid.left ≤ spent.left → paid.high ≡ spent.high
+      → Turned t w ms ws₀ R m after paid
+  turned-settled x s c l e =
       let y = turned-worked x s in
-      record { worked = record { kept = y.kept; holds = y.holds; spent = omega (arith, y.spent) }; far = λ r z. s.far (c r) (x.far r z) }
-
-  -- nothing is left of the budget
-  pub worked-out : {ws : List ℕ} {at : Meter} {high : ℕ} → Turned t w ms ws₀ R m ws at → Worked t w ms ws₀ ws m (record { left = 0; high = high })
-  worked-out x = record { kept = x.worked.kept; holds = x.worked.holds; spent = omega arith }
+      record { worked = record { kept = y.kept; holds = y.holds; spent = omega (arith, y.spent) }; far = λ r z. rw e (s.far (c r) (x.far r z)) }
 
   turned-searching : {ws : List ℕ} {at : Meter} → Searching t w ms ws₀ → Turned t w ms ws₀ R m ws at → Searching t w ms ws
   turned-searching s x = searching-on s x.worked.kept.long x.worked.holds
@@ -103,20 +103,20 @@ module _ {t w ms : List ℕ} {p : ℕ} {y : List ℕ} where
   }
 
 -- ---- the ways out
-module _ {t w ms ws₀ ws : List ℕ} {p i : ℕ} {m : Meter} (r : Course) where
+module _ {t w ms ws₀ ws : List ℕ} {p i : ℕ} {m m' : Meter} where
   -- where it leads is known
-  pub led-there : Turned t w ms ws₀ (Reach (grammar_in t) (marked w) p i) m ws r.meter → Went t w ms ws p i r.way
-      → ((b j : ℕ) → ¬ (r.way ≡ Needs b j)) → Led t w ms ws₀ ws p i m r
-  led-there x y n = record { worked = x.worked; went = λ l. y; needs-none = λ l. n; far = λ l. x.far }
+  pub led-there : {way : Way} → Turned t w ms ws₀ (Reach (grammar_in t) (marked w) p i) m ws m' → Went t w ms ws p i way
+      → ((n : Pair) → ¬ (way ≡ Needs n)) → Led t w ms ws₀ ws p i m m' (Ok way)
+  led-there x y n = record { worked = x.worked; there = record { went = y; needs-none = n; far = x.far } }
 
-  -- nothing is left of the budget
-  pub led-out : Worked t w ms ws₀ ws m r.meter → r.meter.left ≡ 0 → Led t w ms ws₀ ws p i m r
-  led-out x e = record { worked = x; went = λ l. absurd (omega arith); needs-none = λ l. absurd (omega arith); far = λ l. absurd (omega arith) }
+  -- the budget is out
+  pub led-out : {z : Exhausted} → Worked t w ms ws₀ ws m m' → Led t w ms ws₀ ws p i m m' (Err z)
+  led-out x = record { worked = x; there = tt }
 
-module _ {t w ms ws₀ ws : List ℕ} {p : ℕ} {y : List ℕ} {m : Meter} (r : Scatter) where
-  pub scattered-there : {high after : ℕ} → Turned t w ms ws₀ ((i : ℕ) → T (member y i) → Reach (grammar_in t) (marked w) p i) m ws r.meter
-      → EndsIn t w ms ws p y high after r.to.words → LedAll t w ms ws₀ ws p y m r
-  scattered-there x e = record { worked = x.worked; within = λ l. e.within; ends = λ l. e.ends; far = λ l. x.far }
+module _ {t w ms ws₀ ws : List ℕ} {p : ℕ} {y : List ℕ} {m m' : Meter} where
+  pub scattered-there : {high after : ℕ} {to : Positions} → Turned t w ms ws₀ ((i : ℕ) → T (member y i) → Reach (grammar_in t) (marked w) p i) m ws m'
+      → EndsIn t w ms ws p y high after to.words → LedAll t w ms ws₀ ws p y m m' (Ok to)
+  scattered-there x e = record { worked = x.worked; there = record { within = e.within; ends = e.ends; far = x.far } }
 
-  pub scattered-out : Worked t w ms ws₀ ws m r.meter → r.meter.left ≡ 0 → LedAll t w ms ws₀ ws p y m r
-  scattered-out x e = record { worked = x; within = λ l. absurd (omega arith); ends = λ l. absurd (omega arith); far = λ l. absurd (omega arith) }
+  pub scattered-out : {z : Exhausted} → Worked t w ms ws₀ ws m m' → LedAll t w ms ws₀ ws p y m m' (Err z)
+  scattered-out x = record { worked = x; there = tt }

@@ -3,10 +3,12 @@ use mathlib.Core.Path.{◌≡◌, sym, ◌∙◌}
 use mathlib.Core.Logic.{◌↔◌}
 use mathlib.Core.Bool.{Bool, true, false}
 use mathlib.Core.List.{List, ◌∷◌}
-use Prim.Native.Nat.{ℕ, suc, ◌+◌, ◌-◌, ◌*◌, ◌≤◌, ◌<◌}
+use Prim.Native.Nat.{ℕ, suc, ◌+◌, ◌*◌, ◌≤◌, ◌<◌}
 use native.Mathlib.Omega.{arith}
 use lib.Dec.{T}
 use lib.ListN.{length, get_or}
+use Rattle.std.specs.Prelude.{Ok, Err}
+use Rattle.positions.specs.declared.Positions.{Positions}
 use Rattle.grammar.specs.Grammar.{owner}
 use Rattle.grammar.specs.inside.Tables.{grammar_in}
 use Rattle.positions.specs.inside.Positions.{member}
@@ -19,12 +21,11 @@ use Rattle.filtering.proofs.OpensLaws.{opens-from}
 use Rattle.search.specs.inside.Walks.{Within, MayWalk}
 use Rattle.opening.specs.inside.Marks.{mark_at, holds_of}
 use Rattle.opening.specs.inside.Stacks.{StackKept}
-use Rattle.opening.specs.inside.Leading.{LedAll}
+use Rattle.opening.specs.inside.Leading.{Worked, LedAll}
 use Rattle.opening.specs.inside.Descent.{MaySpread, Scattered}
 use Rattle.search.specs.declared.words.Size.{Size}
-use Rattle.search.specs.declared.words.Meter.{Meter}
-use Rattle.opening.specs.declared.leading.Scatter.{Scatter}
-use Rattle.opening.specs.declared.descent.Descent.{Descent}
+use Rattle.search.specs.declared.meter.Meter.{Meter}
+use Rattle.search.specs.declared.meter.Exhausted.{Exhausted}
 use Rattle.opening.proofs.KeptLaws.{returns-kept}
 use Rattle.opening.proofs.MarkLaws.{holds-T, kept-worked}
 use Rattle.opening.proofs.FrameLaws.{open-some, returns-top, opens-lowest, next_place, reached-below, reached-top}
@@ -73,34 +74,40 @@ module _ {t w ms ws₀ : List ℕ} {s : Size} {base d known q : ℕ} {x₀ : Lis
     }
 
     -- where the set leads is known, in other words
-    pub spread-kept : {us : List ℕ} {r : Scatter} → LedAll t w ms ws us p x at r → StackKept t w ms ws₀ us base known
-    spread-kept {us} y = kept-worked t w ms base known may.stacked.behind ws₀ ws us y.worked.kept y.worked.holds h.spread.going.kept
+    pub spread-kept : {us : List ℕ} {r : Meter} → Worked t w ms ws us at r → StackKept t w ms ws₀ us base known
+    spread-kept {us} y = kept-worked t w ms base known may.stacked.behind ws₀ ws us y.kept y.holds h.spread.going.kept
 
-    pub spread-room : {us : List ℕ} {r : Scatter} {l : ℕ} → LedAll t w ms ws us p x at r → l < k → base + frame_words * suc l ≤ length us
+    pub spread-room : {us : List ℕ} {r : Meter} {l : ℕ} → Worked t w ms ws us at r → l < k → base + frame_words * suc l ≤ length us
     spread-room y l = omega (arith, may.stacked.room, h.low, (spread-kept y).long)
 
-    module _ {us : List ℕ} {r : Scatter} {l : ℕ} (y : LedAll t w ms ws us p x at r) (some : 0 < r.meter.left) (e : k ≡ suc l) where
+    -- the budget is out
+    pub spread-out : {us : List ℕ} {r last : Meter} {z : Exhausted} → Worked t w ms ws us at r → last.left ≤ r.left
+        → Scattered t w ms ws₀ us base d known q x₀ m last (Err z)
+    spread-out y l = record { kept = spread-kept y; spent = omega (arith, h.spread.going.spent, y.spent); told = tt }
+
+    module _ {us : List ℕ} {r paid : Meter} {to : Positions} {l : ℕ} (y : LedAll t w ms ws us p x at r (Ok to)) (fewer : paid.left ≤ r.left)
+        (same : paid.high ≡ r.high) (e : k ≡ suc l) where
       -- on the frame below
-      frame-all : Spread t w ms ws₀ base d known q x₀ m us (record { left = r.meter.left - 1; high = r.meter.high }) (returns_of ws₀ base (suc l))
-          r.to.words
+      frame-all : Spread t w ms ws₀ base d known q x₀ m us paid (returns_of ws₀ base (suc l)) to.words
       frame-all = record {
         going = going-worked may.stacked.behind h.spread.going y.worked
-            (λ z c. y.far some (λ i u. reached-top ws₀ base k spread-some (h.spread.reached z i u)) c) (omega arith);
-        within = y.within some;
+            (λ z c. y.there.far (λ i u. reached-top ws₀ base k spread-some (h.spread.reached z i u)) c) fewer same;
+        within = y.there.within;
         same = (
-          λ o. to ((opens-from (stack-order may.stacked) (stack-closed may.stacked) (λ i. T (member x i)) h.stack).0 (h.spread.same.0 o)),
+          λ o. there ((opens-from (stack-order may.stacked) (stack-closed may.stacked) (λ i. T (member x i)) h.stack).0 (h.spread.same.0 o)),
           λ o. h.spread.same.1 (from o),
         );
-        reached = λ z j u. down j ((y.ends some j).1 u) (h.spread.reached z);
+        reached = λ z j u. down j ((y.there.ends j).1 u) (h.spread.reached z);
       }
         where
-          to : (j : ℕ) × EndsFrom (grammar_in t) (masks_in ms) (marked w) (λ i. T (member x i)) p j × Opens (grammar_in t) (marked w) (returns_of ws₀ base k) j
-              → OpensAmong t w r.to.words (returns_of ws₀ base (suc l))
-          to (j, u, v) = (j, (y.ends some j).0 u, rw e at v)
+          there : (j : ℕ) × EndsFrom (grammar_in t) (masks_in ms) (marked w) (λ i. T (member x i)) p j × Opens (grammar_in t) (marked w)
+              (returns_of ws₀ base k) j
+              → OpensAmong t w to.words (returns_of ws₀ base (suc l))
+          there (j, u, v) = (j, (y.there.ends j).0 u, rw e at v)
 
-          from : OpensAmong t w r.to.words (returns_of ws₀ base (suc l)) → OpensAmong t w x (p ∷ returns_of ws₀ base k)
+          from : OpensAmong t w to.words (returns_of ws₀ base (suc l)) → OpensAmong t w x (p ∷ returns_of ws₀ base k)
           from (j, u, v) =
-              (opens-from (stack-order may.stacked) (stack-closed may.stacked) (λ i. T (member x i)) h.stack).1 (j, (y.ends some j).1 u, rw e v)
+              (opens-from (stack-order may.stacked) (stack-closed may.stacked) (λ i. T (member x i)) h.stack).1 (j, (y.there.ends j).1 u, rw e v)
 
           down : (j : ℕ) → EndsFrom (grammar_in t) (masks_in ms) (marked w) (λ i. T (member x i)) p j
               → ReachedAmong t w x (p ∷ returns_of ws₀ base k) → Reached (grammar_in t) (marked w) (returns_of ws₀ base (suc l)) j
@@ -111,25 +118,22 @@ module _ {t w ms ws₀ : List ℕ} {s : Size} {base d known q : ℕ} {x₀ : Lis
 
       -- ---- at a frame
       -- its mark is among the positions
-      pub spread-met : T (holds_of us base known l r.to.words)
-          → Scattered t w ms ws₀ us base d known q x₀ m
-          (record { yes = true; single = false; meter = record { left = r.meter.left - 1; high = r.meter.high } })
+      pub spread-met : T (holds_of us base known l to.words)
+          → Scattered t w ms ws₀ us base d known q x₀ m paid (Ok (record { yes = true; single = false }))
       spread-met u = record {
         kept = frame-all.going.kept;
         spent = frame-all.going.spent;
-        several = λ v. v;
-        answer = λ v. (λ z. frame-all.same.1 here, λ z. tt);
-        far = λ v. frame-all.going.far;
+        told = record { several = λ v. v; answer = (λ z. frame-all.same.1 here, λ z. tt); far = frame-all.going.far };
       }
         where
-          here : OpensAmong t w r.to.words (returns_of ws₀ base (suc l))
+          here : OpensAmong t w to.words (returns_of ws₀ base (suc l))
           here =
-              let z = holds-T us base known l r.to.words u in
+              let z = holds-T us base known l to.words u in
               (mark_at us base l, z.1, rw (returns-kept ws₀ us base (suc l) frame-all.going.kept.places) at (frame-all.going.kept.marks l z.0))
 
       -- the next place to go on from
       pub spread-next : {o : ℕ} → ¬ (l ≡ 0) → o ≡ get_or us (base + frame_words * l) 0
-          → Spreading t w ms ws₀ base d known q x₀ m us (record { left = r.meter.left - 1; high = r.meter.high }) o r.to.words l
+          → Spreading t w ms ws₀ base d known q x₀ m us paid o to.words l
       spread-next {o} z f =
           let g = f ∙ frame-all.going.kept.places l in
           let y = next_place ws₀ base t w may.stacked.searching.given.ready l o (omega arith) open-all g in
@@ -137,37 +141,23 @@ module _ {t w ms ws₀ : List ℕ} {s : Size} {base d known q : ℕ} {x₀ : Lis
           record { spread = rw c at frame-all; low = omega (arith, h.low); stack = y.1; place = y.0 }
 
     -- it is the lowest, where the note's end is due
-    pub spread-lowest : {us : List ℕ} {r : Scatter} {n : ℕ} {yes : Bool} → LedAll t w ms ws us p x at r → 0 < r.meter.left → k ≡ 1 → n ≡ length w
-        → yes ≡ member r.to.words n
-        → Scattered t w ms ws₀ us base d known q x₀ m
-        (record { yes = yes; single = false; meter = record { left = r.meter.left - 1; high = r.meter.high } })
-    spread-lowest {us} {r} {n} {yes} y some e f g = record {
+    pub spread-lowest : {us : List ℕ} {r paid : Meter} {to : Positions} {n : ℕ} {yes : Bool} → LedAll t w ms ws us p x at r (Ok to)
+        → paid.left ≤ r.left → paid.high ≡ r.high → k ≡ 1 → n ≡ length w → yes ≡ member to.words n
+        → Scattered t w ms ws₀ us base d known q x₀ m paid (Ok (record { yes = yes; single = false }))
+    spread-lowest {us} {r} {paid} {to} {n} {yes} y fewer same e f g = record {
       kept = below.going.kept;
       spent = below.going.spent;
-      several = λ v. v;
-      answer = λ v. (λ u. below.same.1 (here u), λ o. there (below.same.0 o));
-      far = λ v. below.going.far;
+      told = record { several = λ v. v; answer = (λ u. below.same.1 (here u), λ o. there (below.same.0 o)); far = below.going.far };
     }
       where
-        below : Spread t w ms ws₀ base d known q x₀ m us (record { left = r.meter.left - 1; high = r.meter.high }) (returns_of ws₀ base 1) r.to.words
-        below = frame-all y some e
+        below : Spread t w ms ws₀ base d known q x₀ m us paid (returns_of ws₀ base 1) to.words
+        below = frame-all y fewer same e
 
         ends : (j : ℕ) → Opens (grammar_in t) (marked w) (returns_of ws₀ base 1) j ↔ (j ≡ length w)
-        ends j = opens-lowest ws₀ base t w may.stacked.searching.given.ready j (open-all y some e)
+        ends j = opens-lowest ws₀ base t w may.stacked.searching.given.ready j (open-all y fewer same e)
 
-        here : T yes → OpensAmong t w r.to.words (returns_of ws₀ base 1)
+        here : T yes → OpensAmong t w to.words (returns_of ws₀ base 1)
         here u = (n, rw g at u, (ends n).1 f)
 
-        there : OpensAmong t w r.to.words (returns_of ws₀ base 1) → T yes
+        there : OpensAmong t w to.words (returns_of ws₀ base 1) → T yes
         there (j, u, v) = let c : j ≡ n = (ends j).0 v ∙ sym f in rw (g, ← c) u
-
--- nothing is left of the budget
-pub spread-out : {t w ms ws₀ ws : List ℕ} {base d known q : ℕ} {x : List ℕ} {m : Meter} (r : Descent) → StackKept t w ms ws₀ ws base known
-    → r.meter.left ≡ 0 → r.single ≡ false → Scattered t w ms ws₀ ws base d known q x m r
-spread-out r k e f = record {
-  kept = k;
-  spent = omega arith;
-  several = λ v. rw f at v;
-  answer = λ l. absurd (omega arith);
-  far = λ l. absurd (omega arith);
-}

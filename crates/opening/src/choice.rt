@@ -1,22 +1,23 @@
 // The lowest alternative that serves: by which the rest of the note can be derived with what is open.
 ghost use Rattle.std.specs.Prelude.{◌≡◌, cond};
-ghost use Rattle.search.specs.inside.Searching.{MayAsk};
-ghost use Rattle.opening.specs.inside.Choice.{MayChoose, Chosen, AskedFor, Taken};
+ghost use Rattle.search.specs.inside.Searching.{Asks};
+ghost use Rattle.opening.specs.inside.Choice.{Chooses, ChosenBy, AskedForBy, TakenBy};
 
-use search::{Meter, Size, Tag};
+use crate::marks::Frames;
+use search::{Meter, Pair, Search, Tag};
 
-// An alternative, 0 for none; of how many frames the marks stand; and what is left of the budget, 0 where it is out and nothing is said.
+// The alternative, if there is one; of how many frames the marks stand; and what is left of the budget, 0 where it is out and nothing is said.
 #[derive(Clone, Copy)]
 pub struct Found {
-    pub alternative: usize,
+    pub alternative: Option<usize>,
     pub known: usize,
     pub meter: Meter,
 }
 
-// An alternative, 0 for none, and what is left of the budget.
+// The alternative, if one is told, and what is left of the budget.
 #[derive(Clone, Copy)]
 pub struct Pick {
-    pub alternative: usize,
+    pub alternative: Option<usize>,
     pub left: usize,
 }
 
@@ -27,137 +28,110 @@ fn stand(all: bool, depth: usize, known: usize) -> usize
     if all { depth } else { known }
 }
 
-// The lowest alternative of a at i over the frames below `depth`, of which the topmost is where it returns to.
-pub fn lowest(
-    tables: &[u16],
-    masks: &[u32],
-    note: &[u16],
-    ws: &mut [u32],
-    size: Size,
-    base: usize,
-    depth: usize,
-    known: usize,
-    a: usize,
-    i: usize,
-    meter: Meter,
-) -> Found
-    requires { MayChoose tables.now note.now masks.now ws.old size base depth known a i }
-    ensures { Chosen tables.now note.now masks.now ws.old ws.new base depth known a i meter result }
+// The lowest alternative of a pair over the frames, of which the topmost is where its nonterminal returns to.
+pub fn lowest(search: Search, ws: &mut [u32], frames: Frames, pair: Pair, meter: Meter) -> Found
+    requires { Chooses search ws.old frames pair }
+    ensures { ChosenBy search.entry ws.old ws.new frames pair meter result }
 {
-    let start = grammar::rule_at(tables, a);
-    let end = grammar::rule_at(tables, a + 1);
     let mut at = meter;
-    let mut k = start;
-    while k < end {
-        let f = grammar::first_place(tables, k);
-        k += 1;
-        let down = crate::descent::descend(
-            tables, masks, note, ws, size, base, depth, known, f, i, at,
-        );
-        at = down.meter;
+    for (k, f) in grammar::first_places(search.tables, pair.nonterminal)
+        .iter()
+        .enumerate()
+    {
+        let first = usize::from(*f);
+        let descent = crate::descent::descend(search, ws, frames, first, pair.position, &mut at);
+        let Ok(down) = descent else {
+            return Found {
+                alternative: None,
+                known: 0,
+                meter: Meter {
+                    left: 0,
+                    high: at.high,
+                },
+            };
+        };
         if at.left == 0 {
             return Found {
-                alternative: 0,
+                alternative: None,
                 known: 0,
                 meter: at,
             };
         }
         if down.yes {
             return Found {
-                alternative: k - start,
-                known: stand(down.single, depth, known),
+                alternative: Some(k + 1),
+                known: stand(down.single, frames.depth, frames.known),
                 meter: at,
             };
         }
     }
     Found {
-        alternative: 0,
-        known,
+        alternative: None,
+        known: frames.known,
         meter: at,
     }
 }
 
-// Some alternative of a at i serves: the lowest that does, if it is told without going down the stack. There is only one; or all derive the empty row; or
-// the pair has a single end. Else 0.
-pub fn direct(
-    tables: &[u16],
-    masks: &[u32],
-    note: &[u16],
-    ws: &mut [u32],
-    size: Size,
-    a: usize,
-    i: usize,
-    budget: usize,
-) -> Pick
-    requires { MayAsk tables.now note.now masks.now ws.old size a i }
-    ensures { Taken tables.now note.now masks.now ws.old ws.new a i budget result }
+// Some alternative of a pair serves: the lowest that does, if it is told without going down the stack. There is only one; or all derive the empty row; or
+// the pair has a single end. Else none is told.
+pub fn direct(search: Search, ws: &mut [u32], pair: Pair, budget: usize) -> Pick
+    requires { Asks search ws.old pair }
+    ensures { TakenBy search.entry ws.old ws.new pair budget result }
 {
-    if derivation::alternatives(tables, a) < 2 {
+    if derivation::alternatives(search.tables, pair.nonterminal) < 2 {
         return Pick {
-            alternative: 1,
+            alternative: Some(1),
             left: budget,
         };
     }
-    let t = derivation::token_at(note, i);
-    if !first_follow::starts(masks, t, a) {
+    let t = derivation::token_at(search.note, pair.position);
+    if !first_follow::starts(search.masks, t, pair.nonterminal) {
         return Pick {
-            alternative: crate::empties::empty(tables, first_follow::nullable(masks), a),
+            alternative: crate::empties::empty(
+                search.tables,
+                first_follow::nullable(search.masks),
+                pair.nonterminal,
+            ),
             left: budget,
         };
     }
-    let left = asked(tables, masks, note, ws, size, a, i, budget);
+    let left = asked(search, ws, pair, budget);
     if left == 0 {
         return Pick {
-            alternative: 0,
+            alternative: None,
             left: 0,
         };
     }
-    let tag = search::tag_of(ws, size, a, i);
-    match tag {
+    match search.size.tag_of(ws, pair) {
         Tag::None => Pick {
-            alternative: 0,
+            alternative: None,
             left,
         },
         Tag::One(_, b, _) => Pick {
-            alternative: b,
+            alternative: Some(b),
             left,
         },
         Tag::Several => Pick {
-            alternative: 0,
+            alternative: None,
             left,
         },
     }
 }
 
-// Pair (a, i), worked out if it is not yet. What is left of the budget.
-fn asked(
-    tables: &[u16],
-    masks: &[u32],
-    note: &[u16],
-    ws: &mut [u32],
-    size: Size,
-    a: usize,
-    i: usize,
-    budget: usize,
-) -> usize
-    requires { MayAsk tables.now note.now masks.now ws.old size a i }
-    ensures { AskedFor tables.now note.now masks.now ws.old ws.new a i budget result }
+// A pair, worked out if it is not yet. What is left of the budget.
+fn asked(search: Search, ws: &mut [u32], pair: Pair, budget: usize) -> usize
+    requires { Asks search ws.old pair }
+    ensures { AskedForBy search.entry ws.old ws.new pair budget result }
 {
-    if search::is_done(ws, a, i) {
+    if search::is_done(ws, pair) {
         return budget;
     }
-    let meter = search::settle(
-        tables,
-        masks,
-        note,
-        ws,
-        size,
-        a,
-        i,
-        Meter {
-            left: budget,
-            high: 0,
-        },
-    );
-    meter.left
+    let mut meter = Meter {
+        left: budget,
+        high: 0,
+    };
+    match search.settle(ws, pair, &mut meter) {
+        Ok(()) => meter.left,
+        Err(_) => 0,
+    }
 }

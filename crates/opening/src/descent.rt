@@ -1,145 +1,106 @@
 // From a place down over the open frames. The lowest frame returns to the end place, where the note's end is due.
-ghost use Rattle.std.specs.Prelude.{◌≡◌, false};
-ghost use Rattle.opening.specs.inside.Descent.{MayDescend, MaySpread, Descended, Scattered};
+ghost use Rattle.opening.specs.inside.Descent.{DescendsFrom, SpreadsFrom, DescendedBy, ScatteredBy};
 
+use crate::marks::Frames;
 use positions::Positions;
-use search::{Meter, Size, Way};
+use search::{Exhausted, Meter, Search, Way};
 
-// Whether a place and all frames derive the rest; whether each frame was come to at one position, so that all have marks if they do; and what is left of
-// the budget, 0 where it is out and nothing is said.
-#[derive(Clone, Copy)]
+// Whether a place and all frames derive the rest; and whether each frame was come to at one position, so that all have marks if they do.
+#[derive(Clone, Copy, Debug, PartialEq, Eq)]
 pub struct Descent {
     pub yes: bool,
     pub single: bool,
-    pub meter: Meter,
 }
 
-fn out(high: usize) -> Descent
-    ensures { (result.meter.left ≡ 0) × (result.meter.high ≡ high) × (result.single ≡ false) }
-{
-    Descent {
-        yes: false,
-        single: false,
-        meter: Meter { left: 0, high },
-    }
-}
-
-// From the positions of a set at place p, over the frames below `depth`.
+// From the positions of a set at place p. In shape this is `descend`, but only a single position leaves marks and says so: two laws, so two functions.
+// Both loops go down the frames until there is an answer, and the next place is read from a frame: this is no walk over a range.
 fn spread(
-    tables: &[u16],
-    masks: &[u32],
-    note: &[u16],
+    search: Search,
     ws: &mut [u32],
-    size: Size,
-    base: usize,
-    depth: usize,
-    known: usize,
+    frames: Frames,
     p: usize,
     from: Positions,
-    meter: Meter,
-) -> Descent
-    requires { MaySpread tables.now note.now masks.now ws.old size base depth known p from.words }
-    ensures { Scattered tables.now note.now masks.now ws.old ws.new base depth known p
-        from.words meter result }
+    meter: &mut Meter,
+) -> Result<Descent, Exhausted>
+    requires { SpreadsFrom search ws.old frames p from.words }
+    ensures { ScatteredBy search.entry ws.old ws.new frames p from.words meter.old meter.new result }
 {
-    let n = note.len();
-    let mut at = meter;
+    let n = search.note.len();
     let mut q = p;
     let mut x = from;
-    let mut k = depth;
+    let mut k = frames.depth;
     loop {
-        let led = crate::leading::spread(tables, masks, note, ws, size, q, x, at);
-        if led.meter.left == 0 {
-            return out(led.meter.high);
-        }
-        at = Meter {
-            left: led.meter.left - 1,
-            high: led.meter.high,
-        };
-        x = led.to;
+        x = crate::leading::spread(search, ws, q, x, meter)?;
+        meter.pay(1)?;
         k -= 1;
-        if crate::marks::among(ws, base, known, k, x) {
-            return Descent {
+        if frames.among(ws, k, x) {
+            return Ok(Descent {
                 yes: true,
                 single: false,
-                meter: at,
-            };
+            });
         }
         if k == 0 {
-            return Descent {
+            return Ok(Descent {
                 yes: x.has(n),
                 single: false,
-                meter: at,
-            };
+            });
         }
-        q = machine::frames::return_place(ws, base, k);
+        q = machine::frames::return_place(ws, frames.base, k);
     }
 }
 
-// From place q at position i, over the frames below `depth`.
+// From place q at position i.
 pub fn descend(
-    tables: &[u16],
-    masks: &[u32],
-    note: &[u16],
+    search: Search,
     ws: &mut [u32],
-    size: Size,
-    base: usize,
-    depth: usize,
-    known: usize,
+    frames: Frames,
     q: usize,
     i: usize,
-    meter: Meter,
-) -> Descent
-    requires { MayDescend tables.now note.now masks.now ws.old size base depth known q i }
-    ensures { Descended tables.now note.now masks.now ws.old ws.new base depth known q i
-        meter result }
+    meter: &mut Meter,
+) -> Result<Descent, Exhausted>
+    requires { DescendsFrom search ws.old frames q i }
+    ensures { DescendedBy search.entry ws.old ws.new frames q i meter.old meter.new result }
 {
-    let n = note.len();
-    let mut at = meter;
+    let n = search.note.len();
     let mut p = q;
     let mut j = i;
-    let mut k = depth;
+    let mut k = frames.depth;
     loop {
-        let led = crate::leading::lead(tables, masks, note, ws, size, p, j, at);
-        if led.meter.left == 0 {
-            return out(led.meter.high);
-        }
-        at = Meter {
-            left: led.meter.left - 1,
-            high: led.meter.high,
-        };
-        let way = led.way;
+        let way = crate::leading::lead(search, ws, p, j, meter)?;
+        meter.pay(1)?;
         match way {
-            Way::Needs(_, _) => return out(at.high),
+            Way::Needs(_) => return Err(Exhausted),
             Way::Nowhere(_) => {
-                return Descent {
+                return Ok(Descent {
                     yes: false,
                     single: false,
-                    meter: at,
-                };
+                });
             }
-            Way::Several(next, b, m) => {
-                let x = search::set_of(ws, size, b, m);
-                return spread(tables, masks, note, ws, size, base, k, known, next, x, at);
+            Way::Several { place, pair } => {
+                let x = search.size.set_of(ws, pair);
+                let below = Frames {
+                    base: frames.base,
+                    depth: k,
+                    known: frames.known,
+                };
+                return spread(search, ws, below, place, x, meter);
             }
             Way::Ends(m) => {
                 j = m;
                 k -= 1;
-                if crate::marks::meets(ws, base, known, k, j) {
-                    return Descent {
+                if frames.meets(ws, k, j) {
+                    return Ok(Descent {
                         yes: true,
                         single: true,
-                        meter: at,
-                    };
+                    });
                 }
                 if k == 0 {
-                    return Descent {
+                    return Ok(Descent {
                         yes: j == n,
                         single: true,
-                        meter: at,
-                    };
+                    });
                 }
-                p = machine::frames::return_place(ws, base, k);
+                p = machine::frames::return_place(ws, frames.base, k);
             }
         }
     }

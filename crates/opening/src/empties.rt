@@ -1,51 +1,43 @@
 // The alternative that derives the empty row.
-ghost use Rattle.std.specs.Prelude.{◌≡◌, false, ◌<◌};
+ghost use Rattle.std.specs.Prelude.{◌≡◌, false, ◌<◌, [], ◌∷◌};
 ghost use Rattle.base.specs.Bits.{test_bit};
 ghost use Rattle.grammar.specs.Grammar.{suffix};
+ghost use Rattle.grammar.specs.Limits.{max_nonterminals};
+ghost use Rattle.grammar.specs.inside.Production.{Among};
 ghost use Rattle.grammar.specs.inside.Tables.{grammar_in, nonterminals_in, TablesFit};
 ghost use Rattle.closures.specs.Closures.{passes};
-ghost use Rattle.derivation.specs.inside.Ready.{Ready};
+ghost use Rattle.machine.specs.inside.Choice.{Numbered};
 ghost use Rattle.opening.specs.inside.Choice.{empty_of};
 
 use grammar::Symbol;
 
-// Whether every symbol from place f to its production's end is a nonterminal of the set.
+// Whether a symbol is a nonterminal of the set.
+fn within(set: u32, symbol: Symbol) -> bool
+    requires { Among max_nonterminals symbol }
+    ensures { result ≡ passes false (test_bit set) (symbol ∷ []) }
+{
+    match symbol {
+        Symbol::Nonterminal(b) => base::has(set, b),
+        Symbol::Token(_) => false,
+        Symbol::End => false,
+    }
+}
+
+// Whether every symbol from place f to its production's end is.
 fn vanishes(tables: &[u16], set: u32, f: usize) -> bool
     requires { TablesFit tables.now }
     ensures { result ≡ passes false (test_bit set) (suffix (grammar_in tables.now) f) }
 {
-    let mut p = f;
-    while p <= grammar::END_PLACE {
-        let place = grammar::place_at(tables, p);
-        let symbol = place.symbol;
-        p += 1;
-        match symbol {
-            Symbol::End => return true,
-            Symbol::Token(_) => return false,
-            Symbol::Nonterminal(b) => {
-                if !base::has(set, b) {
-                    return false;
-                }
-            }
-        }
-    }
-    true
+    grammar::symbols_from(tables, f).all(|symbol| within(set, symbol))
 }
 
-// The lowest alternative of a of which every symbol is a nonterminal of the set; 0 if there is none.
-pub fn empty(tables: &[u16], set: u32, a: usize) -> usize
-    requires { Ready tables.now × (a < nonterminals_in tables.now) }
-    ensures { result ≡ empty_of (grammar_in tables.now) set a }
+// The lowest alternative of a of which every symbol is a nonterminal of the set.
+pub fn empty(tables: &[u16], set: u32, a: usize) -> Option<usize>
+    requires { TablesFit tables.now × (a < nonterminals_in tables.now) }
+    ensures { Numbered result (λ r. r ≡ empty_of (grammar_in tables.now) set a) }
 {
-    let start = grammar::rule_at(tables, a);
-    let end = grammar::rule_at(tables, a + 1);
-    let mut k = start;
-    while k < end {
-        let f = grammar::first_place(tables, k);
-        k += 1;
-        if vanishes(tables, set, f) {
-            return k - start;
-        }
-    }
-    0
+    grammar::first_places(tables, a)
+        .iter()
+        .position(|f| vanishes(tables, set, usize::from(*f)))
+        .map(|k| k + 1)
 }

@@ -9,3 +9,4 @@ mod leading;
 mod marks;
 
 pub use choice::{Found, Pick, direct, lowest};
+pub use marks::Frames;

@@ -27,7 +27,7 @@ fn ripe(row: u32, set: u32, a: usize) -> bool
     base::subset(row, set)
 }
 
-// The k-th of n nonterminals, from the first up or from the last down.
+// The k-th of n nonterminals, from the first up or from the last down: one loop and one proof for both ways, where two ranges would need two of each.
 fn turn(up: bool, k: usize, n: usize) -> usize
     requires { k < n }
     ensures { result ≡ turn_of up k n }
@@ -59,10 +59,8 @@ fn sweep(tables: &[u16], order: &mut [usize], from: Placed, up: bool) -> Placed
 {
     let n = grammar::nonterminals(tables);
     let mut placed = from;
-    let mut k = 0;
-    while k < n {
+    for k in 0..n {
         let a = turn(up, k, n);
-        k += 1;
         let row = grammar::corner_row(tables, a);
         if ripe(row, placed.set, a) {
             placed = place(order, placed, a);

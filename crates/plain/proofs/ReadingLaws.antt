@@ -6,24 +6,23 @@ use Prim.Native.Nat.{ℕ, ◌-◌, ◌<◌}
 use native.Mathlib.Omega.{arith}
 use lib.ListN.{length, take, replicate}
 use borrow.Author.Tests.{ne_eqb, eq-eqb}
+use Rattle.std.specs.Prelude.{Ok, Err}
 use Rattle.base.proofs.Booleans.{true→T, false→¬T}
 use Rattle.grammar.specs.Limits.{end_place}
 use Rattle.grammar.specs.inside.Tables.{grammar_in}
 use Rattle.derivation.specs.Runs.{marked, Serves}
 use Rattle.derivation.specs.Machine as machine
-use Rattle.derivation.specs.Plain.{Answer, answer, refuse, sentence?, on_conclusion, read_note, plain_reading}
+use Rattle.derivation.specs.Plain.{Answer, refuse, sentence?, on_conclusion, read_note, plain_reading}
 use Rattle.derivation.specs.ReachRounds.{wrong_place}
-use Rattle.derivation.specs.Gate as definition
 use Rattle.derivation.specs.inside.Ready.{Ready}
 use Rattle.derivation.proofs.ReadyLaws.{ready-ordered}
 use Rattle.derivation.proofs.ReadingLaws.{sentence-serves, reading-sound}
 use Rattle.derivation.proofs.SentenceTest.{sentence-iff}
-use Rattle.gate.specs.Reading.{reading_number, reading_place, answered}
-use Rattle.gate.specs.inside.Passing.{gate_in, Admitted, Gated}
-use Rattle.gate.specs.declared.reading.Reading.{Reading}
-use Rattle.gate.specs.declared.reading.Reading.TheVariants.{NoSentence, ShortRow}
-use Rattle.gate.specs.declared.passing.Gate.{Gate}
-use Rattle.gate.specs.declared.passing.Gate.TheVariants.{Passed, Shut}
+use Rattle.gate.specs.Reading.{answered}
+use Rattle.gate.specs.inside.Passing.{Gate, Admitted, Gated}
+use Rattle.gate.specs.declared.reading.ReadingRefusal.{ReadingRefusal}
+use Rattle.gate.specs.declared.reading.ReadingRefusal.TheVariants.{NoSentence, ShortRow}
+use Rattle.gate.proofs.PassingLaws.{at-shut, at-passed}
 use Rattle.first_follow.specs.inside.Words.{mask_words}
 use Rattle.cells.specs.inside.Chart.{Charted}
 use Rattle.cells.proofs.Spots.{lent-kept}
@@ -36,7 +35,7 @@ use Rattle.serving.specs.inside.Judging.{MayJudge, Judges}
 use Rattle.plain.specs.inside.Run.{MayRun, PlainRan, Stopped}
 use Rattle.serving.specs.declared.judging.Judged.{Judged}
 use Rattle.serving.specs.declared.judging.Judged.TheVariants.{Sentence, Wrong, Out}
-use Rattle.plain.specs.declared.reading.Stop.{Stop}
+use Rattle.serving.specs.declared.running.Stop.{Stop}
 
 -- ---- the note as a whole
 module _ (t : List ℕ) (h : Ready t) (w : List ℕ) where
@@ -49,14 +48,14 @@ module _ (t : List ℕ) (h : Ready t) (w : List ℕ) where
 
   -- what the machine accepts is a sentence, so a note that is none gets stuck, or is full: the answer is the same
   pub wrong-is : (row : List ℕ) {p : ℕ} {after : List ℕ} → sentence? (grammar_in t) w ≡ false → p ≡ wrong_place (grammar_in t) w
-      → after ≡ take 0 row ++ replicate (length row - 0) 0 → answered (NoSentence p) after ≡ read_note (grammar_in t) w row
+      → after ≡ take 0 row ++ replicate (length row - 0) 0 → answered (Err (NoSentence p)) after ≡ read_note (grammar_in t) w row
   unfolding read_note
   wrong-is row {p} {after} e z y = go outcome.outcome refl
     where
       outcome : machine.Ended (Unit {0})
       outcome = machine.reading (grammar_in t) (marked w) (machine.plainly (grammar_in t) (marked w)) (length row) tt
 
-      go : (o : machine.Conclusion) → outcome.outcome ≡ o → answered (NoSentence p) after ≡ on_conclusion (grammar_in t) w row o
+      go : (o : machine.Conclusion) → outcome.outcome ≡ o → answered (Err (NoSentence p)) after ≡ on_conclusion (grammar_in t) w row o
       go (machine.accepted d) q =
           let o = ready-ordered t h in
           let x = (reading-sound (grammar_in t) o.marked_end o.end-past w (machine.plainly (grammar_in t) (marked w)) (length row) tt d q).0 in
@@ -103,13 +102,13 @@ module _ (t w : List ℕ) {ws : List ℕ} (h : Admitted t w (length ws)) where
     run_out e = let z : budget_in tally' ≡ 1 = rw e at x.answer in running (λ n. absurd (omega arith))
 
     pub judged-wrong : {p : ℕ} → r ≡ Wrong p → (row : List ℕ) {row' : List ℕ} → row' ≡ take 0 row ++ replicate (length row - 0) 0
-        → answered (NoSentence p) row' ≡ read_note (grammar_in t) w row
+        → answered (Err (NoSentence p)) row' ≡ read_note (grammar_in t) w row
     judged-wrong e row z = let (n, q) = rw e at x.answer in wrong-is t h.ready w row n q z
 
     -- the machine stopped
-    pub stopped : {row row' tally'' ws' : List ℕ} {s : Stop} {b : Bool} → PlainRan t w row after s row' ms' tally'' ws'
+    pub stopped : {row row' ms'' tally'' ws' : List ℕ} {s : Stop} {b : Bool} → PlainRan t w row after s row' ms'' tally'' ws'
         → (b ≡ true → sentence? (grammar_in t) w ≡ true) → Stopped t w row' tally'' ws' s b
-    stopped y sound =
+    stopped {ms'' = ms''} y sound =
         record {
           told = record {
             ready = h.ready;
@@ -117,7 +116,7 @@ module _ (t w : List ℕ) {ws : List ℕ} (h : Admitted t w (length ws)) where
             lent = lent-kept y.ran.space-kept judged.lent;
             tallied = y.tallied;
           };
-          masks = ms';
+          masks = ms'';
           stage = y.stage;
           within = y.ran.within;
           sound = sound;
@@ -144,7 +143,7 @@ module _ (t w row tally ws : List ℕ) {r : Stop} {b : Bool} (x : Stopped t w ro
 
   -- the row has no room for a sentence
   pub stopped-short : b ≡ true → {after : List ℕ} → after ≡ take 0 row ++ replicate (length row - 0) 0
-      → answered ShortRow after ≡ on_conclusion (grammar_in t) w row machine.full
+      → answered (Err ShortRow) after ≡ on_conclusion (grammar_in t) w row machine.full
   stopped-short e z = end_short (grammar_in t) w row (e ∙ sym (x.sound e)) e z
 
   pub stopped-given : {after : List ℕ} → CellsRight t w ws after → Given t w after
@@ -152,17 +151,10 @@ module _ (t w row tally ws : List ℕ) {r : Stop} {b : Bool} (x : Stopped t w ro
 
 -- ---- the gate
 module _ (s w row : List ℕ) (space : ℕ) {t : List ℕ} {g : Gate} (h : Gated s w space t g) where
-  abbrev told : definition.Gate → Answer
-  told x = definition.at_gate (λ n p. refuse n p row) (λ g. read_note g w row) x
-
-  pub shut-is : {r : Reading} → g ≡ Shut r → answered r row ≡ plain_reading s w row space
+  pub shut-is : {r : ReadingRefusal} → g ≡ Err r → answered (Err r) row ≡ plain_reading s w row space
   unfolding plain_reading
-  shut-is {r} e =
-      let z : told (gate_in (Shut r) (grammar_in t)) ≡ told (definition.gate s w space) = ap told (rw e at h.is) in
-      ap (λ (n : ℕ). answer (reading_number r) (reading_place r) n row) (h.counts r e) ∙ z
+  shut-is e = at-shut h (λ n p. refuse n p row) (λ g. read_note g w row) e
 
-  pub passed_is : g ≡ Passed → {x : Answer} → x ≡ read_note (grammar_in t) w row → x ≡ plain_reading s w row space
+  pub passed_is : g ≡ Ok tt → {x : Answer} → x ≡ read_note (grammar_in t) w row → x ≡ plain_reading s w row space
   unfolding plain_reading
-  passed_is e q =
-      let z : told (gate_in Passed (grammar_in t)) ≡ told (definition.gate s w space) = ap told (rw e at h.is) in
-      q ∙ z
+  passed_is e q = q ∙ at-passed h (λ n p. refuse n p row) (λ g. read_note g w row) e

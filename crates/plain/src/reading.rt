@@ -8,77 +8,25 @@ ghost use Rattle.machine.specs.inside.Ending.{outcome_in};
 ghost use Rattle.plain.specs.inside.Run.{MayRun, PlainRan, Stopped};
 ghost use Rattle.plain.specs.Contract.{PlainDid};
 
-use gate::{Gate, Reading};
-use machine::{At, Conclusion, Turn};
-use serving::Judged;
-
-// How the machine stopped, and of how many open frames marks or sets stood.
-#[derive(Clone, Copy)]
-pub struct Stop {
-    pub outcome: Conclusion,
-    pub known: usize,
-}
+use crate::lowest::Lowest;
+use gate::ReadingRefusal;
+use machine::Conclusion;
+use serving::{Judged, Stop};
 
 // The machine from nonterminal 0 over the end place on: at each nonterminal the lowest alternative that serves.
 fn run(
     tables: &[u16],
     note: &[u16],
     row: &mut [u16],
-    masks: &[u32],
+    masks: &mut [u32],
     tally: &mut [u32],
     ws: &mut [u32],
 ) -> Stop
-    requires { MayRun tables.now note.now masks.now tally.old ws.old }
-    ensures { PlainRan tables.now note.now row.old ws.old result row.new masks.now
+    requires { MayRun tables.now note.now masks.old tally.old ws.old }
+    ensures { PlainRan tables.now note.now row.old ws.old result row.new masks.new
         tally.new ws.new }
 {
-    let space = machine::space_of(tables, note);
-    let mut count = 0;
-    let mut known = 0;
-    let mut a = 0;
-    let mut at = At {
-        place: grammar::END_PLACE,
-        position: 0,
-        depth: 0,
-    };
-    loop {
-        if count == row.len() {
-            return Stop {
-                outcome: Conclusion::Full,
-                known: known,
-            };
-        }
-        let pick = serving::take(tables, note, masks, tally, ws, space, known, at, a);
-        known = pick.known;
-        let b = pick.alternative;
-        if b == 0 {
-            return Stop {
-                outcome: Conclusion::Stuck,
-                known: known,
-            };
-        }
-        row[count] = base::narrow(b);
-        count += 1;
-        let turn = machine::enter(tables, note, ws, space.base, at, a, b);
-        match turn {
-            Turn::Ended => {
-                return Stop {
-                    outcome: Conclusion::Accepted(count),
-                    known: known,
-                };
-            }
-            Turn::Stuck => {
-                return Stop {
-                    outcome: Conclusion::Stuck,
-                    known: known,
-                };
-            }
-            Turn::Calls(next, called) => {
-                at = next;
-                a = called;
-            }
-        }
-    }
+    serving::run(tables, note, row, masks, tally, ws, &mut Lowest)
 }
 
 // What follows from how it stopped: a sentence whose derivation the row does not hold is 14; else the cells decide.
@@ -90,7 +38,7 @@ fn finish(
     ws: &mut [u32],
     stop: Stop,
     sentence: bool,
-) -> Reading
+) -> Result<usize, ReadingRefusal>
     requires { Stopped tables.now note.now row.old tally.now ws.old stop sentence }
     ensures { answered result row.new
         ≡ on_conclusion (grammar_in tables.now) note.now row.old (outcome_in stop.outcome row.old) }
@@ -100,12 +48,12 @@ fn finish(
     match outcome {
         Conclusion::Accepted(entries) => {
             base::clear_from(row, entries);
-            Reading::Accepted(entries)
+            Ok(entries)
         }
         Conclusion::Full => {
             if sentence {
                 base::clear_from(row, 0);
-                return Reading::ShortRow;
+                return Err(ReadingRefusal::ShortRow);
             }
             serving::fill_cells(tables, note, ws, stand);
             machine::finish(tables, note, row, ws, Conclusion::Full)
@@ -118,7 +66,13 @@ fn finish(
 }
 
 // The note, for which the gate was passed; a search spends `most` at most. Where ends on demand tell that it is no sentence, the machine does not run.
-fn read(tables: &[u16], note: &[u16], row: &mut [u16], ws: &mut [u32], most: u32) -> Reading
+fn read(
+    tables: &[u16],
+    note: &[u16],
+    row: &mut [u16],
+    ws: &mut [u32],
+    most: u32,
+) -> Result<usize, ReadingRefusal>
     requires { Admitted tables.now note.now (length ws.old) }
     ensures { answered result row.new ≡ read_note (grammar_in tables.now) note.now row.old }
 {
@@ -129,14 +83,14 @@ fn read(tables: &[u16], note: &[u16], row: &mut [u16], ws: &mut [u32], most: u32
     match judged {
         Judged::Wrong(place) => {
             base::clear_from(row, 0);
-            Reading::NoSentence(place)
+            Err(ReadingRefusal::NoSentence(place))
         }
         Judged::Sentence(_) => {
-            let stop = run(tables, note, row, &masks, &mut tally, ws);
+            let stop = run(tables, note, row, &mut masks, &mut tally, ws);
             finish(tables, note, row, &tally, ws, stop, true)
         }
         Judged::Out => {
-            let stop = run(tables, note, row, &masks, &mut tally, ws);
+            let stop = run(tables, note, row, &mut masks, &mut tally, ws);
             finish(tables, note, row, &tally, ws, stop, false)
         }
     }
@@ -149,20 +103,22 @@ pub fn within(
     row: &mut [u16],
     workspace: &mut [u32],
     most: u32,
-) -> Reading
+) -> Result<usize, ReadingRefusal>
     ensures { PlainDid grammar.now note.now row.old (length workspace.old)
         (reading_number result) (reading_place result) (reading_count result) row.new }
 {
     let mut tables = [0u16; grammar::TABLE_WORDS];
-    let gate = gate::pass(grammar, note, workspace.len(), &mut tables);
-    match gate {
-        Gate::Shut(r) => r,
-        Gate::Passed => read(&tables, note, row, workspace, most),
-    }
+    gate::pass(grammar, note, workspace.len(), &mut tables)?;
+    read(&tables, note, row, workspace, most)
 }
 
 // Reads a note plainly. The row then holds the derivation and zeros behind it; after 10 and 14 it is all zeros; after any other refusal it is as it was.
-pub fn plain(grammar: &[u8], note: &[u16], row: &mut [u16], workspace: &mut [u32]) -> Reading
+pub fn plain(
+    grammar: &[u8],
+    note: &[u16],
+    row: &mut [u16],
+    workspace: &mut [u32],
+) -> Result<usize, ReadingRefusal>
     ensures { PlainDid grammar.now note.now row.old (length workspace.old)
         (reading_number result) (reading_place result) (reading_count result) row.new }
 {

@@ -1,6 +1,6 @@
 -- A join: words only grow under `|`, so a set that changed has a greater sum, and one whose sum stays has not changed.
 use mathlib.Core.Path.{◌≡◌, refl, sym, ◌∙◌, ap, ap₂}
-use mathlib.Core.Bool.{Bool, true, false, true≢false, false≢true}
+use mathlib.Core.Bool.{true, false, true≢false, false≢true}
 use mathlib.Core.List.{List, [], ◌∷◌}
 use Prim.Native.Nat.{ℕ, zero, suc, ◌+◌, ◌≤◌, ◌<◌}
 use native.Mathlib.Numerals.{add-one, add-two, add-three, add-four}
@@ -8,12 +8,10 @@ use native.Mathlib.Omega.{arith}
 use native.Mathlib.Decide.{dec_lt}
 use lib.ListN.{length, get_or, set, length-set}
 use lib.Seq.{sets, get_or-set_other, set-get_or}
-use lib.Bits.{bit_or, bit_xor, xor_add_and, xor_self, and_le_l, and_le_r}
-use borrow.Author.Tests.{eqb-true}
+use lib.Bits.{bit_or}
 use Rattle.base.proofs.Bits.{or-ge}
-use Rattle.positions.specs.inside.Positions.{set_words, five, union_of, same_of, all_words, differing}
+use Rattle.positions.specs.inside.Positions.{set_words, five, union_of}
 use Rattle.positions.specs.inside.Words.{set_at, put_at, total, Joined}
-use Rattle.positions.proofs.SetLaws.{word-le}
 
 -- ---- the sum of the words after stores
 total-set : (ws : List ℕ) (a v : ℕ) → a < length ws → total (set ws a v) + get_or ws a 0 ≡ total ws + v
@@ -66,18 +64,6 @@ total-put : (ws : List ℕ) (at : ℕ) (s : List ℕ) → at + set_words ≤ len
 unfolding put_at
 total-put ws at s h = rw (set-read ws at) (total-sets ws at (five s) h)
 
--- ---- sets of the same words
-xor-zero : (x y : ℕ) → bit_xor x y ≡ 0 → x ≡ y
-xor-zero x y e = omega (arith, xor_add_and x y, and_le_l x y, and_le_r x y)
-
-same-words : (a b : List ℕ) → same_of a b ≡ true → five a ≡ five b
-unfolding same_of
-same-words a b t = λ i. word 0 (omega arith) i ∷ word 1 (omega arith) i ∷ word 2 (omega arith) i ∷ word 3 (omega arith) i ∷ word 4 (omega arith) i
-    ∷ []
-  where
-    word : (k : ℕ) → k < set_words → get_or a k 0 ≡ get_or b k 0
-    word k l = xor-zero _ _ (omega (arith, word-le (differing a b) k l, eqb-true (all_words (differing a b)) 0 t))
-
 -- ---- the words of a union
 module _ (a b : List ℕ) where
   five-union : five (union_of a b) ≡ union_of a b
@@ -88,9 +74,9 @@ module _ (a b : List ℕ) where
   word k = bit_or (get_or a k 0) (get_or b k 0)
 
   -- each word grows: where the sum does not, no word does
-  stays : total (union_of a b) ≤ total (five a) → same_of (union_of a b) a ≡ true
-  unfolding total union_of same_of
-  stays h = rw (words.0, words.1, words.2, words.3, words.4) (simp xor_self)
+  stays : total (union_of a b) ≤ total (five a) → union_of a b ≡ five a
+  unfolding total union_of
+  stays h = rw (words.0, words.1, words.2, words.3, words.4)
     where
       raised : (k : ℕ) → get_or a k 0 ≤ word k
       raised k = or-ge (get_or a k 0) (get_or b k 0)
@@ -98,31 +84,28 @@ module _ (a b : List ℕ) where
       words : (word 0 ≡ get_or a 0 0) × (word 1 ≡ get_or a 1 0) × (word 2 ≡ get_or a 2 0) × (word 3 ≡ get_or a 3 0) × (word 4 ≡ get_or a 4 0)
       words = omega (arith, raised 0, raised 1, raised 2, raised 3, raised 4)
 
-  more : same_of (union_of a b) a ≡ false → total (five a) < total (union_of a b)
+  more : ¬ (union_of a b ≡ five a) → total (five a) < total (union_of a b)
   more n = go (dec_lt (total (five a)) (total (union_of a b)))
     where
       go : Dec (total (five a) < total (union_of a b)) → total (five a) < total (union_of a b)
       go (yes l) = l
-      go (no l) = absurd (true≢false (sym (stays (omega arith)) ∙ n))
+      go (no l) = absurd (n (stays (omega arith)))
 
 -- ---- the two ways out of a join
-module _ (ws : List ℕ) (at : ℕ) (s : List ℕ) {old new : List ℕ} {r : Bool} (e : old ≡ set_at ws at) (f : new ≡ union_of old s)
-    (q : r ≡ same_of new old) where
-  told : r ≡ same_of (union_of (set_at ws at) s) (set_at ws at)
-  told = rw (f, e) at q
-
-  pub join-same : r ≡ true → Joined false ws ws at s
-  join-same t =
+module _ (ws : List ℕ) (at : ℕ) (s : List ℕ) {old new : List ℕ} (e : old ≡ set_at ws at) (f : new ≡ union_of old s) where
+  pub join-same : new ≡ old → Joined false ws ws at s
+  join-same q =
       let c = set_at ws at in
-      let u : union_of c s ≡ c = sym (five-union c s) ∙ same-words (union_of c s) c (sym told ∙ t) ∙ five-set ws at in
+      let u : union_of c s ≡ c = ap (λ (l : List ℕ). union_of l s) (sym e) ∙ (sym f ∙ (q ∙ e)) in
       record { words = sym (ap (λ (l : List ℕ). put_at ws at l) u ∙ put-set ws at); same = λ _. refl; grown = λ t. absurd (false≢true t) }
 
-  pub join-grown : {after : List ℕ} → r ≡ false → at + set_words ≤ length ws → after ≡ put_at ws at new → Joined true ws after at s
-  join-grown {after} t h a =
+  pub join-grown : {after : List ℕ} → ¬ (new ≡ old) → at + set_words ≤ length ws → after ≡ put_at ws at new → Joined true ws after at s
+  join-grown {after} n h a =
       let c = set_at ws at in
       let u = union_of c s in
-      let g : after ≡ put_at ws at u = a ∙ ap (λ (l : List ℕ). put_at ws at l) (f ∙ ap (λ (l : List ℕ). union_of l s) e) in
-      let m = more c s (sym told ∙ t) in
+      let v : new ≡ u = f ∙ ap (λ (l : List ℕ). union_of l s) e in
+      let g : after ≡ put_at ws at u = a ∙ ap (λ (l : List ℕ). put_at ws at l) v in
+      let m = more c s (λ z. n (v ∙ (z ∙ (five-set ws at ∙ sym e)))) in
       let x : total (five u) ≡ total u = ap total (five-union c s) in
       let y : total (five c) ≡ total c = ap total (five-set ws at) in
       record { words = g; same = λ t. absurd (true≢false t); grown = λ _. rw g (omega (arith, total-put ws at u h)) }

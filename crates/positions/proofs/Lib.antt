@@ -3,3 +3,4 @@ pub mod SetLaws
 pub mod WordLaws
 pub mod NextLaws
 pub mod JoinLaws
+pub mod MemberLaws

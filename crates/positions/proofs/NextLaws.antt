@@ -26,14 +26,17 @@ module _ (x k : ℕ) where
         none = λ m a b. shifted m a ∙ ap (λ (z : ℕ). test_bit z (m - k)) e ∙ test-none (m - k);
       }
 
-  pub from_some : {t : ℕ} → x < 2 ^ word_bits → (x / 2 ^ k ≡ 0 → ⊥) → t ≡ count_trailing_zeros word_bits (x / 2 ^ k) → FromBit x k (k + t)
-  from_some {t} w n e =
-      record {
-        most = omega (arith, low (dec_lt (k + t) word_bits));
-        above = λ _. omega arith;
-        found = λ _. here;
-        none = λ m a b. shifted m a ∙ trailing-none word_bits (x / 2 ^ k) (m - k) (omega arith);
-      }
+  pub from_some : {t : ℕ} → x < 2 ^ word_bits → (x / 2 ^ k ≡ 0 → ⊥) → t ≡ count_trailing_zeros word_bits (x / 2 ^ k)
+      → (k + t < word_bits) × FromBit x k (k + t)
+  from_some {t} w n e = (
+    low (dec_lt (k + t) word_bits),
+    record {
+      most = omega (arith, low (dec_lt (k + t) word_bits));
+      above = λ _. omega arith;
+      found = λ _. here;
+      none = λ m a b. shifted m a ∙ trailing-none word_bits (x / 2 ^ k) (m - k) (omega arith);
+    },
+  )
     where
       here : test_bit x (k + t) ≡ true
       here = sym (test-shr x k t) ∙ (rw e (trailing-found word_bits (x / 2 ^ k) (omega arith) (omega (arith, div-le_self x (2 ^ k)))))

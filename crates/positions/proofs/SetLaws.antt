@@ -1,7 +1,7 @@
 -- Laws of sets of positions by value: what the empty set, a set with one member more and a union hold; when two sets meet.
 use mathlib.Core.Path.{◌≡◌, refl, sym, ap, ◌∙◌}
 use mathlib.Core.Logic.{◌⊎◌, inl, inr, ⊎_elim}
-use mathlib.Core.Bool.{true, false, false≢true, ◌||◌, not}
+use mathlib.Core.Bool.{Bool, true, false, false≢true, ◌||◌, not}
 use mathlib.Core.List.{List}
 use Prim.Native.Nat.{ℕ, zero, suc, ◌+◌, ◌-◌, ◌*◌, ◌/◌, ◌%◌, ◌^◌, ◌≤◌, ◌<◌}
 use native.Mathlib.Omega.{arith}
@@ -18,6 +18,8 @@ use Rattle.base.proofs.Bits.{test-opposite}
 use Rattle.base.proofs.Booleans.{T→true, true→T, and_T, T_and, or-none}
 use Rattle.positions.specs.inside.Positions.{position_count, set_words, empty_set, member, with_of, union_of, meets_of, all_words, common, opposite_of}
 use Rattle.positions.specs.inside.Positions.{Full, NextOf}
+use Rattle.positions.specs.inside.Members.{LeastFrom}
+use Rattle.std.specs.Prelude.{Option, Some, None, MatchOption, IsTrue}
 
 -- every word of s has word_bits bits
 abbrev pub Fit : List ℕ → Type 0
@@ -203,3 +205,9 @@ module _ (s c : List ℕ) (from n m : ℕ) (h : n < position_count) (e : c ≡ o
     all = λ q k a b. let z = ltb-true n m q in not-false (member s k) (sym (missing k (omega arith)) ∙ x.none k a (omega arith));
     only = λ f. lt-ltb n m (before f (dec_lt n m));
   }
+
+-- the search for that one, and what is said of it
+module _ (s c : List ℕ) (from n : ℕ) (h : n < position_count) (e : c ≡ opposite_of s) {r : Bool} (P : ℕ → Type 0) (says : (m : ℕ) → P m → r ≡ ltb n m) where
+  pub full-by : (o : Option ℕ) → LeastFrom c from o → MatchOption o (IsTrue r) P → Full r s from n
+  full-by None x t = rw (t ∙ sym (lt-ltb n position_count h)) (full_is s c from n position_count h e x)
+  full-by (Some m) x p = rw (says m p) (full_is s c from n m h e x.1)

@@ -1,3 +1,4 @@
 -- What the proofs of the code rest on, step by step: none of it has to be believed.
 pub mod Positions
 pub mod Words
+pub mod Members

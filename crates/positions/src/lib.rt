@@ -4,8 +4,8 @@
 ghost use Rattle.std.specs.Prelude.{◌≡◌, ◌+◌, ◌≤◌, ◌<◌, length};
 ghost use Rattle.base.specs.Bits.{word_bits};
 ghost use Rattle.positions.specs.inside.Positions.{position_count, set_words, empty_set, member, with_of, union_of, meets_of, opposite_of};
-ghost use Rattle.positions.specs.inside.Positions.{Full, same_of, FromBit};
-ghost use Rattle.positions.specs.inside.Positions.{NextOf};
+ghost use Rattle.positions.specs.inside.Positions.{Full};
+ghost use Rattle.positions.specs.inside.Members.{LowestFrom, LeastFrom};
 ghost use Rattle.positions.specs.inside.Words.{member_at, set_at, put_at, Joined};
 
 // Words of a set. specs/Positions has the same.
@@ -14,7 +14,7 @@ pub const WORDS: usize = 5;
 // Positions that a set can hold: no note has more.
 pub const COUNT: usize = WORDS * base::WORD_BITS;
 
-#[derive(Clone, Copy)]
+#[derive(Clone, Copy, PartialEq, Eq)]
 pub struct Positions {
     pub words: [u32; WORDS],
 }
@@ -72,74 +72,97 @@ impl Positions {
             | (self.words[4] & o.words[4])
             != 0
     }
+
+    // The least member from `from` on.
+    pub fn least(self, from: usize) -> Option<usize>
+        ensures { LeastFrom self.words from result }
+    {
+        let mut k = from % base::WORD_BITS;
+        for w in from / base::WORD_BITS..WORDS {
+            if let Some(bit) = from_bit(self.words[w], k) {
+                return Some(w * base::WORD_BITS + bit);
+            }
+            k = 0;
+        }
+        None
+    }
+
+    // The positions that are no members.
+    fn opposite(self) -> Self
+        ensures { result.words ≡ opposite_of self.words }
+    {
+        Positions {
+            words: [
+                base::opposite(self.words[0]),
+                base::opposite(self.words[1]),
+                base::opposite(self.words[2]),
+                base::opposite(self.words[3]),
+                base::opposite(self.words[4]),
+            ],
+        }
+    }
+
+    // Whether every position from `from` up to n is a member.
+    pub fn full(self, from: usize, n: usize) -> bool
+        requires { n < position_count }
+        ensures { Full result self.words from n }
+    {
+        self.opposite()
+            .least(from)
+            .is_none_or(|missing| n < missing)
+    }
+
+    // The members from `from` up to `last`, in rising order.
+    pub fn members(self, from: usize, last: usize) -> Members
+        ensures { result ≡ record { set = self; at = from; last = last } }
+    {
+        Members {
+            set: self,
+            at: from,
+            last,
+        }
+    }
 }
 
-// Whether the two sets have the same words.
-fn same(a: Positions, b: Positions) -> bool
-    ensures { result ≡ same_of a.words b.words }
-{
-    (a.words[0] ^ b.words[0])
-        | (a.words[1] ^ b.words[1])
-        | (a.words[2] ^ b.words[2])
-        | (a.words[3] ^ b.words[3])
-        | (a.words[4] ^ b.words[4])
-        == 0
-}
-
-// The lowest bit of x from k on; WORD_BITS if there is none.
-pub fn from_bit(x: u32, k: usize) -> usize
+// The lowest bit of x from k on.
+pub fn from_bit(x: u32, k: usize) -> Option<usize>
     requires { k < word_bits }
-    ensures { FromBit x k result }
+    ensures { LowestFrom x k result }
 {
     let y = x >> k;
     if y == 0 {
-        return base::WORD_BITS;
+        return None;
     }
-    k + base::number(u32::trailing_zeros(y))
+    Some(k + base::number(u32::trailing_zeros(y)))
 }
 
-// The least member of s from `from` on; COUNT if there is none.
-pub fn next(s: Positions, from: usize) -> usize
-    ensures { NextOf s.words from result }
-{
-    if COUNT <= from {
-        return COUNT;
-    }
-    let mut w = from / base::WORD_BITS;
-    let mut k = from % base::WORD_BITS;
-    while w < WORDS {
-        let r = from_bit(s.words[w], k);
-        if r < base::WORD_BITS {
-            return w * base::WORD_BITS + r;
+// The members of a set in rising order, from one position on up to another.
+#[derive(Clone, Drop)]
+pub struct Members {
+    pub set: Positions,
+    pub at: usize,
+    pub last: usize,
+}
+
+impl Iterator for Members {
+    ghost use Rattle.std.specs.Prelude.{◌-◌};
+    ghost use Rattle.std.specs.Iterator.{at_most};
+    ghost use Rattle.positions.specs.inside.Members.{Walks};
+
+    type Item = usize;
+
+    ghost next_gives = { Walks };
+
+    ghost remaining = { λ it. at_most (position_count - it.at) };
+
+    fn next(&mut self) -> Option<usize> {
+        let m = self.set.least(self.at)?;
+        if self.last < m {
+            return None;
         }
-        k = 0;
-        w += 1;
+        self.at = m + 1;
+        Some(m)
     }
-    COUNT
-}
-
-// The positions that s does not hold.
-fn opposite(s: Positions) -> Positions
-    ensures { result.words ≡ opposite_of s.words }
-{
-    Positions {
-        words: [
-            base::opposite(s.words[0]),
-            base::opposite(s.words[1]),
-            base::opposite(s.words[2]),
-            base::opposite(s.words[3]),
-            base::opposite(s.words[4]),
-        ],
-    }
-}
-
-// Whether s holds every position from `from` up to n.
-pub fn full(s: Positions, from: usize, n: usize) -> bool
-    requires { n < position_count }
-    ensures { Full result s.words from n }
-{
-    let missing = next(opposite(s), from);
-    n < missing
 }
 
 // The set that stands at `at`.
@@ -152,7 +175,7 @@ pub fn read(ws: &[u32], at: usize) -> Positions
     }
 }
 
-// Whether the set that stands at `at` holds j: one word is read, not five.
+// Whether the set that stands at `at` holds j: one word is read, not all.
 pub fn holds(ws: &[u32], at: usize, j: usize) -> bool
     requires { (at + set_words ≤ length ws.now) × (j < position_count) }
     ensures { result ≡ member_at ws.now at j }
@@ -179,7 +202,7 @@ pub fn join(ws: &mut [u32], at: usize, s: Positions) -> bool
 {
     let old = read(ws, at);
     let new = old.union(s);
-    if same(new, old) {
+    if new == old {
         return false;
     }
     put(ws, at, new);

@@ -5,13 +5,14 @@ use mathlib.Core.List.{List, ◌++◌}
 use Prim.Native.Nat.{ℕ, ◌-◌, ◌<◌}
 use native.Mathlib.Omega.{arith}
 use lib.ListN.{length, take, replicate}
+use Rattle.std.specs.Prelude.{Err}
 use Rattle.grammar.specs.Grammar.{Grammar}
 use Rattle.grammar.specs.inside.Tables.{grammar_in}
 use Rattle.derivation.specs.Machine as machine
 use Rattle.derivation.specs.Plain.{Answer, clear, on_conclusion}
 use Rattle.derivation.specs.ReachRounds.{wrong_place}
 use Rattle.gate.specs.Reading.{answered}
-use Rattle.gate.specs.declared.reading.Reading.TheVariants.{NoSentence, ShortRow}
+use Rattle.gate.specs.declared.reading.ReadingRefusal.TheVariants.{NoSentence, ShortRow}
 use Rattle.cells.proofs.Spots.{lent-kept}
 use Rattle.reach.specs.inside.Passes.{Given}
 use Rattle.machine.proofs.EndingLaws.{end-stuck, end_short, end-wrong}
@@ -25,7 +26,7 @@ use Rattle.choosing.proofs.DecideStage.{sets-there, sets-charted}
 
 -- a row that is cleared
 pub wrong-clears : (row : List ℕ) (place : ℕ) {after : List ℕ} → after ≡ take 0 row ++ replicate (length row - 0) 0
-    → answered (NoSentence place) after ≡ clear 10 place row
+    → answered (Err (NoSentence place)) after ≡ clear 10 place row
 wrong-clears row place {after} e =
     let z : length row - 0 ≡ length row = omega arith in
     let y : after ≡ replicate (length row) 0 = e ∙ ap (λ (n : ℕ). replicate n 0) z in
@@ -58,7 +59,7 @@ module _ (t w ms tally ws : List ℕ) {known : ℕ} (x : MayJudge t w ms tally w
   module _ (row : List ℕ) {stopped : Bool} where
     -- a sentence, for which the row was full
     pub sentence-short : {p : ℕ} → r ≡ Sentence p → stopped ≡ true → {cleared : List ℕ} → cleared ≡ take 0 row ++ replicate (length row - 0) 0
-        → answered ShortRow cleared ≡ on_conclusion (grammar_in t) w row (stop_of stopped)
+        → answered (Err ShortRow) cleared ≡ on_conclusion (grammar_in t) w row (stop_of stopped)
     sentence-short e f c = rw f (end_short (grammar_in t) w row {b = true} (sym (told e).0) refl c)
 
     -- a sentence on which the machine got stuck

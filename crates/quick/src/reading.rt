@@ -8,21 +8,20 @@ ghost use Rattle.gate.specs.inside.Passing.{Admitted};
 ghost use Rattle.machine.specs.inside.Ending.{outcome_in};
 ghost use Rattle.serving.specs.inside.Judging.{MayJudge};
 ghost use Rattle.quick.specs.inside.Run.{Stopped, stop_of};
-ghost use Rattle.quick.specs.inside.Replied.{replied, note_reply, LongEnough, over_standing};
+ghost use Rattle.quick.specs.inside.Replied.{replied, note_reply, cache_refused, LongEnough, over_standing};
 ghost use Rattle.quick.specs.Contract.{QuickDid};
 
-use crate::running::Stop;
-use gate::{Gate, Reading};
+use gate::ReadingRefusal;
 use machine::Conclusion;
-use serving::Judged;
-use words::Standing;
+use serving::{Judged, Stop};
+use words::CacheRefusal;
 
 // No sentence: zeros, and the place where the note goes wrong.
-fn wrong(row: &mut [u16], place: usize) -> Reading
+fn wrong(row: &mut [u16], place: usize) -> Result<usize, ReadingRefusal>
     ensures { answered result row.new ≡ clear 10 place row.old }
 {
     base::clear_from(row, 0);
-    Reading::NoSentence(place)
+    Err(ReadingRefusal::NoSentence(place))
 }
 
 // The machine stopped before the note was accepted: the note as a whole decides between 10 and 14 and tells the place.
@@ -35,7 +34,7 @@ fn refuse(
     ws: &mut [u32],
     known: usize,
     full: bool,
-) -> Reading
+) -> Result<usize, ReadingRefusal>
     requires { MayJudge tables.now note.now masks.old tally.old ws.old known }
     ensures { answered result row.new
         ≡ on_conclusion (grammar_in tables.now) note.now row.old (stop_of full) }
@@ -47,7 +46,7 @@ fn refuse(
         Judged::Sentence(place) => {
             if full {
                 base::clear_from(row, 0);
-                return Reading::ShortRow;
+                return Err(ReadingRefusal::ShortRow);
             }
             wrong(row, place)
         }
@@ -70,7 +69,7 @@ fn finish(
     tally: &mut [u32],
     ws: &mut [u32],
     stop: Stop,
-) -> Reading
+) -> Result<usize, ReadingRefusal>
     requires { Stopped tables.now note.now row.old masks.old tally.old ws.old stop }
     ensures { answered result row.new
         ≡ on_conclusion (grammar_in tables.now) note.now row.old (outcome_in stop.outcome row.old) }
@@ -79,7 +78,7 @@ fn finish(
     match outcome {
         Conclusion::Accepted(entries) => {
             base::clear_from(row, entries);
-            Reading::Accepted(entries)
+            Ok(entries)
         }
         Conclusion::Stuck => refuse(tables, note, row, masks, tally, ws, stop.known, false),
         Conclusion::Full => refuse(tables, note, row, masks, tally, ws, stop.known, true),
@@ -94,7 +93,7 @@ fn read(
     cache: &mut [u32],
     ws: &mut [u32],
     most: u32,
-) -> Reading
+) -> Result<usize, ReadingRefusal>
     requires { Admitted tables.now note.now (length ws.old) × (min_words ≤ length cache.old) }
     ensures { replied result row.new cache.new
         ≡ note_reply (grammar_in tables.now) note.now row.old cache.old }
@@ -106,6 +105,16 @@ fn read(
     finish(tables, note, row, &mut masks, &mut tally, ws, stop)
 }
 
+// 12 and 13, as a reading answers them.
+fn refused(refusal: CacheRefusal) -> ReadingRefusal
+    ensures { result ≡ cache_refused refusal }
+{
+    match refusal {
+        CacheRefusal::Short => ReadingRefusal::ShortCache,
+        CacheRefusal::Foreign => ReadingRefusal::ForeignCache,
+    }
+}
+
 // A note that passed the gate, over a cache that stands so to the grammar: 12, 13, or the reading, with a search that spends `most` at most.
 pub fn over(
     tables: &[u16],
@@ -113,18 +122,17 @@ pub fn over(
     row: &mut [u16],
     cache: &mut [u32],
     ws: &mut [u32],
-    standing: Standing,
+    standing: Result<(), CacheRefusal>,
     most: u32,
-) -> Reading
+) -> Result<usize, ReadingRefusal>
     requires { Admitted tables.now note.now (length ws.old) × LongEnough standing cache.old }
     ensures { replied result row.new cache.new
         ≡ over_standing standing (grammar_in tables.now) note.now row.old cache.old }
 {
-    match standing {
-        Standing::Short => Reading::ShortCache,
-        Standing::Foreign => Reading::ForeignCache,
-        Standing::Begun => read(tables, note, row, cache, ws, most),
+    if let Err(refusal) = standing {
+        return Err(refused(refusal));
     }
+    read(tables, note, row, cache, ws, most)
 }
 
 // The quick reading with a search that spends `most` at most: no answer depends on it, nor does what is learned.
@@ -135,19 +143,14 @@ pub fn within(
     cache: &mut [u32],
     workspace: &mut [u32],
     most: u32,
-) -> Reading
+) -> Result<usize, ReadingRefusal>
     ensures { QuickDid grammar.now note.now row.old (length workspace.old) cache.old
         (reading_number result) (reading_place result) (reading_count result) row.new cache.new }
 {
     let mut tables = [0u16; grammar::TABLE_WORDS];
-    let gate = gate::pass(grammar, note, workspace.len(), &mut tables);
-    match gate {
-        Gate::Shut(r) => r,
-        Gate::Passed => {
-            let standing = words::stands(grammar, cache);
-            over(&tables, note, row, cache, workspace, standing, most)
-        }
-    }
+    gate::pass(grammar, note, workspace.len(), &mut tables)?;
+    let standing = words::stands(grammar, cache);
+    over(&tables, note, row, cache, workspace, standing, most)
 }
 
 // Reads a note over a cache that was begun for the grammar: number, place, count and row are those of the plain reading, and the cache learns. The row then
@@ -159,7 +162,7 @@ pub fn quick(
     row: &mut [u16],
     cache: &mut [u32],
     workspace: &mut [u32],
-) -> Reading
+) -> Result<usize, ReadingRefusal>
     ensures { QuickDid grammar.now note.now row.old (length workspace.old) cache.old
         (reading_number result) (reading_place result) (reading_count result) row.new cache.new }
 {

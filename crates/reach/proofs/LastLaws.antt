@@ -52,28 +52,37 @@ pub any-end : (ws : List ℕ) (p m : ℕ) (s : List ℕ) → p ≡ m → Occupie
 any-end ws p m s e h = rw e at h
 
 -- ---- the highest member, from n down
-module _ (p : ℕ → Bool) (k : ℕ) {y : ℕ} (h : highest_to p k ≡ y) where
-  pub highest-none : k ≡ 0 → 0 ≡ y
+module _ (p : ℕ → Bool) where
+  -- behind position k there is none
+  highest-down : (n k : ℕ) → k ≤ n → ((j : ℕ) → k < j → j ≤ n → p j ≡ false) → highest_to p n ≡ highest_to p k
   unfolding highest_to
-  highest-none e = rw e at h
-
-  pub highest-hit : 0 < k → p k ≡ true → k ≡ y
-  unfolding highest_to
-  highest-hit l e = go k l e h
+  highest-down zero k l f = let e : k ≡ 0 = omega arith in rw e
+  highest-down (suc n) k l f =
+      go (dec_lt k (suc n)) (λ m. highest-down n k (omega arith) (λ j a b. f j a (omega arith)))
     where
-      go : (k : ℕ) → 0 < k → p k ≡ true → highest_to p k ≡ y → k ≡ y
-      go zero l e h = absurd (omega arith)
-      go (suc k) l e h = ap (λ (b : Bool). elim b as (λ _. ℕ) [ true ↦ suc k | false ↦ highest_to p k ]) (sym e) ∙ h
+      go : Dec (k < suc n) → (k < suc n → highest_to p n ≡ highest_to p k) → highest_to p (suc n) ≡ highest_to p k
+      go (yes m) d = rw (highest_to, f (suc n) m (omega arith)) (d m)
+      go (no m) d = let e : k ≡ suc n = omega arith in rw e
 
-  pub highest-miss : 0 < k → p k ≡ false → highest_to p (k - 1) ≡ y
+  highest-here : (k : ℕ) → p k ≡ true → k ≡ highest_to p k
   unfolding highest_to
-  highest-miss l e = go k l e h
+  highest-here zero e = refl
+  highest-here (suc k) e = rw (highest_to, e)
+
+  pub highest-none : (n : ℕ) → ((j : ℕ) → 0 ≤ j → j ≤ n → p j ≡ false) → 0 ≡ highest_to p n
+  unfolding highest_to
+  highest-none n f = sym (highest-down n 0 (omega arith) (λ j a b. f j (omega arith) b))
+
+  pub highest-hit : (n k : ℕ) → k < n + 1 → ((j : ℕ) → k < j → j ≤ n → p j ≡ false) → p k ≡ true → k ≡ highest_to p n
+  highest-hit n k l f e = highest-here k e ∙ sym (highest-down n k (omega arith) f)
+
+  pub highest-miss : (n k : ℕ) → 0 < k → ((j : ℕ) → k ≤ j → j ≤ n → p j ≡ false) → p (k - 1) ≡ false
+      → (j : ℕ) → k - 1 ≤ j → j ≤ n → p j ≡ false
+  highest-miss n k l f e j a b = go (dec_lt j k)
     where
-      go : (k : ℕ) → 0 < k → p k ≡ false → highest_to p k ≡ y → highest_to p (k - 1) ≡ y
-      go zero l e h = absurd (omega arith)
-      go (suc k) l e h =
-          let q : suc k - 1 ≡ k = omega arith in
-          rw q (ap (λ (b : Bool). elim b as (λ _. ℕ) [ true ↦ suc k | false ↦ highest_to p k ]) (sym e) ∙ h)
+      go : Dec (j < k) → p j ≡ false
+      go (yes m) = let z : j ≡ k - 1 = omega arith in rw z e
+      go (no m) = f j (omega arith) b
 
 highest-same : (p q : ℕ → Bool) (n : ℕ) → ((k : ℕ) → k ≤ n → p k ≡ q k) → highest_to p n ≡ highest_to q n
 unfolding highest_to

@@ -5,9 +5,9 @@
 ghost use Rattle.std.specs.Prelude.{◌≡◌, ◌≤◌, ◌<◌, length};
 ghost use Rattle.grammar.specs.Limits.{max_places};
 ghost use Rattle.grammar.specs.inside.Tables.{grammar_in};
-ghost use Rattle.positions.specs.inside.Positions.{position_count, member, with_of};
+ghost use Rattle.positions.specs.inside.Positions.{position_count, member};
 ghost use Rattle.derivation.specs.ReachRounds.{highest_to, wrong_place};
-ghost use Rattle.reach.specs.inside.Sets.{sets_words, place_set_words, Marks, Added, PointOf, Occupied};
+ghost use Rattle.reach.specs.inside.Sets.{sets_words, Marks, Added, PointOf, Occupied};
 ghost use Rattle.reach.specs.inside.Passes.{Stepped, Given, StandsAt, MayEnter, Opening, Leads, Passed, PassesDone};
 
 use grammar::Symbol;
@@ -15,26 +15,6 @@ use positions::Positions;
 
 // Words of the sets of all places. specs/Sets has the same.
 const SETS: usize = positions::WORDS * grammar::MAX_PLACES;
-
-// Words of a set of places, a bit for each. specs/Sets has the same.
-const PLACE_WORDS: usize = grammar::MAX_PLACES / base::WORD_BITS + 1;
-
-// Whether a set of places holds p.
-fn has_place(set: &[u32], p: usize) -> bool
-    requires { (length set.now ≡ place_set_words) × (p < max_places) }
-    ensures { result ≡ member set.now p }
-{
-    base::has(set[p / base::WORD_BITS], p % base::WORD_BITS)
-}
-
-// Puts p into a set of places.
-fn put_place(set: &mut [u32], p: usize)
-    requires { (length set.old ≡ place_set_words) × (p < max_places) }
-    ensures { set.new ≡ with_of set.old p }
-{
-    let k = p / base::WORD_BITS;
-    set[k] = base::with(set[k], p % base::WORD_BITS);
-}
 
 // A reader can stand at place q at position j. Whether that is new.
 fn mark(sets: &mut [u32], q: usize, j: usize) -> bool
@@ -53,16 +33,9 @@ fn enter(tables: &[u16], sets: &mut [u32], a: usize, i: usize) -> bool
     requires { MayEnter tables.now sets.old a i }
     ensures { Added (Opening (grammar_in tables.now) a i) result sets.old sets.new }
 {
-    let start = grammar::rule_at(tables, a);
-    let end = grammar::rule_at(tables, a + 1);
     let mut grown = false;
-    let mut k = start;
-    while k < end {
-        let f = grammar::first_place(tables, k);
-        k += 1;
-        if mark(sets, f, i) {
-            grown = true;
-        }
+    for f in grammar::first_places(tables, a) {
+        grown |= mark(sets, usize::from(*f), i);
     }
     grown
 }
@@ -73,9 +46,7 @@ fn step(tables: &[u16], note: &[u16], ws: &[u32], sets: &mut [u32], p: usize, i:
     requires { StandsAt tables.now note.now ws.now i sets.old × (p < (grammar_in tables.now).size) }
     ensures { Added (Leads (grammar_in tables.now) note.now p i) result sets.old sets.new }
 {
-    let place = grammar::place_at(tables, p);
-    let symbol = place.symbol;
-    match symbol {
+    match grammar::place_at(tables, p).symbol {
         Symbol::End => false,
         Symbol::Token(k) => {
             if !cells::matches(tables, note, k, i) {
@@ -98,26 +69,17 @@ fn pass(
     note: &[u16],
     ws: &[u32],
     sets: &mut [u32],
-    stepped: &mut [u32],
+    stepped: &mut [bool],
     i: usize,
 ) -> bool
     requires { StandsAt tables.now note.now ws.now i sets.old × Stepped tables.now note.now i stepped.old sets.old }
     ensures { Passed tables.now note.now i result sets.old sets.new stepped.new }
 {
-    let places = grammar::size(tables);
     let mut grown = false;
-    let mut p = 0;
-    while p < places {
-        let here = positions::holds(sets, positions::WORDS * p, i);
-        let q = p;
-        p += 1;
-        if here {
-            if !has_place(stepped, q) {
-                put_place(stepped, q);
-                if step(tables, note, ws, sets, q, i) {
-                    grown = true;
-                }
-            }
+    for p in 0..grammar::size(tables) {
+        if positions::holds(sets, positions::WORDS * p, i) && !stepped[p] {
+            stepped[p] = true;
+            grown |= step(tables, note, ws, sets, p, i);
         }
     }
     grown
@@ -128,12 +90,8 @@ fn settle(tables: &[u16], note: &[u16], ws: &[u32], sets: &mut [u32], i: usize)
     requires { StandsAt tables.now note.now ws.now i sets.old }
     ensures { PassesDone tables.now note.now i sets.old sets.new }
 {
-    let mut stepped = [0u32; PLACE_WORDS];
-    loop {
-        if !pass(tables, note, ws, sets, &mut stepped, i) {
-            return;
-        }
-    }
+    let mut stepped = [false; grammar::MAX_PLACES];
+    while pass(tables, note, ws, sets, &mut stepped, i) {}
 }
 
 // Every position at which a reader can stand somewhere.
@@ -142,11 +100,9 @@ fn anywhere(sets: &[u32], places: usize) -> Positions
     ensures { Occupied sets.now places result.words }
 {
     let mut all = Positions::empty();
-    let mut p = 0;
-    while p < places {
+    for p in 0..places {
         let here = positions::read(sets, positions::WORDS * p);
         all = all.union(here);
-        p += 1;
     }
     all
 }
@@ -156,12 +112,10 @@ fn highest(s: Positions, n: usize) -> usize
     requires { n < position_count }
     ensures { result ≡ highest_to (member s.words) n }
 {
-    let mut k = n;
-    while 0 < k {
+    for k in (0..n + 1).rev() {
         if s.has(k) {
             return k;
         }
-        k -= 1;
     }
     0
 }
@@ -174,10 +128,8 @@ pub fn wrong_place(tables: &[u16], note: &[u16], ws: &[u32]) -> usize
     let mut sets = [0u32; SETS];
     let entered = enter(tables, &mut sets, 0, 0);
     let n = note.len();
-    let mut i = 0;
-    while i <= n {
+    for i in 0..n + 1 {
         settle(tables, note, ws, &mut sets, i);
-        i += 1;
     }
     let all = anywhere(&sets, grammar::size(tables));
     highest(all, n)

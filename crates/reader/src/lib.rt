@@ -27,18 +27,16 @@ fn symbols(
 {
     let end = first + count;
     let mut c = from;
-    let mut p = first;
-    while p < end {
+    for p in first..end {
         let n = c.symbol(bytes, kinds, nonterminals);
         let Read::Value(v, next) = n else {
             return n;
         };
         tables[p] = grammar::symbol_word(owner, v);
-        p += 1;
         c = next;
     }
-    tables[p] = grammar::end_word(owner);
-    Read::Value(p + 1, c)
+    tables[end] = grammar::end_word(owner);
+    Read::Value(end + 1, c)
 }
 
 // The productions of `owner`, from place `first` on; `production` counts those of all nonterminals before. Answers the place behind them.
@@ -59,9 +57,8 @@ fn productions(
 {
     let mut c = from;
     let mut p = first;
-    let mut k = production;
     let last = production + count;
-    while k < last {
+    for k in production..last {
         let at = c.at;
         let n = c.limited(bytes, 0, grammar::MAX_LENGTH);
         let Read::Value(m, next) = n else {
@@ -76,7 +73,6 @@ fn productions(
             return piece;
         };
         p = q;
-        k += 1;
         c = after;
     }
     Read::Value(p, c)
@@ -91,8 +87,7 @@ fn rules(bytes: &[u8], from: Cursor, kinds: usize, nonterminals: usize, tables: 
     let mut c = from;
     let mut p = 0;
     let mut k = 0;
-    let mut a = 0;
-    while a < nonterminals {
+    for a in 0..nonterminals {
         let n = c.limited(bytes, 1, grammar::MAX_PRODUCTIONS);
         let Read::Value(m, next) = n else {
             return n;
@@ -104,10 +99,9 @@ fn rules(bytes: &[u8], from: Cursor, kinds: usize, nonterminals: usize, tables: 
         };
         p = q;
         k += m;
-        a += 1;
         c = after;
     }
-    tables[grammar::RULES + a] = base::narrow(k);
+    tables[grammar::RULES + nonterminals] = base::narrow(k);
     Read::Value(p, c)
 }
 

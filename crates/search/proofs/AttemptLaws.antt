@@ -8,6 +8,7 @@ use Prim.Native.Nat.{ℕ, suc, ◌≤◌, max}
 use native.Mathlib.Omega.{arith}
 use lib.Dec.{T}
 use lib.ListN.{length}
+use Rattle.std.specs.Prelude.{Result, Ok, Err}
 use Rattle.base.proofs.Booleans.{true→T, false→¬T}
 use Rattle.grammar.specs.Grammar.{alternatives, first}
 use Rattle.grammar.specs.inside.Tables.{grammar_in}
@@ -30,11 +31,11 @@ use Rattle.search.specs.inside.Searching.{state_of, set_of}
 use Rattle.search.specs.inside.Ways.{EndsAt, EndsNowhere, Lacks, GoesOn}
 use Rattle.search.specs.inside.Walks.{WalksTo, WantsPair}
 use Rattle.search.specs.inside.Trials.{told_by, EndsFit, JoinedEnds, BranchedTo, Branched, NeedsPair, TriedAs, Higher, DidTry}
-use Rattle.search.specs.declared.words.Meter.{Meter}
+use Rattle.search.specs.declared.words.Pair.{Pair}
+use Rattle.search.specs.declared.meter.Meter.{Meter}
 use Rattle.search.specs.declared.adding.Ends.{Ends}
-use Rattle.search.specs.declared.trying.Tried.{Tried}
-use Rattle.search.specs.declared.trying.Tried.TheVariants.{Known, Needs, Out}
-use Rattle.search.specs.declared.trying.Trial.{Trial}
+use Rattle.search.specs.declared.walking.Halt.{Halt}
+use Rattle.search.specs.declared.walking.Halt.TheVariants.{Needs, Out}
 use Rattle.search.proofs.WalkSteps.{walks-on}
 
 module _ (t w ms ws : List ℕ) (a i : ℕ) (m : Meter) where
@@ -59,7 +60,7 @@ module _ (t w ms ws : List ℕ) (a i : ℕ) (m : Meter) where
 
   -- all alternatives were tried
   pub trying-all : {k : ℕ} {e : Ends} {at : Meter} → Trying k e at → length (alternatives (grammar_in t) a) ≤ k
-      → DidTry t w ms ws a i m (record { tried = Known; ends = e; meter = at })
+      → DidTry t w ms ws a i m at (Ok e)
   trying-all {k} {e} {at} x l = record {
     spent = x.spent;
     higher = x.higher;
@@ -71,8 +72,9 @@ module _ (t w ms ws : List ℕ) (a i : ℕ) (m : Meter) where
   }
 
   -- the budget is out
-  pub trying-out : {k : ℕ} {e e' : Ends} {at : Meter} → Trying k e at → DidTry t w ms ws a i m (record { tried = Out; ends = e'; meter = at })
-  trying-out x = record { spent = x.spent; higher = x.higher; tried = tt }
+  pub trying-out : {k : ℕ} {e : Ends} {at after : Meter} → Trying k e at → after ≡ at → DidTry t w ms ws a i m after (Err Out)
+  trying-out x q =
+      rw q (record { spent = x.spent; higher = x.higher; tried = tt })
 
   -- ---- one alternative more, from its first place f
   module _ {l : ℕ} {e : Ends} {at : Meter} (x : Trying l e at) {f : ℕ} (d : first (grammar_in t) a (suc l) ≡ some f) where
@@ -95,26 +97,26 @@ module _ (t w ms ws : List ℕ) (a i : ℕ) (m : Meter) where
         ↔ (filtered.Ends (grammar_in t) (masks_in ms) (marked w) f i n × T ((masks_in ms).follows (token_at (marked w) n) a))
     ends_by n = turn-begin a i (suc l) f d n
 
-    pub trying-nowhere : {k : ℕ} {j high left : ℕ} → k ≡ suc l → EndsNowhere t w ms ws f i j → high ≡ max at.high j → left ≤ at.left
-        → Trying k e (record { left = left; high = high })
-    trying-nowhere {k} {j} {high} {left} z y h s = record {
+    pub trying-nowhere : {k : ℕ} {j : ℕ} {after : Meter} → k ≡ suc l → EndsNowhere t w ms ws f i j → after.high ≡ max at.high j → after.left ≤ at.left
+        → Trying k e after
+    trying-nowhere {k} {j} {after} z y h s = record {
       fits = x.fits;
       tagged = rw z (tagged-skip (grammar_in t) (masks_in ms) (marked w) a i l (told_by e) (λ n u. y.none n ((ends_by n).0 u).0) x.tagged);
       spent = let u = x.spent in omega arith;
       higher = raised j h y.came.walks;
-      covers = λ c. rw z (covered (omega arith) (λ _. y.cover high (omega arith)) c);
+      covers = λ c. rw z (covered (omega arith) (λ _. y.cover after.high (omega arith)) c);
     }
 
     -- one end, which is added if its token may follow
-    pub trying-one : {k j high left : ℕ} {e' : Ends} → k ≡ suc l → EndsAt t w ms ws f i j → high ≡ max at.high j → left ≤ at.left
+    pub trying-one : {k j : ℕ} {after : Meter} {e' : Ends} → k ≡ suc l → EndsAt t w ms ws f i j → after.high ≡ max at.high j → after.left ≤ at.left
         → told_by e' ≡ cond ((masks_in ms).follows (token_at (marked w) j) a) (tags.add (told_by e) k j) (told_by e) → EndsFit e'
-        → Trying k e' (record { left = left; high = high })
-    trying-one {k} {j} {high} {left} {e'} z y h s q fit = record {
+        → Trying k e' after
+    trying-one {k} {j} {after} {e'} z y h s q fit = record {
       fits = fit;
       tagged = rw z (go ((masks_in ms).follows (token_at (marked w) j) a) refl);
       spent = let u = x.spent in omega arith;
       higher = raised j h y.came.walks;
-      covers = λ c. rw z (covered (omega arith) (λ _. y.cover high (omega arith)) c);
+      covers = λ c. rw z (covered (omega arith) (λ _. y.cover after.high (omega arith)) c);
     }
       where
         go : (v : Bool) → (masks_in ms).follows (token_at (marked w) j) a ≡ v → tags.TaggedTo (grammar_in t) (masks_in ms) (marked w) a i (suc l) (told_by e')
@@ -138,11 +140,11 @@ module _ (t w ms ws : List ℕ) (a i : ℕ) (m : Meter) where
                 false→¬T ((masks_in ms).follows (token_at (marked w) j) a) v (rw o at r.1)
 
     -- a pair that is not worked out
-    pub trying-needs : {b j left : ℕ} {e' : Ends} → Lacks t w ms ws f i b j → left ≤ at.left
-        → DidTry t w ms ws a i m (record { tried = Needs b j; ends = e'; meter = record { left = left; high = at.high } })
-    trying-needs y s = record {
+    pub trying-needs : {n : Pair} {after : Meter} → Lacks t w ms ws f i n.nonterminal n.position → after.left ≤ at.left → after.high ≡ at.high
+        → DidTry t w ms ws a i m after (Err (Needs n))
+    trying-needs y s q = record {
       spent = let u = x.spent in omega arith;
-      higher = x.higher;
+      higher = rw q x.higher;
       tried = record {
         pair = (y.named, y.came.within);
         undone = y.undone;
@@ -151,8 +153,8 @@ module _ (t w ms ws : List ℕ) (a i : ℕ) (m : Meter) where
     }
 
     -- ---- it goes on at place p from the several ends of pair (b, j)
-    module _ {p b j : ℕ} (y : GoesOn t w ms ws f i p b j) {k left : ℕ} (z : k ≡ suc l) (s : left ≤ at.left) {r : Trial}
-        (did : Branched t w ms ws a k e p b j (record { left = left; high = at.high }) r) where
+    module _ {p b j : ℕ} (y : GoesOn t w ms ws f i p b j) {k : ℕ} {paid after : Meter} (z : k ≡ suc l) (s : paid.left ≤ at.left) (v : paid.high ≡ at.high)
+        {r : Result Ends Halt} (done : Branched t w ms ws a k e p b j paid after r) where
       abbrev S : List ℕ
       S = set_of t w ws b j
 
@@ -165,45 +167,39 @@ module _ (t w ms ws : List ℕ) (a i : ℕ) (m : Meter) where
       walked : {q n : ℕ} → WalksTo t w ms ws p S q n → Walks (grammar_in t) (masks_in ms) (marked w) f i q n
       walked (o, h, v) = walks-on (on y.came.walks (filtered.call y.faces ((y.pair o).1 h))) (rw y.behind at v)
 
-      far : (r.meter.high ≡ at.high) ⊎ ((q : ℕ) × WalksTo t w ms ws p S q r.meter.high) → Called (grammar_in t) (marked w) a i
-          → Came (grammar_in t) (marked w) at.high → Came (grammar_in t) (marked w) r.meter.high
+      far : (after.high ≡ at.high) ⊎ ((q : ℕ) × WalksTo t w ms ws p S q after.high) → Called (grammar_in t) (marked w) a i
+          → Came (grammar_in t) (marked w) at.high → Came (grammar_in t) (marked w) after.high
       far (inl q) c h = rw q h
       far (inr (q, v)) c h = walks-came (suc l) c d (walked v)
 
-      higher : Higher t w ms ws a i m.high r.meter.high
+      up : at.high ≤ after.high
+      up = rw v at done.raised.up
+
+      higher : Higher t w ms ws a i m.high after.high
       higher = record {
-        up = let u = x.higher.up in let v = did.raised.up in omega arith;
-        came = λ c h. far did.raised.came c (x.higher.came c h);
+        up = let u = x.higher.up in let o = up in omega arith;
+        came = λ c h. far (rw v at done.raised.came) c (x.higher.came c h);
       }
 
-      spent : r.meter.left ≤ m.left
-      spent = let u = x.spent in let v = did.spent in omega arith
+      spent : after.left ≤ m.left
+      spent = let u = x.spent in let o = done.spent in omega arith
 
-      branched : {v : Tried} → r.tried ≡ v → BranchedTo t w ms ws a k e p b j at.high v r.ends r.meter.high
-      branched q = subst (λ (v : Tried). BranchedTo t w ms ws a k e p b j at.high v r.ends r.meter.high) q did.branched
+      branched : {o : Result Ends Halt} → r ≡ o → BranchedTo t w ms ws a k e p b j at.high o after.high
+      branched q = rw v at (subst (λ (o : Result Ends Halt). BranchedTo t w ms ws a k e p b j paid.high o after.high) q done.branched)
 
-      back : {v : Tried} → r.tried ≡ v → TriedAs t w ms ws a i m.high v r.ends r.meter.high → DidTry t w ms ws a i m r
-      back q u = record {
-        spent = spent;
-        higher = higher;
-        tried = subst (λ (v : Tried). TriedAs t w ms ws a i m.high v r.ends r.meter.high) (sym q) u;
-      }
-
-      pub several-out : r.tried ≡ Out → DidTry t w ms ws a i m r
-      several-out q = back q tt
-
-      pub several-needs : {c n : ℕ} → r.tried ≡ Needs c n → DidTry t w ms ws a i m r
-      several-needs {c} {n} q = back q (needs (branched q))
+      pub several-halts : {h : Halt} → r ≡ Err h → DidTry t w ms ws a i m after (Err h)
+      several-halts {h} q = record { spent = spent; higher = higher; tried = go h (branched q) }
         where
-          needs : WantsPair t w ms ws p S c n → NeedsPair t w ms ws a i c n
-          needs u = record {
+          go : (h : Halt) → BranchedTo t w ms ws a k e p b j at.high (Err h) after.high → TriedAs t w ms ws a i m.high (Err h) after.high
+          go (Needs n) u = record {
             pair = (u.named, u.within);
             undone = u.undone;
             called = λ h. walks-called (suc l) h d (walked u.walks) u.faces;
           }
+          go Out u = tt
 
-      pub several-known : Ready t → r.tried ≡ Known → Trying k r.ends r.meter
-      several-known ready q = joined (branched q)
+      pub several-known : {e' : Ends} → Ready t → r ≡ Ok e' → Trying k e' after
+      several-known {e'} ready q = joined (branched q)
         where
           from-set : BySet (suc l)
           from-set n = (
@@ -221,14 +217,13 @@ module _ (t w ms ws : List ℕ) (a i : ℕ) (m : Meter) where
               let (g, h) = first-within t ready b y.named 1 (omega arith) (one-at-least t ready b y.named) in
               (above c b j 1 g y.done h).within g j here
 
-          joined : JoinedEnds t w ms ws a k e p b j at.high r.meter.high r.ends → Trying k r.ends r.meter
+          joined : JoinedEnds t w ms ws a k e p b j at.high after.high e' → Trying k e' after
           joined u = record {
             fits = u.fits;
             tagged = u.added i l z (subst BySet (sym z) from-set) x.tagged;
             spent = spent;
             higher = higher;
-            covers = λ c. rw z (covered did.raised.up (λ c.
+            covers = λ c. rw z (covered up (λ c.
                 let low : (n : ℕ) → T (member S n) → n ≤ at.high = λ n h. ends-high b j n (above c) y.done ((y.pair n).1 h) in
-                let up = did.raised.up in
-                y.cover r.meter.high (omega (arith, here-high c)) (λ n h. omega (arith, low n h)) (u.cover (above c) low)) c);
+                y.cover after.high (omega (arith, here-high c)) (λ n h. omega (arith, low n h)) (u.cover (above c) low)) c);
           }

@@ -9,6 +9,7 @@ pub mod StoreLaws
 pub mod ReplyLaws
 pub mod Answers
 pub mod WayLaws
+pub mod MeterLaws
 pub mod OverLaws
 pub mod WalkSteps
 pub mod AddLaws

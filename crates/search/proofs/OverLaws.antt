@@ -13,7 +13,6 @@ use Rattle.base.proofs.Booleans.{clash, true→T, false→¬T}
 use Rattle.grammar.specs.declared.Symbol.{Symbol}
 use Rattle.grammar.specs.declared.Symbol.TheVariants.{Token, Nonterminal}
 use Rattle.grammar.specs.Grammar.{admits}
-use Rattle.grammar.specs.Limits.{max_nonterminals}
 use Rattle.grammar.specs.inside.Tables.{grammar_in, nonterminals_in}
 use Rattle.positions.specs.inside.Positions.{position_count, set_words, empty_set, member, with_of, union_of, NextOf}
 use Rattle.positions.specs.inside.Words.{set_at}
@@ -33,7 +32,7 @@ use Rattle.filtering.proofs.WalkLaws.{ends-high}
 use Rattle.cells.specs.inside.Matches.{matches_at}
 use Rattle.cells.proofs.ThroughLaws.{next-behind}
 use Rattle.search.specs.inside.Searching.{Searching, Sized, state_of, set_of, KnownIs}
-use Rattle.search.specs.inside.Words.{pair_set, search_words}
+use Rattle.search.specs.inside.Words.{pair_set}
 use Rattle.search.specs.inside.Walks.{Within, MayPass, WalksTo, Raised, WantsPair, LedTo}
 use Rattle.search.specs.declared.replies.Reply.{Reply}
 use Rattle.search.specs.declared.replies.Reply.TheVariants.{Unknown, Nowhere, Only, Several}
@@ -215,24 +214,24 @@ module _ {t w ms ws : List ℕ} {s : Size} {p b : ℕ} {x : List ℕ} (may : May
       go (no c) (yes d) = absurd (false→¬T (member x k) (n.none k (omega arith) l) u)
       go (no c) (no d) = let e : k ≡ m = omega arith in rw e a
 
+  -- the only end is a position of the note
+  pub only-inside : {r : Reply} {j : ℕ} → m ≤ length w → KnownIs t w ms ws b m r → r ≡ Only j → j ≤ length w
+  only-inside {r} {j} l k q =
+      let (a, h) = said-only may.walk.searching b m l q k in
+      pair_inside t may.walk.searching.given.ready w b m j l ((h j).1 refl)
+
   module _ {m' : ℕ} {r : Reply} (l : m ≤ length w) (n : NextOf x (m + 1) m') (k : KnownIs t w ms ws b m r) where
     pub calls-none : r ≡ Nowhere → Calls t w ms ws p b x m' y
     calls-none q =
         let (a, h) = said-nowhere may.walk.searching b m l q k in
         record { through = through_same (short may) z.through m' l n (λ j o. h j ((leads-call b may.faces j).0 o)); asked = asks m' n a }
 
-    -- the only end is a position of the note
-    pub only-inside : {j : ℕ} → r ≡ Only j → j ≤ length w
-    only-inside {j} q =
-        let (a, h) = said-only may.walk.searching b m l q k in
-        pair_inside t may.walk.searching.given.ready w b m j l ((h j).1 refl)
-
     pub calls-one : {j : ℕ} {y' : List ℕ} → r ≡ Only j → y' ≡ with_of y j → Calls t w ms ws p b x m' y'
     calls-one {j} q e =
         let (a, h) = said-only may.walk.searching b m l q k in
         record {
           through =
-              through-with (short may) z.through m' j l n (let i = only-inside q in let u = short may in omega arith) e
+              through-with (short may) z.through m' j l n (let i = only-inside l k q in let u = short may in omega arith) e
               (λ i. (λ o. (h i).0 ((leads-call b may.faces i).0 o), λ v. (leads-call b may.faces i).1 ((h i).1 v)));
           asked = asks m' n a;
         }
@@ -285,12 +284,7 @@ module _ {t w ms ws : List ℕ} {s : Size} {p b : ℕ} {x : List ℕ} (may : May
           let q = ((alone {w = marked w} (ready-ordered t given.ready) given.closed b i j (omega (arith, length_marked w)) v).0 o).0 in
           omega arith
 
--- ---- by the code's numbers: the set of a pair may be read, and is what stands for it
+-- ---- by the code's numbers: the set that was read is what stands for the pair
 module _ {t w : List ℕ} {s : Size} (z : Sized t w s) where
-  pub may_read : {ms ws : List ℕ} {b i : ℕ} → Searching t w ms ws → b < nonterminals_in t → i ≤ length w
-      → (b < s.nonterminals) × (i ≤ s.n) × (s.nonterminals ≤ max_nonterminals) × (s.n ≤ 128) × (search_words s.nonterminals s.n ≤ length ws)
-  may_read x a l =
-      rw (z.tokens, z.names) (a, l, x.given.ready.fits.few, x.given.short, x.room)
-
   pub set_is : (ws : List ℕ) {r : List ℕ} (b i : ℕ) → r ≡ set_at ws (pair_set s.nonterminals s.n b i) → r ≡ set_of t w ws b i
   set_is ws b i e = rw (z.tokens, z.names) at e

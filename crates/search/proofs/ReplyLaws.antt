@@ -26,7 +26,9 @@ use Rattle.search.specs.declared.words.Tag.{Tag}
 use Rattle.search.specs.declared.words.Tag.TheVariants as tag
 use Rattle.search.specs.declared.replies.Reply.TheVariants.{Unknown, Nowhere, Only, Several}
 use Rattle.search.specs.inside.Words.{tag_at, search_words, tag_from, tag_of, done_in, tag_in}
-use Rattle.search.specs.inside.Searching.{set_of, state_of, Given, MayAsk, reply_in, KnownIs}
+use Rattle.search.specs.inside.Places.{Small, Placed}
+use Rattle.search.specs.inside.Searching as asked
+use Rattle.search.specs.inside.Searching.{set_of, state_of, Given, Searching, Sized, MayAsk, reply_in, KnownIs}
 
 -- ---- tokens of a note that is given
 kinds-few : (t : List ℕ) → Ready t → (grammar_in t).kinds ≤ max_kinds
@@ -56,18 +58,22 @@ told-one e s = rw e
 pub told-several : {t : Tag} → t ≡ tag.Several → (s : List ℕ) → reply_in s Several ≡ told (tag_of t s)
 told-several e s = rw e
 
+-- ---- by the code's numbers
+pub sizes-small : {t w ms : List ℕ} {z : Size} → Given t w ms → Sized t w z → Small z
+sizes-small g s = record { names = rw s.names g.ready.fits.few; tokens = rw s.tokens g.short }
+
+pub placed : {t w ms ws : List ℕ} {z : Size} {a i : ℕ} → Searching t w ms ws → Sized t w z → asked.Pair t w a i
+    → Placed z (record { nonterminal = a; position = i }) ws
+placed x s p = record {
+  pair = record { small = sizes-small x.given s; nonterminal = rw s.names p.0; position = rw s.tokens p.1 };
+  room = rw (s.names, s.tokens) x.room;
+}
+
 -- ---- a pair that may be asked
 module _ {t w ms ws : List ℕ} {z : Size} {a i : ℕ} (h : MayAsk t w ms ws z a i) where
   -- by the code's numbers, as functions on words ask for it
-  pub pair-asked : (a < z.nonterminals) × (i ≤ z.n) × (z.nonterminals ≤ max_nonterminals) × (z.n ≤ max_tokens)
-      × (search_words z.nonterminals z.n ≤ length ws)
-  pair-asked = rw (h.sized.names, h.sized.tokens) (
-    h.pair.0,
-    h.pair.1,
-    h.searching.given.ready.fits.few,
-    h.searching.given.short,
-    h.searching.room,
-  )
+  pub pair-asked : Placed z (record { nonterminal = a; position = i }) ws
+  pair-asked = placed h.searching h.sized h.pair
 
   -- its token and nonterminal are such as masks hold
   pub masks-asked : {r : ℕ} → get_elem? (marked w) i ≡ some r → (r ≤ max_kinds) × (a < max_nonterminals) × (length ms ≡ mask_words)

@@ -8,6 +8,7 @@ use native.Mathlib.Omega.{arith}
 use native.Mathlib.Decide.{dec_lt}
 use lib.ListN.{length, get_or, set, length-set}
 use lib.Seq.{get_or-set_same, get_or-set_other}
+use Rattle.std.specs.Prelude.{Result, Ok, Err}
 use Rattle.grammar.specs.Limits.{max_nonterminals}
 use Rattle.grammar.specs.inside.Tables.{grammar_in, nonterminals_in}
 use Rattle.derivation.specs.Runs.{marked}
@@ -19,11 +20,15 @@ use Rattle.filtering.proofs.SettleLaws.{stored-holds, stored-covered}
 use Rattle.search.specs.inside.Words.{waits_at, pair_count, search_words, per_alternative, state_in, Kept}
 use Rattle.search.specs.inside.Searching.{Given, Sized, Pair, Holds, MayAsk, state_of}
 use Rattle.search.specs.inside.Trials.{told_by, EndsFit, FoundEnds, NeedsPair, TriedAs, DidTry, CameSoFar, Settled}
+use Rattle.search.specs.inside.Places.{Small, Placed, Room, pair_in}
 use Rattle.search.specs.declared.words.Size.{Size}
-use Rattle.search.specs.declared.words.Meter.{Meter}
-use Rattle.search.specs.declared.trying.Tried.{Tried}
-use Rattle.search.specs.declared.trying.Tried.TheVariants.{Known, Needs}
-use Rattle.search.specs.declared.trying.Trial.{Trial}
+use Rattle.search.specs.declared.words.Pair as code
+use Rattle.search.specs.declared.meter.Meter.{Meter}
+use Rattle.search.specs.declared.meter.Exhausted.{Exhausted}
+use Rattle.search.specs.declared.adding.Ends.{Ends}
+use Rattle.search.specs.declared.walking.Halt.{Halt}
+use Rattle.search.specs.declared.walking.Halt.TheVariants.{Needs}
+use Rattle.search.proofs.ReplyLaws.{sizes-small, pair-asked}
 use Rattle.search.proofs.WordLaws.{waits_end, waits-agree, holds_same, covered_same}
 
 -- ---- bounds
@@ -42,13 +47,13 @@ room-is {t} {w} s z = rw (z.names, z.tokens, add-one (length w))
 abbrev wait_in : List ℕ → List ℕ → List ℕ → ℕ → ℕ
 wait_in t w us k = get_or us (waits_at (nonterminals_in t) (length w) + k) 0
 
-pub read-wait : {t w : List ℕ} (us : List ℕ) (s : Size) (k : ℕ) {y : ℕ} → Sized t w s → y ≡ get_or us (waits_at s.nonterminals s.n + k) 0
-    → y ≡ wait_in t w us k
+pub read-wait : {t w : List ℕ} (us : List ℕ) (s : Size) (k : ℕ) {p : code.Pair} → Sized t w s → p ≡ pair_in (get_or us (waits_at s.nonterminals s.n + k) 0)
+    → p ≡ pair_in (wait_in t w us k)
 read-wait us s k z e = rw (z.names, z.tokens) at e
 
 -- something holds of the pair that a number says
 abbrev OfPair : (ℕ → ℕ → Type 0) → ℕ → Type 0
-OfPair P x = P (x % per_alternative) (x / per_alternative)
+OfPair P x = P (pair_in x).nonterminal (pair_in x).position
 
 -- what is known of how far the search came, if the pair that was asked is called: so are all that were asked for it
 pub record FarSo (t w ms us : List ℕ) (b j waiting high : ℕ) : Type 0 where
@@ -103,54 +108,49 @@ module _ (t w ms ws : List ℕ) (a i : ℕ) (m : Meter) where
 
     -- words of a pair that waits may be read
     pub may-wait : {s : Size} {k : ℕ} (us' : List ℕ) → Given t w ms → search_words (nonterminals_in t) (length w) ≤ length ws → Sized t w s → k < waiting
-        → length us' ≡ length us
-        → (s.nonterminals ≤ max_nonterminals) × (s.n ≤ max_tokens) × (k < pair_count s.nonterminals s.n)
-        × (search_words s.nonterminals s.n ≤ length us')
-    may-wait {s} us' g h z l e = rw (z.names, z.tokens) (g.ready.fits.few, g.short, omega (arith, x.few), omega (arith, e, x.kept.long))
+        → length us' ≡ length us → Small s × Room s us' × (k < pair_count s.nonterminals s.n)
+    may-wait {s} us' g h z l e = (sizes-small g z, rw (z.names, z.tokens) (omega (arith, e, x.kept.long)), rw (z.names, z.tokens) (omega (arith, x.few)))
 
     -- and written
     pub may-put : {s : Size} → Given t w ms → search_words (nonterminals_in t) (length w) ≤ length ws → Sized t w s
         → ¬ (waiting ≡ s.nonterminals * (s.n + 1))
-        → (b < s.nonterminals) × (j ≤ s.n) × (s.nonterminals ≤ max_nonterminals) × (s.n ≤ max_tokens) × (waiting < pair_count s.nonterminals s.n)
-        × (search_words s.nonterminals s.n ≤ length us)
-    may-put {s} g h z n =
-        let more = room-left z n in
-        rw (z.names, z.tokens) (x.pair.0, x.pair.1, g.ready.fits.few, g.short, more, omega (arith, x.kept.long))
+        → Placed s (record { nonterminal = b; position = j }) us × (waiting < pair_count s.nonterminals s.n)
+    may-put {s} g h z n = let more = room-left z n in (pair-asked (settling-asks g h z), rw (z.names, z.tokens) more)
 
-    module _ {r : Trial} (did : DidTry t w ms us b j at r) where
-      as-tried : {v : Tried} → r.tried ≡ v → TriedAs t w ms us b j at.high v r.ends r.meter.high
-      as-tried q = subst (λ (v : Tried). TriedAs t w ms us b j at.high v r.ends r.meter.high) q did.tried
+    module _ {after : Meter} {r : Result Ends Halt} (did : DidTry t w ms us b j at after r) where
+      as-tried : {v : Result Ends Halt} → r ≡ v → TriedAs t w ms us b j at.high v after.high
+      as-tried q = subst (λ (v : Result Ends Halt). TriedAs t w ms us b j at.high v after.high) q did.tried
 
-      pub trial-fits : r.tried ≡ Known → EndsFit r.ends
-      trial-fits q = let f : FoundEnds t w ms us b j at.high r.meter.high r.ends = as-tried q in f.fits
+      pub trial-fits : {e : Ends} → r ≡ Ok e → EndsFit e
+      trial-fits {e} q = let f : FoundEnds t w ms us b j at.high after.high e = as-tried q in f.fits
 
       -- how far it came, by the trial
-      came : FarSo t w ms us b j waiting at.high → CameSoFar t w ms us r.meter.high
+      came : FarSo t w ms us b j waiting at.high → CameSoFar t w ms us after.high
       came f = record {
         cover = λ c k o g d e. covered_more (λ _ _ h. h) did.higher.up (f.sure.cover c k o g d e);
         came = did.higher.came f.here f.sure.came;
       }
 
       -- the budget is out
-      pub settled-out : (after : Meter) → after.left ≡ 0 → after.high ≡ r.meter.high → Settled t w ms ws us a i m after
-      settled-out after e h = record {
+      pub settled-out : {last : Meter} {z : Exhausted} → last.left ≤ after.left → last.high ≡ after.high → Settled t w ms ws us a i m last (Err z)
+      settled-out l h = record {
         kept = x.kept;
         holds = x.holds;
-        spent = omega arith;
-        done = λ l. absurd (omega arith);
+        spent = let u = x.spent in let v = did.spent in omega arith;
+        done = tt;
         far = λ c s. rw h (came (x.far c s));
       }
 
       -- ---- the pair's ends are known and stored
-      module _ (q : r.tried ≡ Known) {s : Size} (z : Sized t w s) {us' : List ℕ} (k : Kept (waits_at s.nonterminals s.n) us us')
-          (st : Stored (state_in s.nonterminals s.n us) b j (told_by r.ends) (state_in s.nonterminals s.n us')) where
-        found : FoundEnds t w ms us b j at.high r.meter.high r.ends
+      module _ {ends : Ends} (q : r ≡ Ok ends) {s : Size} (z : Sized t w s) {us' : List ℕ} (k : Kept (waits_at s.nonterminals s.n) us us')
+          (st : Stored (state_in s.nonterminals s.n us) b j (told_by ends) (state_in s.nonterminals s.n us')) where
+        found : FoundEnds t w ms us b j at.high after.high ends
         found = as-tried q
 
         keeps : Kept (waits_at (nonterminals_in t) (length w)) us us'
         keeps = rw (z.names, z.tokens) at k
 
-        stored : Stored (state_of t w us) b j (told_by r.ends) (state_of t w us')
+        stored : Stored (state_of t w us) b j (told_by ends) (state_of t w us')
         stored = rw (z.names, z.tokens) at st
 
         kept : Kept (search_words (nonterminals_in t) (length w)) ws us'
@@ -162,7 +162,7 @@ module _ (t w ms ws : List ℕ) (a i : ℕ) (m : Meter) where
         holds : Holds t w ms us'
         holds = stored-holds b j stored x.holds found.tagged
 
-        sure : FarSo t w ms us b j waiting at.high → CameSoFar t w ms us' r.meter.high
+        sure : FarSo t w ms us b j waiting at.high → CameSoFar t w ms us' after.high
         sure f = record {
           cover = stored-covered b j stored did.higher.up f.sure.cover (found.covers f.sure.cover);
           came = did.higher.came f.here f.sure.came;
@@ -172,20 +172,19 @@ module _ (t w ms ws : List ℕ) (a i : ℕ) (m : Meter) where
         same o = keeps.word (waits_at (nonterminals_in t) (length w) + o) (omega arith)
 
         -- no other pair waits
-        pub settled-all : waiting ≡ 0 → {left : ℕ} → left ≤ r.meter.left
-            → Settled t w ms ws us' a i m (record { left = left; high = r.meter.high })
-        settled-all e l = record {
+        pub settled-all : waiting ≡ 0 → {last : Meter} → last.left ≤ after.left → last.high ≡ after.high → Settled t w ms ws us' a i m last (Ok tt)
+        settled-all e l y = record {
           kept = kept;
           holds = holds;
           spent = let u = x.spent in let v = did.spent in omega arith;
-          done = λ _. let f = x.first e in rw (← f.0, ← f.1) stored.has;
-          far = λ c h. sure (x.far c h);
+          done = let f = x.first e in rw (← f.0, ← f.1) stored.has;
+          far = λ c h. rw y (sure (x.far c h));
         }
 
         -- the last one that waits is tried again
-        pub settling-back : 0 < waiting → {y left : ℕ} → y ≡ wait_in t w us' (waiting - 1) → left ≤ r.meter.left
-            → Settling us' (y % per_alternative) (y / per_alternative) (waiting - 1) (record { left = left; high = r.meter.high })
-        settling-back l {y} e n = record {
+        pub settling-back : 0 < waiting → {p : code.Pair} {last : Meter} → p ≡ pair_in (wait_in t w us' (waiting - 1)) → last.left ≤ after.left
+            → last.high ≡ after.high → Settling us' p.nonterminal p.position (waiting - 1) last
+        settling-back l {p} e n y = record {
           kept = kept;
           holds = holds;
           pair = rw (e, same (waiting - 1)) (x.waits (waiting - 1) (omega arith));
@@ -195,17 +194,17 @@ module _ (t w ms ws : List ℕ) (a i : ℕ) (m : Meter) where
           lowest = λ h. rw (same 0) (x.lowest l);
           spent = let u = x.spent in let v = did.spent in omega arith;
           far = λ c h. let f = x.far c h in record {
-            sure = sure f;
+            sure = rw y (sure f);
             here = rw (e, same (waiting - 1)) (f.waits (waiting - 1) (omega arith));
             waits = λ o h. rw (same o) (f.waits o (omega arith));
           };
         }
 
       -- ---- another pair is needed first: this one waits
-      module _ {c n : ℕ} (q : r.tried ≡ Needs c n) {s : Size} (z : Sized t w s) (small : nonterminals_in t ≤ per_alternative)
+      module _ {need : code.Pair} (q : r ≡ Err (Needs need)) {s : Size} (z : Sized t w s) (small : nonterminals_in t ≤ per_alternative)
           (roomy : search_words (nonterminals_in t) (length w) ≤ length ws) (more : waiting < pair_count (nonterminals_in t) (length w)) {us' : List ℕ}
           (e : us' ≡ set us (waits_at s.nonterminals s.n + waiting) (j * per_alternative + b)) where
-        needs : NeedsPair t w ms us b j c n
+        needs : NeedsPair t w ms us b j need.nonterminal need.position
         needs = as-tried q
 
         abbrev N : ℕ
@@ -249,8 +248,9 @@ module _ (t w ms ws : List ℕ) (a i : ℕ) (m : Meter) where
         lowest-on (yes l) = rw (other (waits_at N (length w) + 0) (λ u. omega arith)) (x.lowest l)
         lowest-on (no l) = all (λ b j. (b ≡ a) × (j ≡ i)) (x.first (omega arith)) (λ o h. absurd (omega arith)) 0 (omega arith)
 
-        pub settling-on : {left : ℕ} → left ≤ r.meter.left → Settling us' c n (waiting + 1) (record { left = left; high = r.meter.high })
-        settling-on l = record {
+        pub settling-on : {last : Meter} → last.left ≤ after.left → last.high ≡ after.high
+            → Settling us' need.nonterminal need.position (waiting + 1) last
+        settling-on l y = record {
           kept = kept_on;
           holds = rw put (holds_same t w ms (waits-agree N (length w) waiting (j * per_alternative + b) us) x.holds);
           pair = needs.pair;
@@ -260,10 +260,10 @@ module _ (t w ms ws : List ℕ) (a i : ℕ) (m : Meter) where
           lowest = λ h. lowest-on (dec_lt 0 waiting);
           spent = let u = x.spent in let v = did.spent in omega arith;
           far = λ c h. let f = x.far c h in record {
-            sure = record {
+            sure = rw y (record {
               cover = rw put (covered_same t w ms (waits-agree N (length w) waiting (j * per_alternative + b) us) (came f).cover);
               came = (came f).came;
-            };
+            });
             here = needs.called f.here;
             waits = all (Called (grammar_in t) (marked w)) f.here f.waits;
           };

@@ -1,29 +1,41 @@
 -- A pair is tried: alternatives are few, so their ends may be added; and one that goes on from the several ends of a pair. The loop is in AttemptLaws.
 use mathlib.Core.Path.{◌≡◌, sym, subst}
+use mathlib.Core.Option.{some}
 use mathlib.Core.List.{List}
-use Prim.Native.Nat.{ℕ, ◌+◌, ◌-◌, ◌<◌}
+use Prim.Native.Nat.{ℕ, suc, ◌+◌, ◌<◌}
 use native.Mathlib.Omega.{arith}
-use Rattle.grammar.specs.inside.Tables.{grammar_in, nonterminals_in, rule_at}
+use lib.ListN.{length, get_or}
+use Rattle.std.specs.Prelude.{Result, Ok, Err}
+use Rattle.positions.specs.declared.Positions.{Positions}
+use Rattle.grammar.specs.Grammar.{alternatives, first}
+use Rattle.grammar.specs.inside.Tables.{grammar_in, nonterminals_in}
 use Rattle.derivation.specs.inside.Ready.{Ready}
-use Rattle.derivation.proofs.CountLaws.{alternatives-few, count-is}
+use Rattle.derivation.proofs.CountLaws.{alternatives-few}
+use Rattle.derivation.proofs.FirstLaws.{get-some}
+use Rattle.derivation.proofs.ReadyLaws.{ready-first}
 use Rattle.search.specs.inside.Searching.{Given, Searching, Sized, set_of}
 use Rattle.search.specs.inside.Ways.{GoesOn, Went}
 use Rattle.search.specs.inside.Walks.{MayWalk, DidWalk, WalkedTo, EndsIn}
-use Rattle.search.specs.inside.Trials.{EndsFit, MayAdd, AddedAll, MayBranch, JoinedEnds, Branched}
+use Rattle.search.specs.inside.Trials.{EndsFit, MayAdd, AddedAll, MayBranch, JoinedEnds, BranchedTo, Branched}
 use Rattle.search.specs.declared.words.Size.{Size}
-use Rattle.search.specs.declared.words.Meter.{Meter}
+use Rattle.search.specs.declared.meter.Meter.{Meter}
 use Rattle.search.specs.declared.adding.Ends.{Ends}
 use Rattle.search.specs.declared.ways.Way.{Way}
-use Rattle.search.specs.declared.walking.Passage.{Passage}
-use Rattle.search.specs.declared.walking.Walked.{Walked}
-use Rattle.search.specs.declared.walking.Walked.TheVariants as walked
-use Rattle.search.specs.declared.trying.Tried.TheVariants as tried
+use Rattle.search.specs.declared.walking.Halt.{Halt}
+use Rattle.search.specs.declared.walking.Halt.TheVariants.{Needs, Out}
 use Rattle.search.proofs.ReplyLaws.{token-few}
 
 -- ---- alternatives are few
--- the number of one, counted from 1
-pub number_small : {t : List ℕ} {a s e k : ℕ} → Ready t → a < nonterminals_in t → s ≡ rule_at t a → e ≡ rule_at t (a + 1) → k < e → k + 1 - s < 32
-number_small {t} {a} h l p q m = omega (arith, alternatives-few t h a, count-is t h a l p q)
+pub number_small : {t : List ℕ} {a k : ℕ} → Ready t → a < nonterminals_in t → k < length (alternatives (grammar_in t) a) → k + 1 < 32
+number_small {t} {a} h l m = omega (arith, alternatives-few t h a)
+
+-- ---- the first place that stands there is that of the alternative with the next number
+module _ (t : List ℕ) (a : ℕ) {ps : List ℕ} {k f : ℕ} (e : ps ≡ alternatives (grammar_in t) a) (l : k < length ps) (d : f ≡ get_or ps k 0) where
+  pub first-is : first (grammar_in t) a (suc k) ≡ some f
+  first-is = rw (d, ← e) (get-some ps k l)
+
+  pub first_inside : Ready t → f < (grammar_in t).size
+  first_inside h = ready-first t h a (suc k) f first-is
 
 -- ---- what may be asked
 -- ends of an alternative may be added
@@ -55,26 +67,25 @@ went-as t w ms ws f i q h = subst (λ (v : Way). Went t w ms ws f i v) q h
 pub walk_from : {t w ms ws : List ℕ} {s : Size} {p : ℕ} {x y : List ℕ} → x ≡ y → MayWalk t w ms ws s p y → MayWalk t w ms ws s p x
 walk_from {t} {w} {ms} {ws} {s} {p} q h = subst (λ (x : List ℕ). MayWalk t w ms ws s p x) (sym q) h
 
-module _ {t w ms ws : List ℕ} (a k : ℕ) (e : Ends) (p b j : ℕ) {m : Meter} {x : List ℕ} (same : x ≡ set_of t w ws b j) {r : Passage}
-    (did : DidWalk t w ms ws p x m r) where
-  here : DidWalk t w ms ws p (set_of t w ws b j) m r
-  here = subst (λ (x : List ℕ). DidWalk t w ms ws p x m r) same did
+module _ {t w ms ws : List ℕ} (a k : ℕ) (e : Ends) (p b j : ℕ) {m m' : Meter} {x : List ℕ} (same : x ≡ set_of t w ws b j) {r : Result Positions Halt}
+    (did : DidWalk t w ms ws p x m m' r) where
+  here : DidWalk t w ms ws p (set_of t w ws b j) m m' r
+  here = subst (λ (x : List ℕ). DidWalk t w ms ws p x m m' r) same did
 
-  walked_as : {v : Walked} → r.walked ≡ v → WalkedTo t w ms ws p (set_of t w ws b j) m.high v r.to.words r.meter.high
-  walked_as q = subst (λ (v : Walked). WalkedTo t w ms ws p (set_of t w ws b j) m.high v r.to.words r.meter.high) q here.walked
+  walked_as : {v : Result Positions Halt} → r ≡ v → WalkedTo t w ms ws p (set_of t w ws b j) m.high v m'.high
+  walked_as q = subst (λ (v : Result Positions Halt). WalkedTo t w ms ws p (set_of t w ws b j) m.high v m'.high) q here.walked
 
-  pub branch-needs : {e' : Ends} {c n : ℕ} → r.walked ≡ walked.Needs c n
-      → Branched t w ms ws a k e p b j m (record { tried = tried.Needs c n; ends = e'; meter = r.meter })
-  branch-needs {e'} {c} {n} q = record { spent = here.spent; raised = here.raised; branched = walked_as q }
-
-  pub branch-out : {e' : Ends} → r.walked ≡ walked.Out → Branched t w ms ws a k e p b j m (record { tried = tried.Out; ends = e'; meter = r.meter })
-  branch-out q = record { spent = here.spent; raised = here.raised; branched = tt }
-
-  pub branch-joins : {e' : Ends} → r.walked ≡ walked.To → AddedAll ms w a k r.to.words e e' → EndsFit e'
-      → Branched t w ms ws a k e p b j m (record { tried = tried.Known; ends = e'; meter = r.meter })
-  branch-joins {e'} q add f = record { spent = here.spent; raised = here.raised; branched = joined (walked_as q) }
+  pub branch-halts : {h : Halt} → r ≡ Err h → Branched t w ms ws a k e p b j m m' (Err h)
+  branch-halts {h} q = record { spent = here.spent; raised = here.raised; branched = go h (walked_as q) }
     where
-      joined : EndsIn t w ms ws p (set_of t w ws b j) m.high r.meter.high r.to.words → JoinedEnds t w ms ws a k e p b j m.high r.meter.high e'
+      go : (h : Halt) → WalkedTo t w ms ws p (set_of t w ws b j) m.high (Err h) m'.high → BranchedTo t w ms ws a k e p b j m.high (Err h) m'.high
+      go (Needs n) u = u
+      go Out u = tt
+
+  pub branch-joins : {y : Positions} {e' : Ends} → r ≡ Ok y → AddedAll ms w a k y.words e e' → EndsFit e' → Branched t w ms ws a k e p b j m m' (Ok e')
+  branch-joins {y} {e'} q add f = record { spent = here.spent; raised = here.raised; branched = joined (walked_as q) }
+    where
+      joined : EndsIn t w ms ws p (set_of t w ws b j) m.high m'.high y.words → JoinedEnds t w ms ws a k e p b j m.high m'.high e'
       joined y = record {
         added = λ i l z h u. add (grammar_in t) i l z y.within
             (λ n. (λ v. let d = (h n).0 v in ((y.ends n).0 d.0, d.1), λ v. (h n).1 ((y.ends n).1 v.0, v.1))) u;

@@ -6,11 +6,13 @@ use Prim.Native.Nat.{ℕ, suc, ◌+◌, ◌≤◌, ◌<◌}
 use native.Mathlib.Numerals.{add-one}
 use native.Mathlib.Omega.{arith}
 use lib.Dec.{T}
+use Rattle.std.specs.Prelude.{Result, Ok, Err}
 use Rattle.base.proofs.Booleans.{clash}
 use Rattle.grammar.specs.declared.Symbol.{Symbol}
 use Rattle.grammar.specs.declared.Symbol.TheVariants.{Token, Nonterminal, End}
 use Rattle.grammar.specs.Grammar.{Grammar, facing}
 use Rattle.grammar.specs.inside.Tables.{grammar_in}
+use Rattle.positions.specs.declared.Positions.{Positions}
 use Rattle.positions.specs.inside.Positions.{member}
 use Rattle.derivation.specs.Runs.{marked}
 use Rattle.derivation.proofs.MarkedCells.{length_marked}
@@ -23,10 +25,10 @@ use Rattle.filtering.proofs.EndLaws.{from-over, from_end}
 use Rattle.filtering.proofs.WalkLaws.{covered-over, covered-end, covered_more}
 use Rattle.search.specs.inside.Searching.{Searching, state_of}
 use Rattle.search.specs.inside.Walks.{Within, WalksTo, Raised, WantsPair, LedTo, PassedTo, Passed, EndsIn, WalkedTo, DidWalk}
-use Rattle.search.specs.declared.words.Meter.{Meter}
-use Rattle.search.specs.declared.walking.Passage.{Passage}
-use Rattle.search.specs.declared.walking.Walked.{Walked}
-use Rattle.search.specs.declared.walking.Walked.TheVariants.{To, Needs, Out}
+use Rattle.search.specs.declared.words.Pair.{Pair}
+use Rattle.search.specs.declared.meter.Meter.{Meter}
+use Rattle.search.specs.declared.walking.Halt.{Halt}
+use Rattle.search.specs.declared.walking.Halt.TheVariants.{Needs, Out}
 
 -- ---- cases that exclude each other
 pub no_end : {x s : Symbol} → x ≡ s → ¬ (s ≡ End) → ¬ (x ≡ End)
@@ -37,12 +39,6 @@ token-goes e = clash (cc)
 
 pub call-goes : {b : ℕ} → ¬ (Nonterminal b ≡ End)
 call-goes e = clash (cc)
-
-pub needs-stops : {v : Walked} {b j : ℕ} → v ≡ Needs b j → ¬ (v ≡ To)
-needs-stops e q = clash (cc)
-
-pub out-stops : {v : Walked} → v ≡ Out → ¬ (v ≡ To)
-out-stops e q = clash (cc)
 
 -- ---- walks
 -- a walk, and one from where it comes to
@@ -102,28 +98,22 @@ module _ {t w ms ws : List ℕ} {f : ℕ} {x₀ : List ℕ} {high₀ p : ℕ} {x
       }
 
   -- ---- a turn: one symbol leads to other positions
-  module _ {m : Meter} {r : Passage} (b : m.high ≡ high) (step : Passed t w ms ws p x m r) (q : r.walked ≡ To) where
-    led : LedTo t w ms ws p x high r.meter.high r.to.words
-    led = rw b at (go r.walked q step.passed)
-      where
-        go : (v : Walked) → v ≡ To → PassedTo t w ms ws p x m.high v r.to.words r.meter.high
-            → LedTo t w ms ws p x m.high r.meter.high r.to.words
-        go To e u = u
-        go (Needs c j) e u = clash (cc)
-        go Out e u = clash (cc)
+  module _ {m m' : Meter} {r : Result Positions Halt} {y : Positions} (b : m.high ≡ high) (step : Passed t w ms ws p x m m' r) (q : r ≡ Ok y) where
+    led : LedTo t w ms ws p x high m'.high y.words
+    led = let made : PassedTo t w ms ws p x m.high (Ok y) m'.high = rw q at step.passed in rw b at made
 
     over : ¬ (facing (grammar_in t) p ≡ End) → (m : ℕ) → EndsFrom (grammar_in t) (masks_in ms) (marked w) (λ k. T (member x k)) p m
-        ↔ EndsFrom (grammar_in t) (masks_in ms) (marked w) (λ k. T (member r.to.words k)) (suc p) m
-    over n m = from-over (λ k. T (member x k)) (λ k. T (member r.to.words k)) n led.leads
+        ↔ EndsFrom (grammar_in t) (masks_in ms) (marked w) (λ k. T (member y.words k)) (suc p) m
+    over n m = from-over (λ k. T (member x k)) (λ k. T (member y.words k)) n led.leads
 
     higher : Covered (grammar_in t) (masks_in ms) (marked w) (state_of t w ws).done high₀
         → Covered (grammar_in t) (masks_in ms) (marked w) (state_of t w ws).done high
     higher cover a i b f v e = covered_more (λ c k u. u) z.raised.up (cover a i b f v e)
 
-    up : high ≤ r.meter.high
+    up : high ≤ m'.high
     up = rw b at step.raised.up
 
-    pub walking_on : ¬ (facing (grammar_in t) p ≡ End) → Walking t w ms ws f x₀ high₀ (p + 1) r.to.words r.meter.high
+    pub walking_on : ¬ (facing (grammar_in t) p ≡ End) → Walking t w ms ws f x₀ high₀ (p + 1) y.words m'.high
     walking_on n =
         rw (add-one p)
         (record {
@@ -131,7 +121,7 @@ module _ {t w ms ws : List ℕ} {f : ℕ} {x₀ : List ℕ} {high₀ p : ℕ} {x
           within = led.within;
           same = λ m. (λ u. (over n m).0 ((z.same m).0 u), λ u. (z.same m).1 ((over n m).1 u));
           walks = λ m u. let (j, v, o) = (led.leads m).0 u in let (k, v', q) = z.walks j v in (k, v', on q o);
-          raised = raised-on r.meter.high (rw b at step.raised);
+          raised = raised-on m'.high (rw b at step.raised);
           low = λ cover under. led.low (higher cover) (z.low cover under);
           cover = λ cover under h l rest.
               z.cover cover under h (let a = up in omega arith)
@@ -152,17 +142,15 @@ module _ {t w ms ws : List ℕ} {f : ℕ} {x₀ : List ℕ} {high₀ p : ℕ} {x
       at : (m : ℕ) → EndsFrom (grammar_in t) (masks_in ms) (marked w) (λ k. T (member x k)) p m ↔ T (member x m)
       at m = from_end (λ k. T (member x k)) e (λ k u. let a = z.within k u in omega (arith, length_marked w))
 
-  pub walked-stops : {m₀ m : Meter} {r : Passage} → m₀.high ≡ high₀ → m.high ≡ high → m.left ≤ m₀.left → Passed t w ms ws p x m r → ¬ (r.walked ≡ To)
-      → DidWalk t w ms ws f x₀ m₀ r
-  walked-stops {m₀} {m} {r} a b l step n =
+  pub walked-stops : {m₀ m m' : Meter} {r : Result Positions Halt} {h : Halt} → m₀.high ≡ high₀ → m.high ≡ high → m.left ≤ m₀.left
+      → Passed t w ms ws p x m m' r → r ≡ Err h → DidWalk t w ms ws f x₀ m₀ m' (Err h)
+  walked-stops {m₀} {m} {m'} {r} {h} a b l step q =
       record {
         spent = let u = step.spent in omega arith;
-        raised = rw a (raised-on r.meter.high (rw b at step.raised));
-        walked = go r.walked refl step.passed;
+        raised = rw a (raised-on m'.high (rw b at step.raised));
+        walked = go h (rw q at step.passed);
       }
     where
-      go : (v : Walked) → r.walked ≡ v → PassedTo t w ms ws p x m.high v r.to.words r.meter.high
-          → WalkedTo t w ms ws f x₀ m₀.high v r.to.words r.meter.high
-      go To e u = absurd (n e)
-      go (Needs c j) e u = wants-on c j u
-      go Out e u = u
+      go : (h : Halt) → PassedTo t w ms ws p x m.high (Err h) m'.high → WalkedTo t w ms ws f x₀ m₀.high (Err h) m'.high
+      go (Needs n) u = wants-on n.nonterminal n.position u
+      go Out u = u

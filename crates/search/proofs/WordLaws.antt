@@ -22,18 +22,21 @@ use Rattle.first_follow.specs.inside.Words.{masks_in}
 use Rattle.filtering.specs.inside.Cover.{Covered}
 use Rattle.filtering.proofs.WalkLaws.{covered_more}
 use Rattle.search.specs.inside.Words.{pair_at, tag_at, pair_set, waits_at, search_words, done_in, tag_in}
+use Rattle.search.specs.inside.Places.{Small, PairOf}
 use Rattle.search.specs.inside.Searching.{Holds, state_of}
+use Rattle.search.specs.declared.words.Size.{Size}
+use Rattle.search.specs.declared.words.Pair.{Pair}
 
 -- ---- numbers of pairs
 pair-below : (N n a i : ℕ) → a < N → i ≤ n → pair_at N a i < suc n * N
 pair-below N n a i l k = let m : i * N ≤ n * N = mul-le-mul_right N k in omega (arith, suc-mul n N)
 
 -- there are few of them
-pub pairs-few : (N n : ℕ) → N ≤ max_nonterminals → n ≤ max_tokens → suc n * N ≤ 4128
-pairs-few N n h k = let l : suc n ≤ suc max_tokens = omega arith in let m = mul-le-mul l h in omega arith
+pub pairs-few : {s : Size} → Small s → suc s.n * s.nonterminals ≤ 4128
+pairs-few {s} h = let l : suc s.n ≤ suc max_tokens = omega (arith, h.tokens) in let m = mul-le-mul l h.names in omega arith
 
-pub pair_small : (N n a i : ℕ) → a < N → i ≤ n → N ≤ max_nonterminals → n ≤ max_tokens → pair_at N a i < 4128
-pair_small N n a i l k h m = omega (arith, pair-below N n a i l k, pairs-few N n h m)
+pub pair_small : {s : Size} {p : Pair} → PairOf s p → pair_at s.nonterminals p.nonterminal p.position < 4128
+pair_small {s} {p} h = omega (arith, pair-below s.nonterminals s.n p.nonterminal p.position h.nonterminal h.position, pairs-few h.small)
 
 -- every pair has a number of its own
 pub pairs-differ : (N a i b j : ℕ) → a < N → b < N → pair_at N b j ≡ pair_at N a i → (b ≡ a) × (j ≡ i)
@@ -55,11 +58,13 @@ module _ (N n a i : ℕ) (l : a < N) (k : i ≤ n) where
 pub tags-below : (N n : ℕ) → suc n * suc N ≤ waits_at N n
 tags-below N n = omega arith
 
-pub tag-inside : (N n a i : ℕ) → a < N → i ≤ n → tag_at N n a i < search_words N n
-tag-inside N n a i l k = omega (arith, pair-below N n a i l k)
+pub tag-inside : {s : Size} {p : Pair} → PairOf s p
+    → tag_at s.nonterminals s.n p.nonterminal p.position < search_words s.nonterminals s.n
+tag-inside {s} {p} h = omega (arith, pair-below s.nonterminals s.n p.nonterminal p.position h.nonterminal h.position)
 
-pub set-in : (N n a i : ℕ) → a < N → i ≤ n → pair_set N n a i + set_words ≤ search_words N n
-set-in N n a i l k = omega (arith, pair-below N n a i l k)
+pub set-in : {s : Size} {p : Pair} → PairOf s p
+    → pair_set s.nonterminals s.n p.nonterminal p.position + set_words ≤ search_words s.nonterminals s.n
+set-in {s} {p} h = omega (arith, pair-below s.nonterminals s.n p.nonterminal p.position h.nonterminal h.position)
 
 pub waits_end : (N n : ℕ) → waits_at N n ≤ search_words N n
 waits_end N n = omega arith

@@ -1,11 +1,9 @@
 // The ends of a pair, added one by one, alternative by alternative.
-ghost use Rattle.std.specs.Prelude.{◌≡◌, cond, ◌≤◌, ◌<◌, length};
-ghost use Rattle.derivation.specs.Runs.{marked};
-ghost use Rattle.first_follow.specs.inside.Words.{masks_in};
-ghost use Rattle.filtering.specs.inside.Beginnings.{token_at};
+ghost use Rattle.std.specs.Prelude.{◌≡◌, ◌≤◌, ◌<◌, length};
 ghost use Rattle.filtering.specs.inside.Tags.{add, no_end};
-ghost use Rattle.search.specs.inside.Trials.{told_by, EndsFit, MayAdd, AddedAll};
+ghost use Rattle.search.specs.inside.Trials.{told_by, EndsFit, Adds, AddedBy, AddedAllBy};
 
+use crate::given::Search;
 use crate::words::Tag;
 use positions::Positions;
 
@@ -56,30 +54,29 @@ fn add(ends: Ends, k: usize, j: usize) -> Ends
     }
 }
 
-// The same if the token at j may follow a.
-pub fn add_allowed(masks: &[u32], note: &[u16], ends: Ends, a: usize, k: usize, j: usize) -> Ends
-    requires { MayAdd masks.now note.now ends a k × (j ≤ length note.now) }
-    ensures { (told_by result ≡ cond ((masks_in masks.now).follows (token_at (marked note.now) j) a) (add (told_by ends) k j) (told_by ends))
-        × EndsFit result }
-{
-    let t = derivation::token_at(note, j);
-    if !first_follow::follows(masks, t, a) {
-        return ends;
+impl<'a> Search<'a> {
+    // The same if the token at j may follow a.
+    pub fn add_allowed(self, ends: Ends, a: usize, k: usize, j: usize) -> Ends
+        requires { Adds self ends a k × (j ≤ length self.note.now) }
+        ensures { AddedBy self.entry ends a k j result × EndsFit result }
+    {
+        let t = derivation::token_at(self.note, j);
+        if !first_follow::follows(self.masks, t, a) {
+            return ends;
+        }
+        add(ends, k, j)
     }
-    add(ends, k, j)
-}
 
-// The same of every member of a set, in rising order.
-pub fn add_all(masks: &[u32], note: &[u16], ends: Ends, a: usize, k: usize, from: Positions) -> Ends
-    requires { MayAdd masks.now note.now ends a k }
-    ensures { AddedAll masks.now note.now a k from.words ends result × EndsFit result }
-{
-    let n = note.len();
-    let mut r = ends;
-    let mut m = positions::next(from, 0);
-    while m <= n {
-        r = add_allowed(masks, note, r, a, k, m);
-        m = positions::next(from, m + 1);
+    // The same of every member of a set, in rising order.
+    pub fn add_all(self, ends: Ends, a: usize, k: usize, from: Positions) -> Ends
+        requires { Adds self ends a k }
+        ensures { AddedAllBy self.entry ends a k from.words result × EndsFit result }
+    {
+        let n = self.note.len();
+        let mut r = ends;
+        for m in from.members(0, n) {
+            r = self.add_allowed(r, a, k, m);
+        }
+        r
     }
-    r
 }

@@ -4,6 +4,8 @@
 #![tactic(auto)]
 
 mod adding;
+mod given;
+mod meter;
 mod replies;
 mod settling;
 mod trying;
@@ -11,8 +13,9 @@ mod walking;
 mod ways;
 mod words;
 
-pub use replies::{Reply, known};
-pub use settling::settle;
-pub use walking::{Passage, Walked, walk};
-pub use ways::{Way, along};
-pub use words::{Meter, Size, Tag, clear, fits, is_done, set_of, size_of, tag_of};
+pub use given::Search;
+pub use meter::{Exhausted, Meter};
+pub use replies::Reply;
+pub use walking::Halt;
+pub use ways::Way;
+pub use words::{Pair, Size, Tag, fits, is_done, size_of};

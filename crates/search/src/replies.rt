@@ -2,12 +2,13 @@
 ghost use Rattle.std.specs.Prelude.{◌≡◌, List, ℕ};
 ghost use Rattle.filtering.specs.inside.Known.{told};
 ghost use Rattle.search.specs.inside.Words.{tag_of};
-ghost use Rattle.search.specs.inside.Searching.{reply_in, MayAsk, KnownIs};
+ghost use Rattle.search.specs.inside.Searching.{reply_in, Asks, KnownBy};
 
-use crate::words::{Size, Tag};
+use crate::given::Search;
+use crate::words::{Pair, Tag};
 
 // The ends of a pair, as far as they are known: not worked out; none; a single one; those of the set that stands for it.
-#[derive(Clone, Copy)]
+#[derive(Clone, Copy, Debug, PartialEq, Eq)]
 pub enum Reply {
     Unknown,
     Nowhere,
@@ -26,29 +27,22 @@ fn told(tag: Tag) -> Reply
     }
 }
 
-// Where the productions of a that begin at i end. Where the token there is none that a starts with, a derives the empty row or nothing.
-pub fn known(
-    tables: &[u16],
-    masks: &[u32],
-    note: &[u16],
-    ws: &[u32],
-    size: Size,
-    a: usize,
-    i: usize,
-) -> Reply
-    requires { MayAsk tables.now note.now masks.now ws.now size a i }
-    ensures { KnownIs tables.now note.now masks.now ws.now a i result }
-{
-    let t = derivation::token_at(note, i);
-    if !first_follow::starts(masks, t, a) {
-        if first_follow::empty(masks, t, a) {
-            return Reply::Only(i);
+impl<'a> Search<'a> {
+    // Where the productions of a pair end. Where the token there is none that its nonterminal starts with, that derives the empty row or nothing.
+    pub fn known(self, ws: &[u32], pair: Pair) -> Reply
+        requires { Asks self ws.now pair }
+        ensures { KnownBy self.entry ws.now pair result }
+    {
+        let t = derivation::token_at(self.note, pair.position);
+        if !first_follow::starts(self.masks, t, pair.nonterminal) {
+            if first_follow::empty(self.masks, t, pair.nonterminal) {
+                return Reply::Only(pair.position);
+            }
+            return Reply::Nowhere;
         }
-        return Reply::Nowhere;
+        if !crate::words::is_done(ws, pair) {
+            return Reply::Unknown;
+        }
+        told(self.size.tag_of(ws, pair))
     }
-    if !crate::words::is_done(ws, a, i) {
-        return Reply::Unknown;
-    }
-    let tag = crate::words::tag_of(ws, size, a, i);
-    told(tag)
 }

@@ -1,198 +1,109 @@
 // The same from a set of positions, where a pair has several ends: from each of them, symbol by symbol.
-ghost use Rattle.std.specs.Prelude.{◌≡◌, max};
+ghost use Rattle.std.specs.Prelude.{◌≡◌};
 ghost use Rattle.grammar.specs.declared.Symbol.TheVariants.{Token, Nonterminal};
-ghost use Rattle.search.specs.inside.Walks.{MayWalk, MayPass, Passed, DidWalk};
+ghost use Rattle.search.specs.declared.walking.Halt.TheVariants.{Out};
+ghost use Rattle.search.specs.inside.Walks.{WalksFrom, Passes, PassedBy, WalkedBy};
 
+use crate::given::Search;
+use crate::meter::{Exhausted, Meter};
 use crate::replies::Reply;
-use crate::words::{Meter, Size};
+use crate::words::Pair;
 use grammar::Symbol;
 use positions::Positions;
 
-// Where the positions lead: to others; a pair is not worked out; the budget is out.
-#[derive(Clone, Copy)]
-pub enum Walked {
-    To,
-    Needs(usize, usize),
+// Why it stops: a pair is needed that is not worked out, or the budget is out.
+#[derive(Clone, Copy, Debug, PartialEq, Eq)]
+pub enum Halt {
+    Needs(Pair),
     Out,
 }
 
-// The same with the others, which say nothing in the other two cases.
-#[derive(Clone, Copy)]
-pub struct Passage {
-    pub walked: Walked,
-    pub to: Positions,
-    pub meter: Meter,
+impl From<Exhausted> for Halt {
+    ghost from_gives = { λ _ e. e ≡ Out };
+
+    fn from(_e: Exhausted) -> Halt {
+        Halt::Out
+    }
 }
 
 // What a member costs.
 const MEMBER: usize = 4;
 
-// The farther of two positions.
-pub fn farther(high: usize, j: usize) -> usize
-    ensures { result ≡ max high j }
-{
-    if high < j { j } else { high }
-}
+impl<'a> Search<'a> {
+    // Over token k, which place p faces.
+    fn over_token(
+        self,
+        ws: &[u32],
+        p: usize,
+        from: Positions,
+        k: usize,
+        meter: &mut Meter,
+    ) -> Result<Positions, Halt>
+        requires { Passes self ws.now p from.words (Token k) }
+        ensures { PassedBy self.entry ws.now p from.words meter.old meter.new result }
+    {
+        let n = self.note.len();
+        let mut to = Positions::empty();
+        for m in from.members(0, n) {
+            meter.pay(MEMBER)?;
+            if cells::matches(self.tables, self.note, k, m) {
+                to = to.with(m + 1);
+                meter.reach(m + 1);
+            }
+        }
+        Ok(to)
+    }
 
-// Over token k, which place p faces.
-fn over_token(
-    tables: &[u16],
-    masks: &[u32],
-    note: &[u16],
-    ws: &[u32],
-    size: Size,
-    p: usize,
-    from: Positions,
-    k: usize,
-    meter: Meter,
-) -> Passage
-    requires { MayPass tables.now note.now masks.now ws.now size p from.words (Token k) }
-    ensures { Passed tables.now note.now masks.now ws.now p from.words meter result }
-{
-    let n = note.len();
-    let mut to = Positions::empty();
-    let mut left = meter.left;
-    let mut high = meter.high;
-    let mut m = positions::next(from, 0);
-    while m <= n {
-        let here = m;
-        m = positions::next(from, m + 1);
-        if left < MEMBER {
-            return Passage {
-                walked: Walked::Out,
-                to,
-                meter: Meter { left, high },
+    // Over nonterminal b, which place p faces.
+    fn over_call(
+        self,
+        ws: &[u32],
+        p: usize,
+        from: Positions,
+        b: usize,
+        meter: &mut Meter,
+    ) -> Result<Positions, Halt>
+        requires { Passes self ws.now p from.words (Nonterminal b) }
+        ensures { PassedBy self.entry ws.now p from.words meter.old meter.new result }
+    {
+        let n = self.note.len();
+        let mut to = Positions::empty();
+        for m in from.members(0, n) {
+            meter.pay(MEMBER)?;
+            let pair = Pair {
+                nonterminal: b,
+                position: m,
             };
+            match self.known(ws, pair) {
+                Reply::Unknown => return Err(Halt::Needs(pair)),
+                Reply::Nowhere => {}
+                Reply::Only(j) => to = to.with(j),
+                Reply::Several => to = to.union(self.size.set_of(ws, pair)),
+            }
         }
-        left -= MEMBER;
-        if cells::matches(tables, note, k, here) {
-            to = to.with(here + 1);
-            high = farther(high, here + 1);
-        }
+        Ok(to)
     }
-    Passage {
-        walked: Walked::To,
-        to,
-        meter: Meter { left, high },
-    }
-}
 
-// Over nonterminal b, which place p faces.
-fn over_call(
-    tables: &[u16],
-    masks: &[u32],
-    note: &[u16],
-    ws: &[u32],
-    size: Size,
-    p: usize,
-    from: Positions,
-    b: usize,
-    meter: Meter,
-) -> Passage
-    requires { MayPass tables.now note.now masks.now ws.now size p from.words (Nonterminal b) }
-    ensures { Passed tables.now note.now masks.now ws.now p from.words meter result }
-{
-    let n = note.len();
-    let mut to = Positions::empty();
-    let mut left = meter.left;
-    let mut m = positions::next(from, 0);
-    while m <= n {
-        let here = m;
-        m = positions::next(from, m + 1);
-        if left < MEMBER {
-            return Passage {
-                walked: Walked::Out,
-                to,
-                meter: Meter {
-                    left,
-                    high: meter.high,
-                },
-            };
-        }
-        left -= MEMBER;
-        let reply = crate::replies::known(tables, masks, note, ws, size, b, here);
-        match reply {
-            Reply::Unknown => {
-                return Passage {
-                    walked: Walked::Needs(b, here),
-                    to,
-                    meter: Meter {
-                        left,
-                        high: meter.high,
-                    },
-                };
-            }
-            Reply::Nowhere => {}
-            Reply::Only(j) => {
-                to = to.with(j);
-            }
-            Reply::Several => {
-                let ends = crate::words::set_of(ws, size, b, here);
-                to = to.union(ends);
-            }
-        }
-    }
-    Passage {
-        walked: Walked::To,
-        to,
-        meter: Meter {
-            left,
-            high: meter.high,
-        },
-    }
-}
-
-// From place f on, from each of the positions: where its production ends.
-pub fn walk(
-    tables: &[u16],
-    masks: &[u32],
-    note: &[u16],
-    ws: &[u32],
-    size: Size,
-    f: usize,
-    from: Positions,
-    meter: Meter,
-) -> Passage
-    requires { MayWalk tables.now note.now masks.now ws.now size f from.words }
-    ensures { DidWalk tables.now note.now masks.now ws.now f from.words meter result }
-{
-    let mut p = f;
-    let mut x = from;
-    let mut at = meter;
-    loop {
-        let place = grammar::place_at(tables, p);
-        let symbol = place.symbol;
-        let q = p;
-        p += 1;
-        match symbol {
-            Symbol::End => {
-                return Passage {
-                    walked: Walked::To,
-                    to: x,
-                    meter: at,
-                };
-            }
-            Symbol::Token(k) => {
-                let step = over_token(tables, masks, note, ws, size, q, x, k, at);
-                x = step.to;
-                at = step.meter;
-                let walked = step.walked;
-                match walked {
-                    Walked::To => {}
-                    Walked::Needs(_, _) => return step,
-                    Walked::Out => return step,
-                }
-            }
-            Symbol::Nonterminal(b) => {
-                let step = over_call(tables, masks, note, ws, size, q, x, b, at);
-                x = step.to;
-                at = step.meter;
-                let walked = step.walked;
-                match walked {
-                    Walked::To => {}
-                    Walked::Needs(_, _) => return step,
-                    Walked::Out => return step,
-                }
+    // From place f on, from each of the positions: where its production ends.
+    pub fn walk(
+        self,
+        ws: &[u32],
+        f: usize,
+        from: Positions,
+        meter: &mut Meter,
+    ) -> Result<Positions, Halt>
+        requires { WalksFrom self ws.now f from.words }
+        ensures { WalkedBy self.entry ws.now f from.words meter.old meter.new result }
+    {
+        let mut x = from;
+        let mut p = f;
+        loop {
+            let q = p;
+            p += 1;
+            match grammar::place_at(self.tables, q).symbol {
+                Symbol::End => return Ok(x),
+                Symbol::Token(k) => x = self.over_token(ws, q, x, k, meter)?,
+                Symbol::Nonterminal(b) => x = self.over_call(ws, q, x, b, meter)?,
             }
         }
     }

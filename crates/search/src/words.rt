@@ -8,25 +8,26 @@ ghost use Rattle.grammar.specs.inside.Tables.{grammar_in, nonterminals_in, table
 ghost use Rattle.positions.specs.inside.Positions.{set_words};
 ghost use Rattle.positions.specs.inside.Words.{set_at};
 ghost use Rattle.filtering.specs.inside.Settling.{Stored};
-ghost use Rattle.search.specs.inside.Words.{pair_at, tag_at, pair_set, waits_at, pair_count, search_words, per_alternative, second_bit, tag_from};
+ghost use Rattle.search.specs.inside.Words.{pair_at, tag_at, pair_set, waits_at, pair_count, per_alternative, second_bit, tag_from};
 ghost use Rattle.search.specs.inside.Words.{TagFits, tag_of};
 ghost use Rattle.search.specs.inside.Words.{done_in, state_in, Kept};
+ghost use Rattle.search.specs.inside.Places.{Small, PairOf, Placed, Room, pair_in};
 ghost use Rattle.search.specs.inside.Searching.{Sized};
 
 use positions::Positions;
 
-// What is looked up on the way: the note's length, and how many nonterminals there are.
+// What places in the words depend on: the note's length, and how many nonterminals there are.
 #[derive(Clone, Copy)]
 pub struct Size {
     pub n: usize,
     pub nonterminals: usize,
 }
 
-// What the search may still cost, and how far into the note it came.
-#[derive(Clone, Copy)]
-pub struct Meter {
-    pub left: usize,
-    pub high: usize,
+// A nonterminal, and the position of the note at which its productions begin.
+#[derive(Clone, Copy, Debug, PartialEq, Eq)]
+pub struct Pair {
+    pub nonterminal: usize,
+    pub position: usize,
 }
 
 // What is known of the ends of a pair: there is none; a single one, with the lowest alternative that gives it, and whether another one does too; several.
@@ -62,57 +63,12 @@ pub fn fits(tables: &[u16]) -> bool
     7 * grammar::nonterminals(tables) + 1 <= positions::WORDS * grammar::size(tables)
 }
 
-// No pair is worked out.
-pub fn clear(ws: &mut [u32], size: Size)
-    requires { size.n < length ws.old }
-    ensures { Kept (suc size.n) ws.old ws.new
-        × ((a i : ℕ) → done_in size.nonterminals size.n ws.new a i ≡ false) }
+// Whether a pair is worked out.
+pub fn is_done(ws: &[u32], pair: Pair) -> bool
+    requires { (pair.position < length ws.now) × (pair.nonterminal < max_nonterminals) }
+    ensures { result ≡ test_bit (get_or ws.now pair.position 0) pair.nonterminal }
 {
-    let mut i = 0;
-    while i <= size.n {
-        ws[i] = 0;
-        i += 1;
-    }
-}
-
-// The number of a pair.
-fn pair(size: Size, a: usize, i: usize) -> usize
-    requires { (a < size.nonterminals) × (i ≤ size.n) × (size.nonterminals ≤ max_nonterminals) × (size.n ≤ 128) }
-    ensures { result ≡ pair_at size.nonterminals a i }
-{
-    i * size.nonterminals + a
-}
-
-// Where its tag stands.
-fn tag_at(size: Size, a: usize, i: usize) -> usize
-    requires { (a < size.nonterminals) × (i ≤ size.n) × (size.nonterminals ≤ max_nonterminals) × (size.n ≤ 128) }
-    ensures { result ≡ tag_at size.nonterminals size.n a i }
-{
-    size.n + 1 + pair(size, a, i)
-}
-
-// Where its set stands.
-fn set_at(size: Size, a: usize, i: usize) -> usize
-    requires { (a < size.nonterminals) × (i ≤ size.n) × (size.nonterminals ≤ max_nonterminals) × (size.n ≤ 128) }
-    ensures { result ≡ pair_set size.nonterminals size.n a i }
-{
-    (size.n + 1) * (size.nonterminals + 1) + positions::WORDS * pair(size, a, i)
-}
-
-// Where the pairs that wait begin.
-fn waits_at(size: Size) -> usize
-    requires { (size.nonterminals ≤ max_nonterminals) × (size.n ≤ 128) }
-    ensures { result ≡ waits_at size.nonterminals size.n }
-{
-    (size.n + 1) * (6 * size.nonterminals + 1)
-}
-
-// Whether pair (a, i) is worked out.
-pub fn is_done(ws: &[u32], a: usize, i: usize) -> bool
-    requires { (i < length ws.now) × (a < max_nonterminals) }
-    ensures { result ≡ test_bit (get_or ws.now i 0) a }
-{
-    base::has(ws[i], a)
+    base::has(ws[pair.position], pair.nonterminal)
 }
 
 // The tag of a word.
@@ -148,55 +104,96 @@ fn tag_word(tag: Tag) -> u32
     }
 }
 
-// The tag that stands for pair (a, i).
-pub fn tag_of(ws: &[u32], size: Size, a: usize, i: usize) -> Tag
-    requires { (a < size.nonterminals) × (i ≤ size.n) × (size.nonterminals ≤ max_nonterminals) × (size.n ≤ 128)
-        × (search_words size.nonterminals size.n ≤ length ws.now) }
-    ensures { result ≡ tag_from (get_or ws.now (tag_at size.nonterminals size.n a i) 0) }
-{
-    tag_in(ws[tag_at(size, a, i)])
-}
-
-// The set that stands for it.
-pub fn set_of(ws: &[u32], size: Size, a: usize, i: usize) -> Positions
-    requires { (a < size.nonterminals) × (i ≤ size.n) × (size.nonterminals ≤ max_nonterminals) × (size.n ≤ 128)
-        × (search_words size.nonterminals size.n ≤ length ws.now) }
-    ensures { result.words ≡ set_at ws.now (pair_set size.nonterminals size.n a i) }
-{
-    positions::read(ws, set_at(size, a, i))
-}
-
-// Pair (a, i) is worked out: its tag, and its set if there are several ends.
-pub fn store(ws: &mut [u32], size: Size, a: usize, i: usize, tag: Tag, ends: Positions)
-    requires { (a < size.nonterminals) × (i ≤ size.n) × (size.nonterminals ≤ max_nonterminals) × (size.n ≤ 128)
-        × (search_words size.nonterminals size.n ≤ length ws.old) × TagFits tag }
-    ensures { Kept (waits_at size.nonterminals size.n) ws.old ws.new
-        × Stored (state_in size.nonterminals size.n ws.old) a i (tag_of tag ends.words)
-        (state_in size.nonterminals size.n ws.new) }
-{
-    ws[tag_at(size, a, i)] = tag_word(tag);
-    ws[i] = base::with(ws[i], a);
-    match tag {
-        Tag::None => {}
-        Tag::One(_, _, _) => {}
-        Tag::Several => positions::put(ws, set_at(size, a, i), ends),
+impl Size {
+    // No pair is worked out.
+    pub fn clear(self, ws: &mut [u32])
+        requires { self.n < length ws.old }
+        ensures { Kept (suc self.n) ws.old ws.new × ((a i : ℕ) → done_in self.nonterminals self.n ws.new a i ≡ false) }
+    {
+        ws[..=self.n].fill(0);
     }
-}
 
-// Pair (a, i) waits as the k-th.
-pub fn put_wait(ws: &mut [u32], size: Size, k: usize, a: usize, i: usize)
-    requires { (a < size.nonterminals) × (i ≤ size.n) × (size.nonterminals ≤ max_nonterminals) × (size.n ≤ 128)
-        × (k < pair_count size.nonterminals size.n) × (search_words size.nonterminals size.n ≤ length ws.old) }
-    ensures { ws.new ≡ set ws.old (waits_at size.nonterminals size.n + k) (i * per_alternative + a) }
-{
-    ws[waits_at(size) + k] = base::word(i * ALTERNATIVES + a);
-}
+    // The number of a pair.
+    fn number(self, pair: Pair) -> usize
+        requires { PairOf self pair }
+        ensures { result ≡ pair_at self.nonterminals pair.nonterminal pair.position }
+    {
+        pair.position * self.nonterminals + pair.nonterminal
+    }
 
-// The k-th pair that waits, as one number.
-pub fn wait_of(ws: &[u32], size: Size, k: usize) -> usize
-    requires { (size.nonterminals ≤ max_nonterminals) × (size.n ≤ 128) × (k < pair_count size.nonterminals size.n)
-        × (search_words size.nonterminals size.n ≤ length ws.now) }
-    ensures { result ≡ get_or ws.now (waits_at size.nonterminals size.n + k) 0 }
-{
-    base::number(ws[waits_at(size) + k])
+    // Where its tag stands.
+    fn tag_at(self, pair: Pair) -> usize
+        requires { PairOf self pair }
+        ensures { result ≡ tag_at self.nonterminals self.n pair.nonterminal pair.position }
+    {
+        self.n + 1 + self.number(pair)
+    }
+
+    // Where its set stands.
+    fn set_at(self, pair: Pair) -> usize
+        requires { PairOf self pair }
+        ensures { result ≡ pair_set self.nonterminals self.n pair.nonterminal pair.position }
+    {
+        (self.n + 1) * (self.nonterminals + 1) + positions::WORDS * self.number(pair)
+    }
+
+    // Where the pairs that wait begin.
+    fn waits_at(self) -> usize
+        requires { Small self }
+        ensures { result ≡ waits_at self.nonterminals self.n }
+    {
+        (self.n + 1) * (6 * self.nonterminals + 1)
+    }
+
+    // The tag that stands for a pair.
+    pub fn tag_of(self, ws: &[u32], pair: Pair) -> Tag
+        requires { Placed self pair ws.now }
+        ensures { result ≡ tag_from (get_or ws.now (tag_at self.nonterminals self.n pair.nonterminal pair.position) 0) }
+    {
+        tag_in(ws[self.tag_at(pair)])
+    }
+
+    // The set that stands for it.
+    pub fn set_of(self, ws: &[u32], pair: Pair) -> Positions
+        requires { Placed self pair ws.now }
+        ensures { result.words ≡ set_at ws.now (pair_set self.nonterminals self.n pair.nonterminal pair.position) }
+    {
+        positions::read(ws, self.set_at(pair))
+    }
+
+    // A pair is worked out: its tag, and its set if there are several ends.
+    pub fn store(self, ws: &mut [u32], pair: Pair, tag: Tag, ends: Positions)
+        requires { Placed self pair ws.old × TagFits tag }
+        ensures { Kept (waits_at self.nonterminals self.n) ws.old ws.new
+            × Stored (state_in self.nonterminals self.n ws.old) pair.nonterminal pair.position (tag_of tag ends.words)
+            (state_in self.nonterminals self.n ws.new) }
+    {
+        ws[self.tag_at(pair)] = tag_word(tag);
+        ws[pair.position] = base::with(ws[pair.position], pair.nonterminal);
+        match tag {
+            Tag::None => {}
+            Tag::One(_, _, _) => {}
+            Tag::Several => positions::put(ws, self.set_at(pair), ends),
+        }
+    }
+
+    // A pair waits as the k-th.
+    pub fn put_wait(self, ws: &mut [u32], k: usize, pair: Pair)
+        requires { Placed self pair ws.old × (k < pair_count self.nonterminals self.n) }
+        ensures { ws.new ≡ set ws.old (waits_at self.nonterminals self.n + k) (pair.position * per_alternative + pair.nonterminal) }
+    {
+        ws[self.waits_at() + k] = base::word(pair.position * ALTERNATIVES + pair.nonterminal);
+    }
+
+    // The k-th pair that waits.
+    pub fn wait_of(self, ws: &[u32], k: usize) -> Pair
+        requires { Small self × Room self ws.now × (k < pair_count self.nonterminals self.n) }
+        ensures { result ≡ pair_in (get_or ws.now (waits_at self.nonterminals self.n + k) 0) }
+    {
+        let w = base::number(ws[self.waits_at() + k]);
+        Pair {
+            nonterminal: w % ALTERNATIVES,
+            position: w / ALTERNATIVES,
+        }
+    }
 }

@@ -5,10 +5,10 @@ use mathlib.Core.Bool.{Bool, true, false}
 use mathlib.Core.List.{List}
 use Prim.Native.Nat.{ℕ, suc, ◌+◌, ◌-◌, ◌≤◌, ◌<◌, min}
 use native.Mathlib.Omega.{arith}
-use lib.Dec.{eqb}
+use lib.Dec.{T, eqb}
+use Rattle.std.specs.Prelude.{Result}
 use lib.ListN.{length}
 use Rattle.base.proofs.Booleans.{clash}
-use Rattle.grammar.specs.Limits.{max_nonterminals}
 use Rattle.grammar.specs.Grammar.{Grammar}
 use Rattle.grammar.specs.inside.Tables.{grammar_in}
 use Rattle.positions.specs.inside.Positions.{member}
@@ -26,11 +26,13 @@ use Rattle.filtering.proofs.KnownLaws.{known-right}
 use Rattle.filtering.proofs.SentenceLaws.{sentence-told}
 use Rattle.filtering.proofs.WrongLaws.{place-right}
 use Rattle.machine.proofs.WaitLaws.{some-named}
-use Rattle.search.specs.inside.Words.{pair_set, search_words}
+use Rattle.search.specs.inside.Words.{pair_set}
+use Rattle.search.specs.inside.Places.{Placed}
 use Rattle.search.specs.inside.Searching.{Searching, Sized, Roomy, MayAsk, KnownIs, state_of, set_of, reply_in}
 use Rattle.search.specs.inside.Trials.{CameSoFar, Settled}
 use Rattle.search.specs.declared.words.Size.{Size}
-use Rattle.search.specs.declared.words.Meter.{Meter}
+use Rattle.search.specs.declared.meter.Meter.{Meter}
+use Rattle.search.specs.declared.meter.Exhausted.{Exhausted}
 use Rattle.search.specs.declared.replies.Reply.{Reply}
 use Rattle.search.specs.declared.replies.Reply.TheVariants.{Unknown, Nowhere, Only, Several}
 use Rattle.serving.specs.inside.Aids.{budget_in, high_in, tally_of, Fits, Stage, Begun}
@@ -85,28 +87,36 @@ module _ {t w ms tally ws : List ℕ} {s : Size} (x : MayStart t w ms tally ws s
       }
 
   -- it is now, or the budget is out
-  pub started-now : {m r : Meter} {after tally' : List ℕ} → (m.left ≡ budget_in tally - 1) × (m.high ≡ high_in tally) → Settled t w ms ws after 0 0 m r
-      → tally' ≡ tally_of (suc r.left) (min r.high (length w + 1)) → Started t w ms tally ws tally' after
-  started-now {m} {r} {after} {tally'} q y e = rw (e, came-kept w far.came) whole
+  pub started-now : {m r last : Meter} {z : Result (Unit {0}) Exhausted} {after tally' : List ℕ} → (m.left ≡ budget_in tally - 1) × (m.high ≡ high_in tally)
+      → Settled t w ms ws after 0 0 m r z → last.left ≤ r.left → last.high ≡ r.high → (0 < last.left → T ((state_of t w after).done 0 0))
+      → tally' ≡ tally_of (suc last.left) (min last.high (length w + 1)) → Started t w ms tally ws tally' after
+  started-now {m} {r} {last} {z} {after} {tally'} q y fewer same done e = rw (e, came-kept w far.came) whole
     where
-      far : CameSoFar t w ms after r.high
-      far = y.far begins (rw q.1 x.far)
+      far : CameSoFar t w ms after last.high
+      far = rw same (y.far begins (rw q.1 x.far))
 
-      whole : Started t w ms tally ws (tally_of (suc r.left) r.high) after
+      whole : Started t w ms tally ws (tally_of (suc last.left) last.high) after
       whole = record {
         tallied = record { long = refl; few = omega (arith, x.budget, x.tallied.few, y.spent, q.0) };
         begun = λ z. omega arith;
         long = y.kept.long;
         searching = record { given = x.searching.given; room = omega (arith, x.searching.room, y.kept.long); holds = y.holds };
-        asked = λ l. inl (y.done (omega arith));
+        asked = λ l. inl (done (omega arith));
         far = λ _. far;
       }
 
 -- ---- whether the note's end is among the ends of a reply
 -- the set of the start symbol's ends may be read
 pub start-set : {t w : List ℕ} (ws : List ℕ) {s : Size} → Ready t → Sized t w s → Roomy t w ws → length w ≤ max_tokens
-    → (0 < s.nonterminals) × (0 ≤ s.n) × (s.nonterminals ≤ max_nonterminals) × (s.n ≤ 128) × (search_words s.nonterminals s.n ≤ length ws)
-start-set {t} ws h z r l = rw (z.names, z.tokens) (some-named t h, omega arith, h.fits.few, l, r)
+    → Placed s (record { nonterminal = 0; position = 0 }) ws
+start-set {t} ws h z r l = record {
+  pair = record {
+    small = record { names = rw z.names h.fits.few; tokens = rw z.tokens l };
+    nonterminal = rw z.names (some-named t h);
+    position = omega arith;
+  };
+  room = rw (z.names, z.tokens) r;
+}
 
 module _ {t w : List ℕ} (ws : List ℕ) {s : Size} (z : Sized t w s) {r : Reply} where
   pub only-ends : {m : ℕ} → r ≡ Only m → eqb s.n m ≡ tells_end t w ws r

@@ -15,3 +15,4 @@ pub mod AidLaws
 pub mod JudgeLaws
 pub mod PickLaws
 pub mod PickStarts
+pub mod RunLaws

@@ -12,18 +12,19 @@ use Rattle.derivation.specs.inside.Frames.{frame_words, returns_of}
 use Rattle.derivation.proofs.FrameWords.{returns-same}
 use Rattle.cells.proofs.Spots.{lent-kept}
 use Rattle.machine.specs.inside.Frames.{EveryFrame, FramesBelow}
-use Rattle.machine.specs.inside.Choice.{or_zero}
+use Rattle.machine.specs.inside.Choice.{or_zero, Numbered}
 use Rattle.machine.specs.inside.Space.{ground, opened}
 use Rattle.machine.specs.declared.steps.At.{At}
 use Rattle.machine.specs.declared.steps.Space.{Space}
 use Rattle.machine.proofs.GoodLaws.{good-fewer}
+use Rattle.machine.proofs.LowestLaws.{numbered-map}
 use Rattle.machine.proofs.PushLaws.{put-below}
 use Rattle.machine.proofs.WaitLaws.{waits-fewer, waits-small, waits-named, waits-position}
 use Rattle.search.specs.inside.Words.{search_words, Kept}
 use Rattle.search.specs.inside.Searching.{Searching, Sized, Holds, Pair, MayAsk}
 use Rattle.search.specs.inside.Trials.{CameSoFar}
 use Rattle.search.specs.declared.words.Size.{Size}
-use Rattle.search.specs.declared.words.Meter.{Meter}
+use Rattle.search.specs.declared.meter.Meter.{Meter}
 use Rattle.opening.specs.inside.Marks.{Marks}
 use Rattle.opening.specs.inside.Choice.{MayChoose, Chosen}
 use Rattle.opening.specs.declared.choice.Found as search
@@ -231,16 +232,17 @@ module _ (t w : List ℕ) {ms tally ws : List ℕ} {s : Space} {known : ℕ} {at
           left : 0 < r.meter.left
           left = omega arith
 
-          searched : Served t w ms tally ws ms tally' us at.depth at.place a at.position r.known r.alternative
-          searched =
+          searched : (b : ℕ) → b ≡ or_zero (lowest (grammar_in t) (marked w) (returns_of mid (ground t w) (suc at.depth)) a at.position)
+              → Served t w ms tally ws ms tally' us at.depth at.place a at.position r.known b
+          searched b e =
               rw t'
               (record {
-                chosen = gone.chosen left ∙ ap (λ (S : List ℕ). or_zero (lowest (grammar_in t) (marked w) S a at.position)) pushed-returns;
+                chosen = e ∙ ap (λ (S : List ℕ). or_zero (lowest (grammar_in t) (marked w) S a at.position)) pushed-returns;
                 tallied = record { long = refl; few = omega (arith, gone-less from) };
                 begun = λ z. omega arith;
                 stage = Stage.search (omega arith) (stage-search l x.stage).0 (searching-on pushed-searching gone.kept.long gone.kept.holds)
                     (gone.marks left);
-                entering = entered (SetsStand (tally_of (suc r.meter.left) (min r.meter.high (length w + 1))) r.known) r.alternative
+                entering = entered (SetsStand (tally_of (suc r.meter.left) (min r.meter.high (length w + 1))) r.known) b
                     (λ k u. omega (arith, u.0)) gone.kept.long (gone_same (suc at.depth));
               })
 
@@ -249,9 +251,11 @@ module _ (t w : List ℕ) {ms tally ws : List ℕ} {s : Space} {known : ℕ} {at
               gone.far left (λ b f c. rw pushed-returns (upright-reached t w ws x.upright b f c))
               (rw high (came_same t w ws mid (λ j u. put-below ws at.depth at.place x.spaced.base put j (omega (arith, behind))) (f l)))
 
-          pub search-served : ServedFar t w ms tally ws ms tally' us at.depth at.place a at.position r.known r.alternative
+          pub search-served : Numbered r.alternative (ServedFar t w ms tally ws ms tally' us at.depth at.place a at.position r.known)
           search-served =
-              record { served = searched; far = λ f k. rw (t', came-kept w (far f).came) (far f) }
+              numbered-map r.alternative
+              (λ b e. record { served = searched b e; far = λ f k. rw (t', came-kept w (far f).came) (far f) })
+              (gone.chosen left)
 
         -- none is: the cells answer
         pub out-waiting : Waiting t w us s 0 at a

@@ -6,6 +6,7 @@ use Prim.Native.Nat.{ℕ, suc, ◌+◌, ◌-◌, ◌*◌, ◌≤◌, ◌<◌, mi
 use native.Mathlib.Omega.{arith}
 use native.Mathlib.Decide.{dec_lt}
 use lib.ListN.{set}
+use Rattle.std.specs.Prelude.{Some}
 use Rattle.grammar.specs.inside.Tables.{grammar_in}
 use Rattle.derivation.specs.Runs.{marked}
 use Rattle.derivation.specs.Machine.{lowest}
@@ -15,7 +16,8 @@ use Rattle.cells.proofs.Spots.{lent-kept}
 use Rattle.machine.specs.inside.Space.{ground, opened}
 use Rattle.machine.specs.declared.steps.At.{At}
 use Rattle.machine.specs.declared.steps.Space.{Space}
-use Rattle.opening.specs.inside.Choice.{Taken}
+use Rattle.machine.proofs.LowestLaws.{numbered_some}
+use Rattle.opening.specs.inside.Choice.{Taken, LowestWhere}
 use Rattle.opening.specs.declared.choice.Pick.{Pick}
 use Rattle.serving.specs.inside.Serving.{Waiting, Found}
 use Rattle.serving.specs.inside.Aids.{tally_of, budget_in, Stage, SetsStand, Far, Tallied, MayBegin, Begun}
@@ -133,9 +135,11 @@ module _ (t w : List ℕ) {ms tally ws : List ℕ} {s : Space} {known : ℕ} {at
       search-taken h = served-from y.kept.long unchanged h.served
 
       -- it is: the return place becomes the topmost frame
-      pub told-taken : {after : List ℕ} {known' : ℕ} → ¬ (r.alternative ≡ 0) → after ≡ set us (s.base + frame_words * at.depth) at.place
-          → known' ≡ min known at.depth → Served t w ms tally ws ms tally' after at.depth at.place a at.position known' r.alternative
-      told-taken told put fewer =
-          let e : lowest (grammar_in t) (marked w) (opened t w ws at.depth at.place) a at.position ≡ some r.alternative
-          = y.taken (opened t w ws at.depth at.place) (upright-open t w ws x.serve.upright) (x.serves l).0 (x.serves l).1 told in
-          served-from y.kept.long unchanged (told-served t w taking more put fewer r.alternative (rw (unchanged, e) refl))
+      pub told-taken : {b : ℕ} → r.alternative ≡ Some b → {after : List ℕ} {known' : ℕ}
+          → after ≡ set us (s.base + frame_words * at.depth) at.place → known' ≡ min known at.depth
+          → ¬ (b ≡ 0) × Served t w ms tally ws ms tally' after at.depth at.place a at.position known' b
+      told-taken {b} told put fewer =
+          let (named, taken) = numbered_some (LowestWhere t w a at.position) y.taken told in
+          let e : lowest (grammar_in t) (marked w) (opened t w ws at.depth at.place) a at.position ≡ some b
+          = taken (opened t w ws at.depth at.place) (upright-open t w ws x.serve.upright) (x.serves l).0 (x.serves l).1 named in
+          (named, served-from y.kept.long unchanged (told-served t w taking more put fewer b (rw (unchanged, e) refl)))

@@ -3,3 +3,4 @@ pub mod Sets
 pub mod Serving
 pub mod Aids
 pub mod Judging
+pub mod Running

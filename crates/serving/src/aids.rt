@@ -21,13 +21,6 @@ fn units(places: usize, n: usize) -> usize
     128 + (8 + places / 12) * (n + 1)
 }
 
-// The lower of two numbers.
-pub fn lower(a: usize, b: usize) -> usize
-    ensures { result ≡ min a b }
-{
-    if a < b { a } else { b }
-}
-
 // No search has begun, and one may spend so much at most. No answer depends on it.
 pub fn allow(tally: &mut [u32], most: u32)
     requires { length tally.old ≡ tally_words }
@@ -61,7 +54,7 @@ pub fn keep(tally: &mut [u32], meter: Meter, n: usize)
     ensures { tally.new ≡ tally_of (suc meter.left) (min meter.high (n + 1)) }
 {
     tally[0] = base::word(meter.left + 1);
-    tally[1] = base::word(lower(meter.high, n + 1));
+    tally[1] = base::word(meter.high.min(n + 1));
 }
 
 // Begins the search, unless one has begun: FIRST and FOLLOW, and no pair worked out. Where the words of the cells are not enough for it, its budget is out
@@ -79,11 +72,8 @@ pub fn begin(tables: &[u16], note: &[u16], masks: &mut [u32], tally: &mut [u32],
         return;
     }
     first_follow::mark(tables, masks);
-    search::clear(ws, search::size_of(tables, note));
-    let left = lower(
-        units(grammar::size(tables), note.len()),
-        base::number(tally[1]),
-    );
+    search::size_of(tables, note).clear(ws);
+    let left = units(grammar::size(tables), note.len()).min(base::number(tally[1]));
     keep(tally, Meter { left, high: 0 }, note.len());
 }
 

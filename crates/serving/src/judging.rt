@@ -3,9 +3,9 @@ ghost use Rattle.std.specs.Prelude.{◌≡◌, ℕ, ◌≤◌, length};
 ghost use Rattle.derivation.specs.Space.{max_tokens};
 ghost use Rattle.derivation.specs.inside.Ready.{Ready};
 ghost use Rattle.search.specs.inside.Searching.{Sized, Roomy};
-ghost use Rattle.serving.specs.inside.Judging.{MayJudge, MayStart, Started, Judges, tells_end};
+ghost use Rattle.serving.specs.inside.Judging.{MayJudge, StartsFrom, StartedBy, Judges, tells_end};
 
-use search::{Reply, Size};
+use search::{Meter, Pair, Reply, Search};
 
 // Whether it is, each with the place where a note that is none goes wrong; or the budget is out.
 #[derive(Clone, Copy)]
@@ -16,32 +16,28 @@ pub enum Judged {
 }
 
 // Works out the start symbol from the note's beginning on, unless that is done.
-fn ask_start(
-    tables: &[u16],
-    note: &[u16],
-    masks: &[u32],
-    tally: &mut [u32],
-    ws: &mut [u32],
-    size: Size,
-)
-    requires { MayStart tables.now note.now masks.now tally.old ws.old size }
-    ensures { Started tables.now note.now masks.now tally.old ws.old tally.new
-        ws.new }
+fn ask_start(search: Search, tally: &mut [u32], ws: &mut [u32])
+    requires { StartsFrom search tally.old ws.old }
+    ensures { StartedBy search.entry tally.old ws.old tally.new ws.new }
 {
-    let reply = search::known(tables, masks, note, ws, size, 0, 0);
-    match reply {
+    let n = search.note.len();
+    let start = Pair {
+        nonterminal: 0,
+        position: 0,
+    };
+    match search.known(ws, start) {
         Reply::Unknown => {
-            let meter = search::settle(
-                tables,
-                masks,
-                note,
-                ws,
-                size,
-                0,
-                0,
-                crate::aids::meter(tally),
-            );
-            crate::aids::keep(tally, meter, note.len());
+            let mut meter = crate::aids::meter(tally);
+            match search.settle(ws, start, &mut meter) {
+                Ok(()) => crate::aids::keep(tally, meter, n),
+                Err(_) => {
+                    let spent = Meter {
+                        left: 0,
+                        high: meter.high,
+                    };
+                    crate::aids::keep(tally, spent, n);
+                }
+            }
         }
         Reply::Nowhere => {}
         Reply::Only(_) => {}
@@ -50,17 +46,23 @@ fn ask_start(
 }
 
 // Whether the note's end is among the ends that a reply tells of the start symbol.
-fn ends_note(tables: &[u16], note: &[u16], ws: &[u32], size: Size, reply: Reply) -> bool
-    requires { Ready tables.now × Sized tables.now note.now size × Roomy tables.now note.now ws.now × (length note.now ≤ max_tokens) }
-    ensures { result ≡ tells_end tables.now note.now ws.now reply }
+fn ends_note(search: Search, ws: &[u32], reply: Reply) -> bool
+    requires { Ready search.tables.now × Sized search.tables.now search.note.now search.size × Roomy search.tables.now search.note.now ws.now
+        × (length search.note.now ≤ max_tokens) }
+    ensures { result ≡ tells_end search.entry.tables.now search.entry.note.now ws.now reply }
 {
+    let n = search.size.n;
     match reply {
         Reply::Unknown => false,
         Reply::Nowhere => false,
-        Reply::Only(m) => size.n == m,
+        Reply::Only(m) => n == m,
         Reply::Several => {
-            let ends = search::set_of(ws, size, 0, 0);
-            ends.has(size.n)
+            let start = Pair {
+                nonterminal: 0,
+                position: 0,
+            };
+            let ends = search.size.set_of(ws, start);
+            ends.has(n)
         }
     }
 }
@@ -82,14 +84,24 @@ pub fn judge(
         return Judged::Out;
     }
     let size = search::size_of(tables, note);
-    ask_start(tables, note, masks, tally, ws, size);
+    let search = Search {
+        tables,
+        masks,
+        note,
+        size,
+    };
+    ask_start(search, tally, ws);
     if tally[0] < 2 {
         return Judged::Out;
     }
     let meter = crate::aids::meter(tally);
-    let place = crate::aids::lower(meter.high, note.len());
-    let reply = search::known(tables, masks, note, ws, size, 0, 0);
-    if ends_note(tables, note, ws, size, reply) {
+    let place = meter.high.min(note.len());
+    let start = Pair {
+        nonterminal: 0,
+        position: 0,
+    };
+    let reply = search.known(ws, start);
+    if ends_note(search, ws, reply) {
         return Judged::Sentence(place);
     }
     Judged::Wrong(place)

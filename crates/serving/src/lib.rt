@@ -6,6 +6,7 @@ mod aids;
 mod judging;
 mod picking;
 mod pushing;
+mod running;
 mod sets;
 mod tabling;
 
@@ -13,4 +14,5 @@ pub use aids::{AMPLE, TALLY, allow, standing};
 pub use judging::{Judged, judge};
 pub use picking::{Pick, serve, take};
 pub use pushing::push;
+pub use running::{Choose, Stop, run};
 pub use tabling::fill_cells;

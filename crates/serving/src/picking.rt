@@ -1,16 +1,18 @@
 // The lowest alternative that serves where a nonterminal waits: by ends on demand, and by the derivation cells where their budget is out. Nobody above knows
 // which of the two answered.
 ghost use Rattle.std.specs.Prelude.{◌≡◌, ◌+◌};
+ghost use Rattle.machine.specs.inside.Choice.{Numbered};
 ghost use Rattle.serving.specs.inside.Serving.{Waiting, Found};
 ghost use Rattle.serving.specs.inside.Aids.{MayServe, MaySearch, MayTake, Served, ServedFar};
 
 use machine::{At, Space};
-use search::Meter;
+use opening::Frames;
+use search::{Meter, Pair, Search};
 
-// An alternative, 0 for none, and of how many open frames the marks or the sets stand after it.
+// The alternative that is taken, if there is one, and of how many open frames the marks or the sets stand after it.
 #[derive(Clone, Copy)]
 pub struct Pick {
-    pub alternative: usize,
+    pub alternative: Option<usize>,
     pub known: usize,
 }
 
@@ -25,12 +27,11 @@ fn by_cells(
     a: usize,
 ) -> Pick
     requires { Waiting tables.now note.now ws.old space known at a }
-    ensures { Found tables.now note.now ws.old ws.new at.depth at.place a at.position
-        result.alternative × (result.known ≡ at.depth + 1) }
+    ensures { Numbered result.alternative (Found tables.now note.now ws.old ws.new at.depth at.place a at.position)
+        × (result.known ≡ at.depth + 1) }
 {
-    let lowest = crate::tabling::full(tables, note, ws, space, known, at, a);
     Pick {
-        alternative: lowest,
+        alternative: crate::tabling::full(tables, note, ws, space, known, at, a),
         known: at.depth + 1,
     }
 }
@@ -48,24 +49,27 @@ fn by_search(
     a: usize,
 ) -> Pick
     requires { MaySearch tables.now note.now masks.now tally.old ws.old space known at a }
-    ensures { ServedFar tables.now note.now masks.now tally.old ws.old
-        masks.now tally.new ws.new at.depth at.place a at.position result.known result.alternative }
+    ensures { Numbered result.alternative (ServedFar tables.now note.now masks.now tally.old ws.old
+        masks.now tally.new ws.new at.depth at.place a at.position result.known) }
 {
     let size = search::size_of(tables, note);
     let stand = crate::pushing::push(ws, space.base, known, at);
-    let found = opening::lowest(
+    let search = Search {
         tables,
         masks,
         note,
-        ws,
         size,
-        space.base,
-        at.depth + 1,
-        stand,
-        a,
-        at.position,
-        crate::aids::meter(tally),
-    );
+    };
+    let frames = Frames {
+        base: space.base,
+        depth: at.depth + 1,
+        known: stand,
+    };
+    let pair = Pair {
+        nonterminal: a,
+        position: at.position,
+    };
+    let found = opening::lowest(search, ws, frames, pair, crate::aids::meter(tally));
     crate::aids::keep(tally, found.meter, note.len());
     if found.meter.left == 0 {
         return by_cells(tables, note, ws, space, 0, at, a);
@@ -76,7 +80,7 @@ fn by_search(
     }
 }
 
-// Nonterminal a waits: the lowest alternative that serves, 0 if none does. If there is one, at.place becomes frame at.depth.
+// Nonterminal a waits: the lowest alternative that serves. If there is one, at.place becomes frame at.depth.
 pub fn serve(
     tables: &[u16],
     note: &[u16],
@@ -89,8 +93,8 @@ pub fn serve(
     a: usize,
 ) -> Pick
     requires { MayServe tables.now note.now masks.old tally.old ws.old space known at a }
-    ensures { ServedFar tables.now note.now masks.old tally.old ws.old
-        masks.new tally.new ws.new at.depth at.place a at.position result.known result.alternative }
+    ensures { Numbered result.alternative (ServedFar tables.now note.now masks.old tally.old ws.old
+        masks.new tally.new ws.new at.depth at.place a at.position result.known) }
 {
     crate::aids::begin(tables, note, masks, tally, ws);
     if 1 < tally[0] {
@@ -112,15 +116,25 @@ pub fn take(
     a: usize,
 ) -> Pick
     requires { MayTake tables.now note.now masks.now tally.old ws.old space known at a }
-    ensures { Served tables.now note.now masks.now tally.old ws.old
-        masks.now tally.new ws.new at.depth at.place a at.position result.known result.alternative }
+    ensures { Numbered result.alternative (Served tables.now note.now masks.now tally.old ws.old
+        masks.now tally.new ws.new at.depth at.place a at.position result.known) }
 {
     if tally[0] < 2 {
         return by_cells(tables, note, ws, space, known, at, a);
     }
     let size = search::size_of(tables, note);
     let meter = crate::aids::meter(tally);
-    let direct = opening::direct(tables, masks, note, ws, size, a, at.position, meter.left);
+    let search = Search {
+        tables,
+        masks,
+        note,
+        size,
+    };
+    let pair = Pair {
+        nonterminal: a,
+        position: at.position,
+    };
+    let direct = opening::direct(search, ws, pair, meter.left);
     crate::aids::keep(
         tally,
         Meter {
@@ -132,12 +146,12 @@ pub fn take(
     if direct.left == 0 {
         return by_cells(tables, note, ws, space, 0, at, a);
     }
-    if direct.alternative == 0 {
+    let Some(told) = direct.alternative else {
         return by_search(tables, note, masks, tally, ws, space, known, at, a);
-    }
+    };
     let stand = crate::pushing::push(ws, space.base, known, at);
     Pick {
-        alternative: direct.alternative,
+        alternative: Some(told),
         known: stand,
     }
 }

@@ -10,8 +10,5 @@ pub fn push(ws: &mut [u32], base: usize, known: usize, at: At) -> usize
     ensures { (ws.new ≡ set ws.old (base + frame_words * at.depth) at.place) × (result ≡ min known at.depth) }
 {
     ws[base + machine::frames::FRAME * at.depth] = base::word(at.place);
-    if known < at.depth {
-        return known;
-    }
-    at.depth
+    known.min(at.depth)
 }

@@ -10,9 +10,7 @@ fn ask_down(ws: &mut [u32], space: Space, n: usize, known: usize, depth: usize, 
     ensures { AskedDown space.places n space.base known depth asked.words ws.old ws.new }
 {
     let mut s = asked;
-    let mut k = depth;
-    while known < k {
-        k -= 1;
+    for k in (known..depth).rev() {
         machine::frames::put_rest(ws, space.base, k, s);
         let q = machine::frames::return_place(ws, space.base, k);
         s = cells::onward(ws, space.places, n, s, Positions::empty(), 0, q);
@@ -24,14 +22,12 @@ fn serve_up(ws: &mut [u32], space: Space, n: usize, known: usize, depth: usize)
     requires { Framed space.places n space.base known depth ws.old }
     ensures { ServedUp space.places n space.base known depth ws.old ws.new }
 {
-    let mut k = known;
-    while k < depth {
+    for k in known..depth {
         let asked = machine::frames::rest(ws, space.base, k);
         let q = machine::frames::return_place(ws, space.base, k);
         let below = machine::frames::rest(ws, space.base, k - 1);
         let r = machine::choice::serving(ws, space.places, n, asked, q, below);
         machine::frames::put_rest(ws, space.base, k, r);
-        k += 1;
     }
 }
 

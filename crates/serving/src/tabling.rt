@@ -1,4 +1,5 @@
 // The lowest alternative that serves, by the derivation cells.
+ghost use Rattle.machine.specs.inside.Choice.{Numbered};
 ghost use Rattle.serving.specs.inside.Sets.{Tabling, Tabled};
 ghost use Rattle.serving.specs.inside.Serving.{Waiting, Found, CellsWanted, CellsRight};
 
@@ -16,14 +17,11 @@ fn table(tables: &[u16], note: &[u16], ws: &mut [u32], space: Space, known: usiz
         machine::frames::put_rest(ws, space.base, 0, s);
         return 1;
     }
-    if known < at.depth {
-        return known;
-    }
-    at.depth
+    known.min(at.depth)
 }
 
-// Nonterminal a waits, and a prediction said FULL: the lowest alternative that serves, 0 if none does, with cells and all sets made right for it. Before
-// the first frame there are no sets, and the end place is what stays open.
+// Nonterminal a waits, and a prediction said FULL: the lowest alternative that serves, with cells and all sets made right for it. Before the first frame
+// there are no sets, and the end place is what stays open.
 pub fn full(
     tables: &[u16],
     note: &[u16],
@@ -32,9 +30,9 @@ pub fn full(
     known: usize,
     at: At,
     a: usize,
-) -> usize
+) -> Option<usize>
     requires { Waiting tables.now note.now ws.old space known at a }
-    ensures { Found tables.now note.now ws.old ws.new at.depth at.place a at.position result }
+    ensures { Numbered result (Found tables.now note.now ws.old ws.new at.depth at.place a at.position) }
 {
     if at.depth == 0 {
         chart::fill(tables, note, ws);

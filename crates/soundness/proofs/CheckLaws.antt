@@ -7,6 +7,7 @@ use mathlib.Core.List.{List}
 use Prim.Native.Nat.{ℕ, ◌<◌}
 use native.Mathlib.Omega.{arith}
 use lib.ListN.{length}
+use Rattle.std.specs.Prelude.{Ok, Err}
 use Rattle.base.specs.Search.{LowestIs, this, nothing}
 use Rattle.base.proofs.Booleans.{true→T, false→¬T}
 use Rattle.number.specs.declared.Refusal.{Refusal}
@@ -20,8 +21,7 @@ use Rattle.reader.proofs.ReadLaws.{decode-limited}
 use Rattle.closures.specs.Textbook.{Productive, LeftRecursive}
 use Rattle.closures.specs.Closures.{productive?}
 use Rattle.closures.proofs.Deriving.{productive-iff}
-use Rattle.soundness.specs.declared.judgement.Verdict.{Verdict}
-use Rattle.soundness.specs.declared.judgement.Verdict.TheVariants.{Sound, Refused}
+use Rattle.soundness.specs.Verdict.{Verdict}
 use Rattle.soundness.specs.Check.{lowest_unproductive, lowest_left_recursive, refuse_at, unproductive_of, left_recursive_of, or_else, judge_of, check_of}
 use Rattle.soundness.specs.Verdicts.{IsSound, Barren, Lowest, Means, sound, barren, recursive}
 use Rattle.soundness.proofs.LowestLaws.{lowest-unproductive, lowest-left-recursive}
@@ -66,7 +66,7 @@ unfolding check_of
 check-means s r m e = rw e (judge-means r (decode-limited s r m e))
 
 -- bytes that say none are refused as decoding refuses them
-pub check-refuses : (s : List ℕ) (f : Refusal) → decode s ≡ refused f → check_of s ≡ Refused f
+pub check-refuses : (s : List ℕ) (f : Refusal) → decode s ≡ refused f → check_of s ≡ Err f
 unfolding check_of
 check-refuses s f e = rw e
 
@@ -82,19 +82,19 @@ means-one (sound h) (sound k) = refl
 means-one (sound h) (recursive a (x, l)) = absurd (h.straight a x)
 means-one (sound h) (barren a n (x, l)) = absurd (none-barren h a x)
 means-one (recursive a (x, l)) (sound h) = absurd (h.straight a x)
-means-one (recursive a x) (recursive c y) = ap (λ (z : ℕ). Refused (Recursive z)) (lowest-one x y)
+means-one (recursive a x) (recursive c y) = ap (λ (z : ℕ). Err (Recursive z)) (lowest-one x y)
 means-one (recursive a (x, l)) (barren c n y) = absurd (n a x)
 means-one (barren a n (x, l)) (sound h) = absurd (none-barren h a x)
 means-one (barren a n x) (recursive c (y, l)) = absurd (n c y)
-means-one (barren a n x) (barren c k y) = ap (λ (z : ℕ). Refused (Unproductive z)) (lowest-one x y)
+means-one (barren a n x) (barren c k y) = ap (λ (z : ℕ). Err (Unproductive z)) (lowest-one x y)
 
 -- so the check answers a verdict exactly if the rules mean it
 pub check-iff : (s : List ℕ) (r : Rules) (m : Mark) → decode s ≡ got r m → (v : Verdict) → (check_of s ≡ v) ↔ Means r v
 check-iff s r m e v = (λ q. subst (Means r) q (check-means s r m e), means-one (check-means s r m e))
 
 -- and finds them sound exactly if they are
-pub check_sound : (s : List ℕ) (r : Rules) (m : Mark) → decode s ≡ got r m → (check_of s ≡ Sound) ↔ IsSound r
-check_sound s r m e = (λ q. is-sound ((check-iff s r m e Sound).0 q), λ h. (check-iff s r m e Sound).1 (sound h))
+pub check_sound : (s : List ℕ) (r : Rules) (m : Mark) → decode s ≡ got r m → (check_of s ≡ Ok tt) ↔ IsSound r
+check_sound s r m e = (λ q. is-sound ((check-iff s r m e (Ok tt)).0 q), λ h. (check-iff s r m e (Ok tt)).1 (sound h))
   where
-    is-sound : Means r Sound → IsSound r
+    is-sound : Means r (Ok tt) → IsSound r
     is-sound (sound h) = h

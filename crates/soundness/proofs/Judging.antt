@@ -5,6 +5,7 @@ use mathlib.Core.List.{List}
 use Prim.Native.Nat.{ℕ, ◌-◌, ◌^◌, ◌<◌}
 use native.Mathlib.Omega.{arith}
 use lib.ListN.{length, get_or, replicate}
+use Rattle.std.specs.Prelude.{Ok, Err}
 use Rattle.base.specs.Bits.{test_bit}
 use Rattle.base.specs.Search.{lowest_from}
 use Rattle.base.proofs.Bits.{test_below}
@@ -21,8 +22,7 @@ use Rattle.grammar.specs.inside.Tables.{table_words, grammar_in, nonterminals_in
 use Rattle.reader.specs.inside.Pass.{out, whole_pass}
 use Rattle.reader.proofs.ReadLaws.{PassGives, none, whole, outcome}
 use Rattle.grammar.proofs.WordLaws.{length-starts-in}
-use Rattle.soundness.specs.declared.judgement.Verdict.{Verdict}
-use Rattle.soundness.specs.declared.judgement.Verdict.TheVariants.{Sound, Refused}
+use Rattle.soundness.specs.Verdict.{Verdict}
 use Rattle.closures.specs.Textbook.{Move}
 use Rattle.closures.specs.Closures.{deriving?}
 use Rattle.corners.specs.Corners.{Corners, left_recursive?}
@@ -46,7 +46,7 @@ unproductive-is t x n d e =
     ∙ ap (lowest_from (λ a. not (deriving? true (grammar_in t) a)) 0) (e ∙ sym (length-starts-in t)))
 
 -- no member of a full set is missing
-pub productive-all : (t : List ℕ) (x n : ℕ) → DerivingIs true (grammar_in t) x → n ≡ nonterminals_in t → x ≡ 2 ^ n - 1 → Sound ≡ unproductive_of (grammar_in t)
+pub productive-all : (t : List ℕ) (x n : ℕ) → DerivingIs true (grammar_in t) x → n ≡ nonterminals_in t → x ≡ 2 ^ n - 1 → Ok tt ≡ unproductive_of (grammar_in t)
 productive-all t x n d e f =
     ap (refuse_at Unproductive) (sym (lowest-absent (λ a. not (test_bit x a)) n (λ a l. ap not (ap (λ (y : ℕ). test_bit y a) f ∙ test_below n a l))))
     ∙ unproductive-is t x n d e
@@ -74,7 +74,7 @@ module _ (t : List ℕ) (n : ℕ) (rows : List ℕ) (e : n ≡ nonterminals_in t
   recursive-own d = recursive-by t n rows starts-n (own-recursive (grammar_in t) n rows starts-n rows-n d)
 
   -- where they are settled from every nonterminal, none holds its own
-  pub recursive-none : {x : ℕ} → Settled rows x → x ≡ 2 ^ n - 1 → Sound ≡ left_recursive_of (grammar_in t)
+  pub recursive-none : {x : ℕ} → Settled rows x → x ≡ 2 ^ n - 1 → Ok tt ≡ left_recursive_of (grammar_in t)
   recursive-none s f =
       ap (refuse_at LeftRecursive) (sym (lowest-absent (λ a. test_bit (get_or rows a 0) a) n (settled-none rows n s f)))
       ∙ recursive-own (ending-all rows n s.ending f)
@@ -97,11 +97,11 @@ pub found-widening : {t rows : List ℕ} {x led : ℕ} → TablesFit t × Bare t
 found-widening p l f = record { fits = p.0; bare = p.1; vanish = f.vanish; long = l; firsts = f.firsts; led-is = f.led-is }
 
 module _ {t₀ t : List ℕ} {v : Verdict} (seven : Judgement v (left_recursive_of (grammar_in t₀)) t₀ t) where
-  pub judge-first : {r : Refusal} → v ≡ Refused r → Judgement (Refused r) (judge_of (grammar_in t₀)) t₀ t
+  pub judge-first : {r : Refusal} → v ≡ Err r → Judgement (Err r) (judge_of (grammar_in t₀)) t₀ t
   unfolding judge_of
   judge-first h = let e = seven.verdict in record { verdict = rw (← e, h); kept = seven.kept; cornered = seven.cornered }
 
-  pub judge-second : v ≡ Sound → {w : Verdict} → w ≡ unproductive_of (grammar_in t) → Judgement w (judge_of (grammar_in t₀)) t₀ t
+  pub judge-second : v ≡ Ok tt → {w : Verdict} → w ≡ unproductive_of (grammar_in t) → Judgement w (judge_of (grammar_in t₀)) t₀ t
   unfolding judge_of
   judge-second h {w} d =
       let e = seven.verdict in
@@ -111,11 +111,11 @@ module _ {t₀ t : List ℕ} {v : Verdict} (seven : Judgement v (left_recursive_
 
 -- ---- the bytes
 module _ (s t₀ : List ℕ) {x : Read} {t : List ℕ} (z : t₀ ≡ replicate table_words 0) (e : out x t ≡ whole_pass s t₀) where
-  pub compile-refused : {r r' : Refusal} {c : Cursor} → x ≡ Unread r c → r' ≡ r → Compiled s (Refused r') t
+  pub compile-refused : {r r' : Refusal} {c : Cursor} → x ≡ Unread r c → r' ≡ r → Compiled s (Err r') t
   unfolding check_of
   compile-refused {r} {r'} h d = go (outcome s t₀ z e)
     where
-      go : PassGives s x t → Compiled s (Refused r') t
+      go : PassGives s x t → Compiled s (Err r') t
       go (none r'' c'' q h') = let y : r'' ≡ r' = cc in
           record { verdict = rw (q, y); says = λ g m q'. clash (cc); fits = λ g m q'. clash (cc); cornered = λ q'. clash (cc) }
       go (whole g m v c q h' l u f b) = clash (cc)

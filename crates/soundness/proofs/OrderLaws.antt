@@ -4,6 +4,7 @@ use mathlib.Core.Path.{◌≡◌, refl}
 use mathlib.Core.Option.{Option}
 use mathlib.Core.List.{List}
 use Prim.Native.Nat.{ℕ}
+use Rattle.std.specs.Prelude.{Err}
 use Rattle.base.specs.Search.{LowestIs, this, nothing}
 use Rattle.number.specs.declared.Refusal.{Refusal}
 use Rattle.number.specs.declared.Refusal.TheVariants.{Unproductive, LeftRecursive as Recursive}
@@ -12,8 +13,7 @@ use Rattle.grammar.specs.Grammar.{compile}
 use Rattle.grammar.specs.Derivation.{of_rules}
 use Rattle.reader.proofs.ReadLaws.{decode-limited}
 use Rattle.closures.specs.Textbook.{LeftRecursive}
-use Rattle.soundness.specs.declared.judgement.Verdict.{Verdict}
-use Rattle.soundness.specs.declared.judgement.Verdict.TheVariants.{Refused}
+use Rattle.soundness.specs.Verdict.{Verdict}
 use Rattle.soundness.specs.Check.{lowest_unproductive, lowest_left_recursive, refuse_at, unproductive_of, left_recursive_of, or_else, judge_of}
 use Rattle.soundness.specs.Check.{on_decoded, check_of}
 use Rattle.soundness.specs.Verdicts.{Barren, Lowest}
@@ -22,7 +22,7 @@ use Rattle.soundness.proofs.CheckLaws.{barren-lowest, recursive-lowest}
 -- the verdict of then, 6 before 7: it stands here for this law alone
 abbrev on_decoded_before : Parsed Rules → Verdict
 on_decoded_before (got r m) = let second = left_recursive_of (compile r) in or_else (unproductive_of (compile r)) second
-on_decoded_before (refused f) = Refused f
+on_decoded_before (refused f) = Err f
 
 abbrev pub check_before : List ℕ → Verdict
 check_before s = on_decoded_before (decode s)
@@ -30,12 +30,12 @@ check_before s = on_decoded_before (decode s)
 -- the verdict on bytes before, and the verdict now
 pub data Turned (s : List ℕ) : Verdict → Verdict → Type 0 where
   -- bytes that say no rules: the same of 1 to 5
-  unsaid : (f : Refusal) → decode s ≡ refused f → Turned s (Refused f) (Refused f)
+  unsaid : (f : Refusal) → decode s ≡ refused f → Turned s (Err f) (Err f)
   -- rules that do not have both faults: the same
   kept : {v : Verdict} (r : Rules) (m : Mark) → decode s ≡ got r m → ¬ (((a : ℕ) × Barren r a) × ((a : ℕ) × LeftRecursive (of_rules r) a)) → Turned s v v
   -- rules that have both: it was 6, and is 7 with the lowest left recursive nonterminal
   turned : (r : Rules) (m : Mark) → decode s ≡ got r m → (a c : ℕ) → Lowest (Barren r) a → Lowest (LeftRecursive (of_rules r)) c
-      → Turned s (Refused (Unproductive a)) (Refused (Recursive c))
+      → Turned s (Err (Unproductive a)) (Err (Recursive c))
 
 pub order-turned : (s : List ℕ) → Turned s (check_before s) (check_of s)
 unfolding check_of judge_of unproductive_of left_recursive_of

@@ -12,13 +12,13 @@ use lib.Bits.{bit_or, bit_and}
 use lib.Count.{count_trailing_zeros}
 use lib.Dec.{T, ltb, eqb}
 use borrow.Author.Tests.{lt-ltb, le-ltb, eq-eqb, ne_eqb}
+use Rattle.std.specs.Prelude.{Ok, Err}
 use Rattle.base.specs.Bits.{word_bits, test_bit, set_bit}
 use Rattle.base.specs.Search.{lowest_from, this, nothing}
 use Rattle.base.proofs.Bits.{same?, test-or, test-and, test-set, test-none, trailing-none, trailing-found}
 use Rattle.base.proofs.Booleans.{and_T, or-none, and-all, and_none, true→T, false→¬T}
 use Rattle.base.proofs.Lowest.{lowest-is, lowest-one}
 use Rattle.number.specs.declared.Refusal.TheVariants.{LeftRecursive}
-use Rattle.soundness.specs.declared.judgement.Verdict.TheVariants.{Sound, Refused}
 use Rattle.soundness.specs.Check.{refuse_at}
 use Rattle.soundness.specs.inside.Own.{OwnIs}
 
@@ -85,12 +85,12 @@ module _ (rows : List ℕ) (n x : ℕ) (h : OwnIs rows n x) where
       go (yes l) = l
       go (no l) = absurd (rw (le-ltb a n (omega arith)) at (and_T (ltb a n) (holds a) (true→T (ltb a n && holds a) (sym (h a) ∙ e))).0)
 
-  pub own-sound : x ≡ 0 → Sound ≡ refuse_at LeftRecursive (lowest_from holds 0 n)
+  pub own-sound : x ≡ 0 → Ok tt ≡ refuse_at LeftRecursive (lowest_from holds 0 n)
   own-sound e =
       ap (refuse_at LeftRecursive) (sym (lowest-absent holds n (λ a l. sym (own-within a l) ∙ ap (λ (y : ℕ). test_bit y a) e ∙ test-none a)))
 
   pub own-refused : 0 < x → x < 2 ^ word_bits → {r : ℕ} → r ≡ count_trailing_zeros word_bits x
-      → Refused (LeftRecursive r) ≡ refuse_at LeftRecursive (lowest_from holds 0 n)
+      → Err (LeftRecursive r) ≡ refuse_at LeftRecursive (lowest_from holds 0 n)
   own-refused l m {r} e =
       let found : test_bit x r ≡ true = rw e (trailing-found word_bits x l m) in
       let low : r < n = own_below r found in

@@ -2,31 +2,31 @@
 use mathlib.Core.Path.{◌≡◌, refl, sym, ◌∙◌}
 use mathlib.Core.List.{List}
 use Prim.Native.Nat.{ℕ, zero, suc}
+use Rattle.std.specs.Prelude.{Ok, Err}
 use Rattle.number.specs.declared.Refusal.TheVariants.{Unfinished, Malformed, OverLimit, UnknownSymbol, Trailing, Unproductive, LeftRecursive}
-use Rattle.soundness.specs.declared.judgement.Verdict.{Verdict}
-use Rattle.soundness.specs.declared.judgement.Verdict.TheVariants.{Sound, Refused}
+use Rattle.soundness.specs.Verdict.{Verdict}
 use Rattle.soundness.specs.Check.{check_of, verdict_number, verdict_place, CheckDid}
 
 -- the verdict of a number and a place
 abbrev verdict_from : ℕ → ℕ → Verdict
-verdict_from zero p = Sound
-verdict_from (suc zero) p = Refused (Unfinished p)
-verdict_from (suc (suc zero)) p = Refused (Malformed p)
-verdict_from (suc (suc (suc zero))) p = Refused (OverLimit p)
-verdict_from (suc (suc (suc (suc zero)))) p = Refused (UnknownSymbol p)
-verdict_from (suc (suc (suc (suc (suc zero))))) p = Refused (Trailing p)
-verdict_from (suc (suc (suc (suc (suc (suc zero)))))) p = Refused (Unproductive p)
-verdict_from (suc (suc (suc (suc (suc (suc (suc n))))))) p = Refused (LeftRecursive p)
+verdict_from zero p = Ok tt
+verdict_from (suc zero) p = Err (Unfinished p)
+verdict_from (suc (suc zero)) p = Err (Malformed p)
+verdict_from (suc (suc (suc zero))) p = Err (OverLimit p)
+verdict_from (suc (suc (suc (suc zero)))) p = Err (UnknownSymbol p)
+verdict_from (suc (suc (suc (suc (suc zero))))) p = Err (Trailing p)
+verdict_from (suc (suc (suc (suc (suc (suc zero)))))) p = Err (Unproductive p)
+verdict_from (suc (suc (suc (suc (suc (suc (suc n))))))) p = Err (LeftRecursive p)
 
 from_told : (v : Verdict) → verdict_from (verdict_number v) (verdict_place v) ≡ v
-from_told Sound = refl
-from_told (Refused (Unfinished p)) = refl
-from_told (Refused (Malformed p)) = refl
-from_told (Refused (OverLimit p)) = refl
-from_told (Refused (UnknownSymbol p)) = refl
-from_told (Refused (Trailing p)) = refl
-from_told (Refused (Unproductive p)) = refl
-from_told (Refused (LeftRecursive p)) = refl
+from_told (Ok tt) = refl
+from_told (Err (Unfinished p)) = refl
+from_told (Err (Malformed p)) = refl
+from_told (Err (OverLimit p)) = refl
+from_told (Err (UnknownSymbol p)) = refl
+from_told (Err (Trailing p)) = refl
+from_told (Err (Unproductive p)) = refl
+from_told (Err (LeftRecursive p)) = refl
 
 -- what a check answered is the verdict on the bytes
 pub check-is : (bytes : List ℕ) (v : Verdict) → CheckDid bytes (verdict_number v) (verdict_place v) → v ≡ check_of bytes
@@ -36,5 +36,5 @@ check-is bytes v (n, p) =
     sym (from_told v) ∙ same ∙ from_told (check_of bytes)
 
 -- one that answered 0 found them sound
-pub zero-sound : (bytes : List ℕ) (place : ℕ) → CheckDid bytes 0 place → check_of bytes ≡ Sound
+pub zero-sound : (bytes : List ℕ) (place : ℕ) → CheckDid bytes 0 place → check_of bytes ≡ Ok tt
 zero-sound bytes place (n, p) = sym (from_told (check_of bytes)) ∙ rw (← n)

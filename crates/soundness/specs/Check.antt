@@ -1,16 +1,16 @@
 -- The check: refusals 1 to 5 as the bytes come, then 7, then 6; and the scope's number and place of a verdict.
-use Rattle.std.specs.Prelude.{◌≡◌, not, List, ℕ, length}
+use Rattle.std.specs.Prelude.{◌≡◌, not, List, ℕ, length, Ok, Err}
 use Rattle.std.proofs.Math.Option.{Option, none, some}
 use Rattle.base.specs.Search.{lowest_from}
 use Rattle.number.specs.declared.Refusal.{Refusal}
 use Rattle.number.specs.declared.Refusal.TheVariants.{Unproductive, LeftRecursive}
 use Rattle.number.specs.Refusals.{refusal_number, refusal_place}
+use Rattle.number.specs.Answers.{told}
 use Rattle.grammar.specs.Decode.{Rules, Parsed, got, refused, decode}
 use Rattle.grammar.specs.Grammar.{Grammar, compile}
 use Rattle.closures.specs.Closures.{deriving?, productive?}
 use Rattle.corners.specs.Corners.{left_recursive?}
-use Rattle.soundness.specs.declared.judgement.Verdict.{Verdict}
-use Rattle.soundness.specs.declared.judgement.Verdict.TheVariants.{Sound, Refused}
+use Rattle.soundness.specs.Verdict.{Verdict}
 
 -- the lowest of the grammar's nonterminals that derives no row of tokens, and the lowest that leads back to itself
 unfoldable pub lowest_unproductive : Grammar → Option ℕ
@@ -23,8 +23,8 @@ lowest_left_recursive g = lowest_from (left_recursive? g) 0 (length g.starts)
 
 -- a nonterminal that was found is refused
 abbrev pub refuse_at : (ℕ → Refusal) → Option ℕ → Verdict
-refuse_at refusal none = Sound
-refuse_at refusal (some a) = Refused (refusal a)
+refuse_at refusal none = Ok tt
+refuse_at refusal (some a) = Err (refusal a)
 
 -- 6: the lowest nonterminal that derives no row of tokens
 unfoldable pub unproductive_of : Grammar → Verdict
@@ -38,8 +38,8 @@ left_recursive_of g = refuse_at LeftRecursive (lowest_left_recursive g)
 
 -- the first of two verdicts that refuses
 abbrev pub or_else : Verdict → Verdict → Verdict
-or_else Sound v = v
-or_else (Refused r) v = Refused r
+or_else (Ok tt) v = v
+or_else (Err r) v = Err r
 
 -- 7 before 6
 unfoldable pub judge_of : Grammar → Verdict
@@ -48,7 +48,7 @@ judge_of g = let second = unproductive_of g in or_else (left_recursive_of g) sec
 
 abbrev pub on_decoded : Parsed Rules → Verdict
 on_decoded (got r m) = judge_of (compile r)
-on_decoded (refused r) = Refused r
+on_decoded (refused r) = Err r
 
 -- the whole check
 unfoldable pub check_of : List ℕ → Verdict
@@ -57,12 +57,10 @@ check_of s = on_decoded (decode s)
 
 -- the scope's number and place: 0 and 0 for a sound grammar
 abbrev pub verdict_number : Verdict → ℕ
-verdict_number Sound = 0
-verdict_number (Refused r) = refusal_number r
+verdict_number v = told refusal_number v
 
 abbrev pub verdict_place : Verdict → ℕ
-verdict_place Sound = 0
-verdict_place (Refused r) = refusal_place r
+verdict_place v = told refusal_place v
 
 -- THE CONTRACT OF `check`: a check of these bytes answered this number and this place
 abbrev pub CheckDid : List ℕ → ℕ → ℕ → Type 0

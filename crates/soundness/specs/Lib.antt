@@ -1,4 +1,5 @@
 -- The check: what it answers, and what it leaves in the tables.
+pub mod Verdict
 pub mod Check
 pub mod Verdicts
 pub mod Table

@@ -12,48 +12,17 @@ ghost use Rattle.soundness.specs.inside.Own.{OwnIs};
 
 use number::{Read, Refusal};
 
-// What the check answers.
-#[derive(Clone, Copy)]
-pub enum Verdict {
-    Sound,
-    Refused(Refusal),
-}
-
-impl Verdict {
-    // The scope's number: 0 for a sound grammar.
-    pub fn number(self) -> u32
-        ensures { result ≡ verdict_number self }
-    {
-        match self {
-            Verdict::Sound => 0,
-            Verdict::Refused(r) => r.number(),
-        }
-    }
-
-    // The scope's place: 0 for a sound grammar.
-    pub fn place(self) -> usize
-        ensures { result ≡ verdict_place self }
-    {
-        match self {
-            Verdict::Sound => 0,
-            Verdict::Refused(r) => r.place(),
-        }
-    }
-}
-
 // The lowest nonterminal of the first n that is missing from the set.
-fn lowest_missing(set: u32, n: usize) -> Verdict
+fn lowest_missing(set: u32, n: usize) -> Result<(), Refusal>
     requires { n ≤ max_nonterminals }
     ensures { result ≡ refuse_at Refusal.Unproductive (lowest_from (λ a. not (test_bit set a)) 0 n) }
 {
-    let mut a = 0;
-    while a < n {
+    for a in 0..n {
         if !base::has(set, a) {
-            return Verdict::Refused(Refusal::Unproductive(a));
+            return Err(Refusal::Unproductive(a));
         }
-        a += 1;
     }
-    Verdict::Sound
+    Ok(())
 }
 
 // The nonterminals of the first n whose row holds them.
@@ -62,49 +31,52 @@ fn own(rows: &[u32], n: usize) -> u32
     ensures { OwnIs rows.now n result }
 {
     let mut set = 0;
-    let mut a = 0;
-    while a < n {
-        set = set | (rows[a] & base::with(0, a));
-        a += 1;
+    for a in 0..n {
+        set |= rows[a] & base::with(0, a);
     }
     set
 }
 
 // The lowest nonterminal of the first n whose row holds it. All rows are looked at, since hardly any grammar has one: no turn of the loop has to ask.
-fn lowest_own(rows: &[u32], n: usize) -> Verdict
+fn lowest_own(rows: &[u32], n: usize) -> Result<(), Refusal>
     requires { (n ≤ max_nonterminals) × (length rows.now ≡ max_nonterminals) }
     ensures { result ≡ refuse_at Refusal.LeftRecursive (lowest_from (λ a. test_bit (get_or rows.now a 0) a) 0 n) }
 {
     let set = own(rows, n);
     if set == 0 {
-        return Verdict::Sound;
+        return Ok(());
     }
-    Verdict::Refused(Refusal::LeftRecursive(base::number(u32::trailing_zeros(set))))
+    Err(Refusal::LeftRecursive(base::number(u32::trailing_zeros(set))))
 }
 
 // Refusal 6. Those that derive the empty row are known. Where all are productive, as in most grammars, none is looked for.
-fn unproductive(tables: &[u16], nullable: u32) -> Verdict
+fn unproductive(tables: &[u16], nullable: u32) -> Result<(), Refusal>
     requires { TablesFit tables.now × DerivingIs false (grammar_in tables.now) nullable }
     ensures { result ≡ unproductive_of (grammar_in tables.now) }
 {
     let productive = closures::productive(tables, nullable);
     let n = grammar::nonterminals(tables);
     if productive == base::below(n) {
-        return Verdict::Sound;
+        return Ok(());
     }
     lowest_missing(productive, n)
 }
 
 // Refusal 7. The rows come with what stands first in productions, and become the left corners, which stay in the tables. Of most grammars all moves are seen
 // to end while they do; of most others a few rounds tell what is left recursive; what is left needs the closure.
-fn left_recursive(tables: &mut [u16], nullable: u32, led: u32, rows: &mut [u32]) -> Verdict
+fn left_recursive(
+    tables: &mut [u16],
+    nullable: u32,
+    led: u32,
+    rows: &mut [u32],
+) -> Result<(), Refusal>
     requires { Widening tables.old nullable led rows.old }
     ensures { Judgement result (left_recursive_of (grammar_in tables.old)) tables.old tables.new }
 {
     let n = grammar::nonterminals(tables);
     let done = corners::corners(tables, nullable, led, rows);
     if done == base::below(n) {
-        return Verdict::Sound;
+        return Ok(());
     }
     if corners::all_end(rows, n, done) {
         return lowest_own(rows, n);
@@ -114,34 +86,31 @@ fn left_recursive(tables: &mut [u16], nullable: u32, led: u32, rows: &mut [u32])
 }
 
 // 7, and then 6.
-fn judge(tables: &mut [u16]) -> Verdict
+fn judge(tables: &mut [u16]) -> Result<(), Refusal>
     requires { TablesFit tables.old × Bare tables.old }
     ensures { Judgement result (judge_of (grammar_in tables.old)) tables.old tables.new }
 {
     let mut rows = [0u32; grammar::MAX_NONTERMINALS];
     let heads = corners::heads(tables, &mut rows);
     let nullable = heads.nullable;
-    let first = left_recursive(tables, nullable, heads.led, &mut rows);
-    match first {
-        Verdict::Refused(r) => Verdict::Refused(r),
-        Verdict::Sound => unproductive(tables, nullable),
-    }
+    left_recursive(tables, nullable, heads.led, &mut rows)?;
+    unproductive(tables, nullable)
 }
 
 // Checks a grammar, and leaves it compiled in tables, which come in as zeros.
-pub fn compile(bytes: &[u8], tables: &mut [u16]) -> Verdict
+pub fn compile(bytes: &[u8], tables: &mut [u16]) -> Result<(), Refusal>
     requires { tables.old ≡ replicate table_words 0 }
     ensures { Compiled bytes.now result tables.new }
 {
     let answer = reader::read_grammar(bytes, tables);
     match answer {
-        Read::Refused(r, _) => Verdict::Refused(r.copy()),
+        Read::Refused(r, _) => Err(r),
         Read::Value(_, _) => judge(tables),
     }
 }
 
 // Whether a grammar is sound, or why not.
-pub fn check(grammar: &[u8]) -> Verdict
+pub fn check(grammar: &[u8]) -> Result<(), Refusal>
     ensures { CheckDid grammar.now (verdict_number result) (verdict_place result) }
 {
     let mut tables = [0u16; grammar::TABLE_WORDS];

@@ -3,4 +3,4 @@
 
 mod judgement;
 
-pub use judgement::{Verdict, check, compile};
+pub use judgement::{check, compile};

@@ -7,6 +7,8 @@ use native.Mathlib.Numerals.{add-one}
 use native.Mathlib.Omega.{arith}
 use native.Mathlib.Nat.{eq-or-lt_of_le}
 use mathlib.Core.Logic.{◌⊎◌, inl, inr}
+use Rattle.std.proofs.Math.Bridge.{le_prop}
+use Rattle.std.proofs.Math.Logic.{∥∥₁_elim, ∥∥₁_map}
 use lib.ListN.{length, get_or, take, drop, set, replicate, length-append, length-set, length-drop, length-replicate, get_or-replicate}
 use lib.Seq.{get_or-set_same, get_or-set_other}
 use Rattle.base.proofs.Bits.{same?}
@@ -62,7 +64,7 @@ chain-kept {more = more} {m = m} {k = k} h f (behind j l x) =
 -- ---- a word is sought
 -- the words that may be it are on the chain from p on
 abbrev pub Seek : List ℕ → List ℕ → List ℕ → ℕ → List ℕ → ℕ → Type 0
-Seek list starts links n w p = (p ≤ n) × ((k : ℕ) → k < n → same_bytes? (word_at list starts k) w ≡ true → OnChain links n k p)
+Seek list starts links n w p = (p ≤ n) × ((k : ℕ) → k < n → same_bytes? (word_at list starts k) w ≡ true → ∥ OnChain links n k p ∥₁)
 
 pub words-length : (list starts : List ℕ) (n : ℕ) → length (words_at list starts n) ≡ n
 unfolding words_at
@@ -132,31 +134,27 @@ module _ (list starts links : List ℕ) (n : ℕ) (x : Indexed list starts links
   unfolding word_kind kind_from
   seek-none {p} y l =
       let z : among? (words_at list starts n) w ≡ false =
-      none_of list starts w n (λ k h. not-true (same_bytes? (word_at list starts k) w) (λ t. (let q = chain-some (y.1 k h t) in omega arith))) in
+      none_of list starts w n (λ k h. not-true (same_bytes? (word_at list starts k) w)
+      (λ t. (let q : 0 < p = ∥∥₁_elim (y.1 k h t) le_prop chain-some in omega arith))) in
       sym (rw (append-nil (words_at list starts n)) at (kind-out first_listed (words_at list starts n) [] w z))
 
   -- the chain's next word is asked
-  module _ {p k : ℕ} (y : Seek list starts links n w p) (l : 0 < p) (e : k ≡ p - 1) {v : List ℕ} (a : v ≡ w) {r : Bool}
-      (q : r ≡ same_bytes? (take (get_or starts p 0 - suc (get_or starts k 0)) (drop (get_or starts k 0) list)) v) where
+  module _ {p k : ℕ} (y : Seek list starts links n w p) (l : 0 < p) (e : k ≡ p - 1) {r : Bool} (q : r ≡ same_bytes? (word_at list starts k) w) where
     next-is : p ≡ suc k
     next-is = omega arith
-
-    asked : r ≡ same_bytes? (word_at list starts k) w
-    unfolding word_at
-    asked = rw (← a, ← next-is) q
 
     pub seek_found : r ≡ true → first_listed + k ≡ word_kind (words_at list starts n) w
     unfolding word_kind
     seek_found t =
-        let z : word_at list starts k ≡ w = same-eq (word_at list starts k) w (true→T (same_bytes? (word_at list starts k) w) (sym asked ∙ t)) in
+        let z : word_at list starts k ≡ w = same-eq (word_at list starts k) w (true→T (same_bytes? (word_at list starts k) w) (sym q ∙ t)) in
         sym (kind_at list starts w n x.distinct k (let h = y.0 in omega arith) z).1
 
     pub seek-on : r ≡ false → {p' : ℕ} → p' ≡ get_or links k 0 → Seek list starts links n w p'
     seek-on t {p'} u = (
       (let h = y.0 in let b = x.back k (omega arith) in omega arith),
       λ j h m.
-          let z : j ≡ k → ⊥ = λ c. absurd (true→T false (sym t ∙ asked ∙ ap (λ (i : ℕ). same_bytes? (word_at list starts i) w) (sym c) ∙ m)) in
-          rw u (chain_next (y.1 j h m) k next-is z),
+          let z : j ≡ k → ⊥ = λ c. absurd (true→T false (sym t ∙ q ∙ ap (λ (i : ℕ). same_bytes? (word_at list starts i) w) (sym c) ∙ m)) in
+          rw u (∥∥₁_map (y.1 j h m) (λ d. chain_next d k next-is z)),
     )
 
 -- ---- a word more
@@ -216,13 +214,13 @@ module _ (list starts links : List ℕ) (n at e : ℕ) (x : Indexed list starts 
       ∙ get_or-set_other links n (max_listed + c) (get_or links (max_listed + b) 0) 0 (λ w. (omega arith))
 
   -- a word that was on the chain of bucket c is on it still
-  on-still : (k c : ℕ) → (c ≡ b) ⊎ (c ≡ b → ⊥) → OnChain links n k (get_or links (max_listed + c) 0)
-      → OnChain links' (suc n) k (get_or links' (max_listed + c) 0)
+  on-still : (k c : ℕ) → (c ≡ b) ⊎ (c ≡ b → ⊥) → ∥ OnChain links n k (get_or links (max_listed + c) 0) ∥₁
+      → ∥ OnChain links' (suc n) k (get_or links' (max_listed + c) 0) ∥₁
   on-still k c (inl w) y =
-      let v : OnChain links n k (get_or links (max_listed + b) 0) = rw w at y in
-      let z : OnChain links' (suc n) k (get_or links' n 0) = rw link-new (chain-kept (omega arith) link-old v) in
-      rw (w, head-new) (behind n (omega arith) z)
-  on-still k c (inr w) y = rw (head-old c w) (chain-kept (omega arith) link-old y)
+      let v : ∥ OnChain links n k (get_or links (max_listed + b) 0) ∥₁ = rw w at y in
+      let z : ∥ OnChain links' (suc n) k (get_or links' n 0) ∥₁ = rw link-new (∥∥₁_map v (chain-kept (omega arith) link-old)) in
+      rw (w, head-new) (∥∥₁_map z (behind n (omega arith)))
+  on-still k c (inr w) y = rw (head-old c w) (∥∥₁_map y (chain-kept (omega arith) link-old))
 
   head-le : (c : ℕ) → c < buckets → (c ≡ b) ⊎ (c ≡ b → ⊥) → get_or links' (max_listed + c) 0 ≤ suc n
   head-le c i (inl w) = rw (w, head-new) (omega arith)
@@ -252,11 +250,11 @@ module _ (list starts links : List ℕ) (n at e : ℕ) (x : Indexed list starts 
         up_to (λ k. get_or links' k 0 ≤ k) (λ k i. rw (link-old k i) (x.back k i)) (rw link-new (x.heads b b_lt));
     heads = λ c i. head-le c i (same? c b);
     chained =
-        up_to (λ k. OnChain links' (suc n) k (get_or links' (max_listed + bucket_from 0 (word_at list starts' k)) 0))
+        up_to (λ k. ∥ OnChain links' (suc n) k (get_or links' (max_listed + bucket_from 0 (word_at list starts' k)) 0) ∥₁)
         (λ k i.
         rw (word-old k i)
         (on-still k (bucket_from 0 (word_at list starts k)) (same? (bucket_from 0 (word_at list starts k)) b) (x.chained k i)))
-        (rw (word-new, ← h, head-new) (here (omega arith)));
+        (rw (word-new, ← h, head-new) (let x : OnChain links' (suc n) n (suc n) = here (omega arith) in ∣ x ∣₁));
     distinct =
         up_to (λ k. among? (words_at list starts' k) (word_at list starts' k) ≡ false)
         (λ k i. rw (words-old k (omega arith), word-old k i) (x.distinct k i)) (rw (words-old n (omega arith), word-new) a);

@@ -5,8 +5,8 @@ use mathlib.Core.List.{List, [], ◌∷◌, ◌++◌, map, append_assoc, append-
 use Prim.Native.Nat.{ℕ, zero, suc, ◌+◌, ◌-◌, ◌≤◌, ◌<◌}
 use native.Mathlib.Numerals.{add-one}
 use native.Mathlib.Omega.{arith}
-use lib.ListN.{length, get_or, take, drop, set, replicate, length-append, drop_of_length-le}
-use lib.Seq.{drop-cons, drop-drop, take-suc, take-suc-set, take_all}
+use lib.ListN.{length, get_or, take, drop, set, length-append, drop_of_length-le}
+use lib.Seq.{drop-cons, drop-drop, take-suc-set, take_all}
 use borrow.Author.Tests.{eq-eqb, ne_eqb, le-leb}
 use mathlib.Core.Logic.{◌⊎◌, inl, inr}
 use Rattle.base.proofs.Bits.{same?}
@@ -18,15 +18,6 @@ use Rattle.splitter.specs.declared.runs.Run.{Run}
 use Rattle.splitter.specs.declared.cutting.Item.{Item}
 use Rattle.splitter.proofs.RunLaws.{run_is, prefix-on}
 use Rattle.splitter.specs.Items.{max_split, number_kind, digit_run, fraction, number_bytes, item_bytes, items_from, word_kind, kind_of, kinds_of}
-
--- ---- kinds into a row, and zeros behind them
-pub put_on : (kinds row : List ℕ) (k : ℕ) → take k row ≡ take k kinds → k < length row → k < length kinds → {v : ℕ} → v ≡ get_or kinds k 0
-    → take (k + 1) (set row k v) ≡ take (k + 1) kinds
-put_on kinds row k x l m {v} q = rw (add-one k, take-suc-set row k v l, x, q) (sym (take-suc kinds k 0 m))
-
-pub put_all : (kinds row : List ℕ) (count n k : ℕ) → take k row ≡ take k kinds → k ≡ count → length row ≡ n → {row' : List ℕ}
-    → row' ≡ take count row ++ replicate (length row - count) 0 → row' ≡ take count kinds ++ replicate (n - count) 0
-put_all kinds row count n k x e m q = rw (← e, ← x, ← m, e) q
 
 -- ---- one item
 is_digit : (b : ℕ) → class_of b ≡ digit_class → digit? b ≡ true

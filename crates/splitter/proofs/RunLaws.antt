@@ -84,25 +84,25 @@ pub run-begins : (s : List ℕ) (i : ℕ) → run_from i 0 (drop i s) ≡ run_of
 unfolding run_of
 run-begins s i = refl
 
--- a run that is at i of the row s
-module _ (s : List ℕ) (i h : ℕ) {x : Run} (e : run_from i h (drop i s) ≡ x) where
-  pub run_end : length s ≤ i → run i h ≡ x
+-- a run that ends at i so far, with byte k of the row s the next
+module _ (s : List ℕ) (k i h : ℕ) {x : Run} (e : run_from i h (drop k s) ≡ x) where
+  pub run_end : length s ≤ k → run i h ≡ x
   unfolding run_from
   run_end l = rw (drop_of_length-le s l) at e
 
-  module _ (l : i < length s) {b : ℕ} (q : b ≡ get_or s i 0) where
-    opened : run_from i h (b ∷ drop (suc i) s) ≡ x
-    opened = let z : drop i s ≡ b ∷ drop (suc i) s = rw q (drop-cons s i 0 l) in rw z at e
+  module _ (l : k < length s) {b : ℕ} (q : b ≡ get_or s k 0) where
+    opened : run_from i h (b ∷ drop (suc k) s) ≡ x
+    opened = let z : drop k s ≡ b ∷ drop (suc k) s = rw q (drop-cons s k 0 l) in rw z at e
 
     pub run-stop : {c : ℕ} → c ≡ class_of b → c < digit_class → run i h ≡ x
     unfolding run_from word_byte?
-    run-stop {c} k m = rw (lt-leb digit_class (class_of b) (omega arith), run_from) at opened
+    run-stop {c} j m = rw (lt-leb digit_class (class_of b) (omega arith), run_from) at opened
 
-    pub run_on : {c w h' : ℕ} → c ≡ class_of b → digit_class ≤ c → w ≡ b → h' ≡ (5 * h + w) % buckets → run_from (i + 1) h' (drop (i + 1) s) ≡ x
+    pub run_on : {c w h' : ℕ} → c ≡ class_of b → digit_class ≤ c → w ≡ b → h' ≡ (5 * h + w) % buckets → run_from (i + 1) h' (drop (k + 1) s) ≡ x
     unfolding run_from word_byte? mix
-    run_on {c} {w} {h'} k m n a =
-        let z : run_from (suc i) (mix h b) (drop (suc i) s) ≡ x = rw (le-leb digit_class (class_of b) (omega arith), run_from) at opened in
-        rw (add-one i, a, n) z
+    run_on {c} {w} {h'} j m n a =
+        let z : run_from (suc i) (mix h b) (drop (suc k) s) ≡ x = rw (le-leb digit_class (class_of b) (omega arith), run_from) at opened in
+        rw (add-one i, add-one k, a, n) z
 
 -- ---- runs of digits
 module _ (s : List ℕ) (i : ℕ) {x : ℕ} (e : i + length (digit_run (drop i s)) ≡ x) where

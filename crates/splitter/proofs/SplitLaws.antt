@@ -1,56 +1,53 @@
 -- The ways out of splitting, each one case of `splitting`.
 use mathlib.Core.Path.{◌≡◌, refl, sym, ap, ◌∙◌}
 use mathlib.Core.List.{List, ◌++◌}
-use mathlib.Core.Option.{Option, none, some}
+use mathlib.Core.Option.{Option as Found, none, some}
 use Prim.Native.Nat.{ℕ, ◌-◌, ◌≤◌, ◌<◌}
 use native.Mathlib.Omega.{arith}
 use lib.ListN.{length, take, replicate}
 use lib.Seq.{length-take-le}
 use borrow.Author.Tests.{lt-ltb, le-ltb}
+use Rattle.std.specs.Prelude.{Option, Some, None}
 use Rattle.splitter.specs.Listing.{list_of}
 use Rattle.splitter.specs.Items.{max_split, kinds_of, first_foreign}
 use Rattle.splitter.specs.Splitting.{max_line, split_answer, from14, from8, on_foreign, from16, from17, splitting}
 use Rattle.splitter.specs.Contract.{SplitDid}
-use Rattle.splitter.specs.inside.Index.{words_at, Indexed, ListingDid}
+use Rattle.splitter.specs.inside.Index.{words_at}
+use Rattle.splitter.specs.inside.Listed.{ListingDid}
 use Rattle.splitter.specs.inside.Cut.{scan_of, CutDid}
-use Rattle.splitter.specs.declared.cutting.Scan.{Scan}
-use Rattle.splitter.specs.declared.cutting.Scan.TheVariants.{Clean, Foreign}
-use Rattle.splitter.specs.declared.cutting.Cutting.{Cutting}
-use Rattle.splitter.specs.declared.cutting.Cutting.TheVariants.{Tokens, Many}
-use Rattle.splitter.specs.declared.listing.Listing.{Listing}
-use Rattle.splitter.specs.declared.listing.Listing.TheVariants.{Words, Bad}
+use Rattle.splitter.specs.declared.words.Words.{Words}
 
--- what a scan found
-abbrev found : Scan → Option ℕ
-found Clean = none
-found (Foreign at) = some at
+-- what a search found
+abbrev found : Option ℕ → Found ℕ
+found None = none
+found (Some at) = some at
 
-found_of : (o : Option ℕ) → found (scan_of o) ≡ o
+found_of : (o : Found ℕ) → found (scan_of o) ≡ o
 found_of none = refl
 found_of (some at) = refl
 
-module _ (line row : List ℕ) (ws : List (List ℕ)) {r : Scan} (e : r ≡ scan_of (first_foreign line)) where
-  found-is : {x : Scan} → r ≡ x → first_foreign line ≡ found x
+module _ (line row : List ℕ) (ws : List (List ℕ)) {r : Option ℕ} (e : r ≡ scan_of (first_foreign line)) where
+  found-is : {x : Option ℕ} → r ≡ x → first_foreign line ≡ found x
   found-is q = sym (found_of (first_foreign line)) ∙ ap found (sym e ∙ q)
 
-  pub answer-16 : {at : ℕ} → r ≡ Foreign at → split_answer 16 at 0 row ≡ from16 line row ws
+  pub answer-16 : {at : ℕ} → r ≡ Some at → split_answer 16 at 0 row ≡ from16 line row ws
   unfolding from16 on_foreign
   answer-16 q = rw (found-is q)
 
-  module _ (q : r ≡ Clean) (x : Cutting) (kinds : List ℕ) (d : CutDid ws line x kinds) where
+  module _ (q : r ≡ None) (x : Option ℕ) (kinds : List ℕ) (d : CutDid ws line x kinds) where
     on : from8 row (kinds_of ws line) ≡ from16 line row ws
     unfolding from16 on_foreign
     on = rw (found-is q)
 
-    pub answer-8 : x ≡ Many → split_answer 8 0 0 row ≡ from16 line row ws
+    pub answer-8 : x ≡ None → split_answer 8 0 0 row ≡ from16 line row ws
     unfolding from8 CutDid
     answer-8 m =
-        let y : CutDid ws line Many kinds = rw m at d in
+        let y : CutDid ws line None kinds = rw m at d in
         let z = lt-ltb max_split (length (kinds_of ws line)) y.0 in
         rw z at on
 
-    module _ {k : ℕ} (m : x ≡ Tokens k) where
-      cut-did : CutDid ws line (Tokens k) kinds
+    module _ {k : ℕ} (m : x ≡ Some k) where
+      cut-did : CutDid ws line (Some k) kinds
       cut-did = rw m at d
 
       pub cut-few : k ≤ length kinds
@@ -90,25 +87,22 @@ pub answer-15 : (line list row : List ℕ) → max_line < length line → SplitD
 unfolding splitting
 answer-15 line list row l = rw (lt-ltb max_line (length line) l)
 
-module _ (line list row : List ℕ) (l : length line ≤ max_line) (starts links : List ℕ) (x : Listing) (d : ListingDid list starts links x) where
+module _ (line list row : List ℕ) (l : length line ≤ max_line) (x : Option Words) (d : ListingDid list x) where
   split-on : from17 line row (list_of list) ≡ splitting line list row
   unfolding splitting
   split-on = rw (le-ltb max_line (length line) l)
 
-  pub answer-17 : x ≡ Bad → SplitDid line list row 17 0 0 row
+  pub answer-17 : x ≡ None → SplitDid line list row 17 0 0 row
   unfolding from17 ListingDid
   answer-17 e =
       let z : none ≡ list_of list = rw e at d in
       rw (← z) at split-on
 
-  module _ {n : ℕ} (e : x ≡ Words n) where
-    listed : ListingDid list starts links (Words n)
-    listed = rw e at d
-
-    pub list-indexed : Indexed list starts links n
-    unfolding ListingDid
-    list-indexed = listed.0
-
-    pub answer-on : {a b c : ℕ} {row' : List ℕ} → split_answer a b c row' ≡ from16 line row (words_at list starts n) → SplitDid line list row a b c row'
+  module _ {w : Words} (e : x ≡ Some w) where
+    pub answer-on : {a b c : ℕ} {row' : List ℕ} → split_answer a b c row' ≡ from16 line row (words_at w.list.now w.starts w.count)
+        → SplitDid line list row a b c row'
     unfolding from17 ListingDid
-    answer-on q = let z : from16 line row (words_at list starts n) ≡ splitting line list row = rw (← listed.1) at split-on in q ∙ z
+    answer-on q =
+        let listed : ListingDid list (Some w) = rw e at d in
+        let z : from16 line row (words_at list w.starts w.count) ≡ splitting line list row = rw (← listed.1) at split-on in
+        q ∙ ap (λ (s : List ℕ). from16 line row (words_at s w.starts w.count)) listed.0 ∙ z

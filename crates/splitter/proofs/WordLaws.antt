@@ -1,16 +1,15 @@
 -- Words that are the same, and the kinds that listed words have.
-use mathlib.Core.Path.{◌≡◌, refl, sym, ap, ◌∙◌}
+use mathlib.Core.Path.{◌≡◌, refl, sym, ap}
 use mathlib.Core.Bool.{Bool, true, false, ◌&&◌, ◌||◌}
 use mathlib.Core.List.{List, [], ◌∷◌, ◌++◌}
 use Prim.Native.Nat.{ℕ, suc, ◌+◌, ◌-◌, ◌≤◌, ◌<◌}
-use native.Mathlib.Numerals.{add-one}
 use native.Mathlib.Omega.{arith}
 use lib.Dec.{eqb, T, eqb→eq, eqb_refl}
-use lib.ListN.{length, get_or, take, drop, length-drop}
-use lib.Seq.{drop-cons, length-take-le}
-use borrow.Author.Tests.{eq-eqb, ne_eqb}
+use lib.ListN.{length, take, drop, length-drop}
+use lib.Seq.{length-take-le}
 use Rattle.base.proofs.Booleans.{and_T, T→true, true→T, or_assoc, or-none}
 use Rattle.base.specs.Rounds.{any_of}
+use Rattle.std.specs.Cmp.Lexicographic.{pointwise}
 use Rattle.splitter.specs.Listing.{same_bytes?, among?}
 use Rattle.splitter.specs.Items.{kind_from}
 
@@ -31,38 +30,13 @@ unfolding same_bytes?
 same_refl [] = refl
 same_refl (b ∷ u) = rw (T→true (eqb b b) (eqb_refl b)) (same_refl u)
 
--- byte by byte
-first_byte : (a : List ℕ) (p m n : ℕ) → p < length a → n ≡ suc m → take n (drop p a) ≡ get_or a p 0 ∷ take m (drop (suc p) a)
-first_byte a p m n l e = rw (e, drop-cons a p 0 l)
-
-module _ (a b : List ℕ) (i j n k : ℕ) {x : Bool} (e : same_bytes? (take (n - k) (drop (i + k) a)) (take (n - k) (drop (j + k) b)) ≡ x) where
-  pub same_end : n ≤ k → true ≡ x
-  unfolding same_bytes?
-  same_end l = let z : n - k ≡ 0 = omega arith in rw z at e
-
-  module _ (l : k < n) (la : i + k < length a) (lb : j + k < length b) where
-    same-opened : (eqb (get_or a (i + k) 0) (get_or b (j + k) 0)
-        && same_bytes? (take (n - suc k) (drop (suc (i + k)) a)) (take (n - suc k) (drop (suc (j + k)) b))) ≡ x
-    unfolding same_bytes?
-    same-opened = rw (first_byte a (i + k) (n - suc k) (n - k) la (omega arith), first_byte b (j + k) (n - suc k) (n - k) lb (omega arith)) at e
-
-    module _ {c d : ℕ} (p : c ≡ get_or a (i + k) 0) (q : d ≡ get_or b (j + k) 0) where
-      pub same-other : (c ≡ d → ⊥) → false ≡ x
-      same-other m = rw (ne_eqb (get_or a (i + k) 0) (get_or b (j + k) 0) (λ u. m (p ∙ u ∙ sym q))) at same-opened
-
-      pub same-on : c ≡ d → same_bytes? (take (n - (k + 1)) (drop (i + (k + 1)) a)) (take (n - (k + 1)) (drop (j + (k + 1)) b)) ≡ x
-      same-on m =
-          let z : i + (k + 1) ≡ suc (i + k) = omega arith in
-          let y : j + (k + 1) ≡ suc (j + k) = omega arith in
-          rw (z, y, add-one k) (rw (eq-eqb (get_or a (i + k) 0) (get_or b (j + k) 0) (sym p ∙ m ∙ q)) at same-opened)
-
-pub same-begins : (a b : List ℕ) (i j n : ℕ)
-    → same_bytes? (take (n - 0) (drop (i + 0) a)) (take (n - 0) (drop (j + 0) b)) ≡ same_bytes? (take n (drop i a)) (take n (drop j b))
-same-begins a b i j n =
-    let x : n - 0 ≡ n = omega arith in
-    let y : i + 0 ≡ i = omega arith in
-    let z : j + 0 ≡ j = omega arith in
-    rw (x, y, z) refl
+-- the library compares so
+pub same_is : (u v : List ℕ) → pointwise eqb u v ≡ same_bytes? u v
+unfolding same_bytes?
+same_is [] [] = refl
+same_is [] (c ∷ v) = refl
+same_is (b ∷ u) [] = refl
+same_is (b ∷ u) (c ∷ v) = ap (λ (x : Bool). eqb b c && x) (same_is u v)
 
 pub same_length : (u v : List ℕ) → T (same_bytes? u v) → length u ≡ length v
 same_length u v t = ap length (same-eq u v t)

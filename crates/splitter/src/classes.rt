@@ -34,7 +34,7 @@ pub fn class(table: &[u8], b: u8) -> usize
     requires { table.now ≡ classes }
     ensures { result ≡ class_of b }
 {
-    base::wide(table[base::wide(b)])
+    usize::from(table[usize::from(b)])
 }
 
 // The kind of a mark: 3 to 34 in byte order.

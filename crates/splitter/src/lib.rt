@@ -6,5 +6,6 @@ pub mod cutting;
 pub mod listing;
 pub mod runs;
 pub mod splitting;
+pub mod words;
 
 pub use splitting::{MAX_LINE, Splitting, split};

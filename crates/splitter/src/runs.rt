@@ -20,20 +20,22 @@ pub const BUCKETS: usize = 64;
 // The letters and digits from a byte on.
 pub fn word_run(table: &[u8], s: &[u8], from: usize) -> Run
     requires { (from ≤ length s.now) × (table.now ≡ classes) }
-    ensures { result ≡ run_of s.now from }
+    ensures run { result ≡ run_of s.now from }
+    ensures after { from ≤ result.end }
+    ensures inside { result.end ≤ length s.now }
 {
-    let n = s.len();
-    let mut i = from;
-    let mut bucket = 0;
-    while i < n {
-        let b = s[i];
-        if crate::classes::class(table, b) < crate::classes::DIGIT {
-            return Run { end: i, bucket };
+    let mut run = Run {
+        end: from,
+        bucket: 0,
+    };
+    for b in &s[from..] {
+        if crate::classes::class(table, *b) < crate::classes::DIGIT {
+            break;
         }
-        bucket = (5 * bucket + base::wide(b)) % BUCKETS;
-        i += 1;
+        run.bucket = (5 * run.bucket + usize::from(*b)) % BUCKETS;
+        run.end += 1;
     }
-    Run { end: i, bucket }
+    run
 }
 
 // The end of the digits from a byte on.
@@ -41,15 +43,12 @@ pub fn digits_end(table: &[u8], s: &[u8], from: usize) -> usize
     requires { (from ≤ length s.now) × (table.now ≡ classes) }
     ensures { result ≡ from + length (digit_run (drop from s.now)) }
 {
-    let n = s.len();
-    let mut i = from;
-    while i < n {
-        if crate::classes::class(table, s[i]) != crate::classes::DIGIT {
-            return i;
+    for (i, b) in s[from..].iter().enumerate() {
+        if crate::classes::class(table, *b) != crate::classes::DIGIT {
+            return from + i;
         }
-        i += 1;
     }
-    i
+    s.len()
 }
 
 // The end of the number from a byte on: digits, and a point with further digits where one follows the point.

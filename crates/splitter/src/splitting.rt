@@ -1,12 +1,11 @@
 // A typed line and a lent list: the line's kinds, or why not.
 ghost use Rattle.std.specs.Prelude.{◌≡◌, ◌++◌, ◌-◌, ◌≤◌, length, take, replicate};
 ghost use Rattle.splitter.specs.Classes.{classes};
-ghost use Rattle.splitter.specs.inside.Index.{words_at, Indexed};
+ghost use Rattle.splitter.specs.inside.Index.{words_at};
 ghost use Rattle.splitter.specs.Contract.{splitting_number, splitting_place, splitting_count, SplitDid};
 ghost use Rattle.splitter.specs.Splitting.{split_answer, from16};
 
-use crate::cutting::{Cutting, Scan};
-use crate::listing::Listing;
+use crate::words::Words;
 
 // The most bytes of a line.
 pub const MAX_LINE: usize = 512;
@@ -77,35 +76,21 @@ fn put(kinds: &[u16], count: usize, row: &mut [u16])
     requires { (count ≤ length kinds.now) × (count ≤ length row.old) }
     ensures { row.new ≡ take count kinds.now ++ replicate (length row.old - count) 0 }
 {
-    let mut k = 0;
-    while k < count {
-        row[k] = kinds[k];
-        k += 1;
-    }
-    base::clear_from(row, count);
+    row[..count].copy_from_slice(&kinds[..count]);
+    row[count..].fill(0);
 }
 
 // Splits a line by a good list: 16, 8 and 14.
-fn split_by(
-    table: &[u8],
-    line: &[u8],
-    words: &[u8],
-    starts: &[usize],
-    links: &[u8],
-    count: usize,
-    tokens: &mut [u16],
-) -> Splitting
-    requires { Indexed words.now starts.now links.now count × (table.now ≡ classes) }
+fn split_by(table: &[u8], line: &[u8], words: &Words, tokens: &mut [u16]) -> Splitting
+    requires { table.now ≡ classes }
     ensures { split_answer (splitting_number result) (splitting_place result) (splitting_count result) tokens.new
-        ≡ from16 line.now tokens.old (words_at words.now starts.now count) }
+        ≡ from16 line.now tokens.old (words_at words.now.list.now words.now.starts words.now.count) }
 {
-    let scan = crate::cutting::first_foreign(table, line);
-    if let Scan::Foreign(at) = scan {
+    if let Some(at) = crate::cutting::first_foreign(table, line) {
         return Splitting::Foreign(at);
     }
     let mut kinds = [0u16; crate::cutting::MAX_TOKENS];
-    let cut = crate::cutting::cut(table, line, words, starts, links, count, &mut kinds);
-    let Cutting::Tokens(k) = cut else {
+    let Some(k) = crate::cutting::cut(table, line, words, &mut kinds) else {
         return Splitting::LongNote;
     };
     if tokens.len() < k {
@@ -125,11 +110,8 @@ pub fn split(line: &[u8], words: &[u8], tokens: &mut [u16]) -> Splitting
         return Splitting::LongLine;
     }
     let table = crate::classes::CLASSES;
-    let mut starts = [0usize; crate::listing::STARTS];
-    let mut links = [0u8; crate::listing::LINKS];
-    let listing = crate::listing::index(&table, words, &mut starts, &mut links);
-    let Listing::Words(count) = listing else {
+    let Some(listed) = crate::listing::words_of(&table, words) else {
         return Splitting::BadList;
     };
-    split_by(&table, line, words, &starts, &links, count, tokens)
+    split_by(&table, line, &listed, tokens)
 }

@@ -7,12 +7,12 @@ use native.Mathlib.Omega.{arith}
 use lib.Dec.{ltb}
 use lib.ListN.{length}
 use borrow.Author.Tests.{ltb-false}
+use Rattle.std.specs.Prelude.{Ok}
 use Rattle.base.proofs.Booleans.{clash}
 use Rattle.grammar.specs.Decode.{Rules, Mark, got, decode}
-use Rattle.soundness.specs.declared.judgement.Verdict.TheVariants.{Sound}
 use Rattle.soundness.specs.Check.{check_of}
 use Rattle.derivation.specs.Gate.{Gate, at_gate}
-use Rattle.derivation.proofs.GateLaws.{Checked, refuses, sound, sound-gate, refusal-early}
+use Rattle.derivation.proofs.GateLaws.{Checked, refuses, sound-gate, refusal-early}
 use Rattle.words.specs.Layout.{min_words}
 use Rattle.words.specs.Begin.{Begun, begun, begin_words, begin12, beginning}
 
@@ -20,11 +20,11 @@ pub record Begins (s c₀ c : List ℕ) : Type 0 where
   pub rules : Rules
   pub mark : Mark
   pub decoded : decode s ≡ got rules mark
-  pub sound : check_of s ≡ Sound
+  pub sound : check_of s ≡ Ok tt
   pub long : min_words ≤ length c₀
   pub words : c ≡ begin_words s (length c₀)
 
-long-begins : (s c₀ : List ℕ) (r : Rules) (m : Mark) → decode s ≡ got r m → check_of s ≡ Sound → (begin12 s c₀).number ≡ 0
+long-begins : (s c₀ : List ℕ) (r : Rules) (m : Mark) → decode s ≡ got r m → check_of s ≡ Ok tt → (begin12 s c₀).number ≡ 0
     → Begins s c₀ (begin12 s c₀).words
 unfolding begin12
 long-begins s c₀ r m d v z = go (ltb (length c₀) min_words) refl z

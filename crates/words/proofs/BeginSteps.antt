@@ -7,12 +7,12 @@ use native.Mathlib.Omega.{arith}
 use lib.ListN.{length, replicate, length-replicate}
 use lib.Seq.{sets}
 use borrow.Author.Tests.{lt-ltb, le-ltb, not-true, not-false}
+use Rattle.std.specs.Prelude.{Ok, Err}
 use Rattle.base.proofs.Booleans.{clash}
 use Rattle.number.specs.declared.Refusal.{Refusal}
 use Rattle.number.specs.Refusals.{refusal_number, refusal_place}
 use Rattle.grammar.specs.Decode.{Rules, Parsed, got, refused, decode}
-use Rattle.soundness.specs.declared.judgement.Verdict.{Verdict}
-use Rattle.soundness.specs.declared.judgement.Verdict.TheVariants.{Sound, Refused}
+use Rattle.soundness.specs.Verdict.{Verdict}
 use Rattle.soundness.specs.Check.{on_decoded, check_of}
 use Rattle.derivation.specs.Gate.{Gate, at_gate}
 use Rattle.derivation.proofs.GateLaws.{Checked, refuses, sound, sound-gate, sound-refuses}
@@ -50,11 +50,11 @@ module _ (bytes c : List ℕ) where
 
 -- ---- 1 to 7, and then 12
 module _ (bytes c : List ℕ) {v : Verdict} (e : v ≡ check_of bytes) where
-  pub refused-is : {r : Refusal} → v ≡ Refused r → begun (refusal_number r) (refusal_place r) c ≡ beginning bytes c
+  pub refused-is : {r : Refusal} → v ≡ Err r → begun (refusal_number r) (refusal_place r) c ≡ beginning bytes c
   unfolding beginning
   refused-is {r} h = rw (sound-refuses bytes r (sym e ∙ h))
 
-  pub sound-is : {x : Begun} → v ≡ Sound → x ≡ begin12 bytes c → x ≡ beginning bytes c
+  pub sound-is : {x : Begun} → v ≡ Ok tt → x ≡ begin12 bytes c → x ≡ beginning bytes c
   unfolding beginning
   sound-is {x} h b = go (sound-gate bytes)
     where
@@ -62,10 +62,10 @@ module _ (bytes c : List ℕ) {v : Verdict} (e : v ≡ check_of bytes) where
       go (refuses r q) = clash (cc)
       go (sound r m d q) = b
 
-  pub sound-short : v ≡ Sound → length bytes < 2 ^ 10
+  pub sound-short : v ≡ Ok tt → length bytes < 2 ^ 10
   unfolding check_of
   sound-short h = go (decode bytes) refl (sym e ∙ h)
     where
-      go : (d : Parsed Rules) → decode bytes ≡ d → on_decoded d ≡ Sound → length bytes < 2 ^ 10
+      go : (d : Parsed Rules) → decode bytes ≡ d → on_decoded d ≡ Ok tt → length bytes < 2 ^ 10
       go (got y m) z q = let l = decode-few bytes y m z in omega arith
       go (refused f) z q = clash (cc)

@@ -1,26 +1,16 @@
--- Words that become 0, the words that hold the lengths, and how many words bytes take.
-use mathlib.Core.Path.{◌≡◌, refl, sym, ◌∙◌}
-use mathlib.Core.Bool.{false, ◌&&◌}
-use mathlib.Core.List.{List, [], ◌∷◌, ◌++◌, append-nil}
+-- The words that hold the lengths, and how many words bytes take.
+use mathlib.Core.Path.{◌≡◌, refl, sym}
+use mathlib.Core.Bool.{Bool, true, false, ◌&&◌}
+use mathlib.Core.List.{List, [], ◌∷◌}
 use Prim.Native.Nat.{ℕ, ◌+◌, ◌/◌, ◌%◌, ◌^◌, ◌≤◌, ◌<◌}
 use native.Mathlib.Omega.{arith}
 use lib.Dec.{eqb}
-use lib.ListN.{length, get_or, take, drop, replicate}
-use lib.Seq.{drop-length}
-use borrow.Author.Tests.{eq-eqb, ne_eqb}
+use lib.ListN.{length, get_or, take, drop}
 use Rattle.base.proofs.Booleans.{and_none, and-all}
 use Rattle.lookahead.specs.Closing.{same_list}
 use Rattle.words.specs.Layout.{length_at}
 use Rattle.words.specs.inside.Bytes.{sizes_held}
 use Rattle.words.specs.Begin.{pack_bytes}
-
--- every word has become 0
-pub cleared : (c c₀ : List ℕ) (k : ℕ) → c ≡ replicate k 0 ++ drop k c₀ → k ≤ length c₀ → length c₀ ≤ k → c
-    ≡ replicate (length c₀) 0
-cleared c c₀ k e h l =
-    let z : k ≡ length c₀ = omega arith in
-    let y : c ≡ replicate (length c₀) 0 ++ drop (length c₀) c₀ = rw z at e in
-    y ∙ rw (drop-length c₀) (append-nil (replicate (length c₀) 0))
 
 -- ---- the words of the lengths
 module _ (n : ℕ) (c : List ℕ) where
@@ -54,15 +44,17 @@ module _ (n : ℕ) (c : List ℕ) where
         go (a ∷ b ∷ d ∷ []) h x y z = absurd (omega arith)
         go (a ∷ b ∷ d ∷ e ∷ l) h x y z = rw (and-all (eqb e z))
 
-    pub sizes-first : (get_or c 1 0 ≡ low → ⊥) → false ≡ sizes_held n c
-    sizes-first d = rw (by-words, ne_eqb (get_or c 1 0) low d)
+    -- the tests of the words, one after another
+    module _ {x : ℕ} {p : Bool} (e : x ≡ low) (t : p ≡ eqb (get_or c 1 0) x) where
+      pub sizes-first : p ≡ false → false ≡ sizes_held n c
+      sizes-first f = rw (by-words, ← e, ← t, f)
 
-    module _ (e : get_or c 1 0 ≡ low) where
-      pub sizes-second : (get_or c 2 0 ≡ high → ⊥) → false ≡ sizes_held n c
-      sizes-second d = rw (by-words, eq-eqb (get_or c 1 0) low e, ne_eqb (get_or c 2 0) high d)
+      module _ {y : ℕ} {q : Bool} (d : y ≡ high) (u : q ≡ eqb (get_or c 2 0) y) (f : p ≡ true) where
+        pub sizes-second : q ≡ false → false ≡ sizes_held n c
+        sizes-second g = rw (by-words, ← e, ← t, f, ← d, ← u, g)
 
-      pub sizes-third : {x : ℕ} → get_or c 2 0 ≡ high → x ≡ get_or c 3 0 → eqb x n ≡ sizes_held n c
-      sizes-third f q = rw (by-words, eq-eqb (get_or c 1 0) low e, eq-eqb (get_or c 2 0) high f, q)
+        pub sizes-third : {z : ℕ} → q ≡ true → z ≡ get_or c 3 0 → eqb z n ≡ sizes_held n c
+        sizes-third g h = rw (by-words, ← e, ← t, f, ← d, ← u, g, h)
 
 -- packed bytes are no more words than bytes
 pub packed-few : (s : List ℕ) → length (pack_bytes s) ≤ length s

@@ -1,46 +1,49 @@
 // How a cache begins for a grammar, and whether it has begun for it.
-ghost use Rattle.std.specs.Prelude.{◌≡◌, ◌≤◌, ◌<◌, ◌/◌, ◌%◌, ◌^◌, length, replicate};
+ghost use Rattle.std.specs.Prelude.{◌≡◌, ◌≤◌, ◌<◌, ◌/◌, ◌%◌, ◌^◌, length};
 ghost use Rattle.std.proofs.lemmas.List.Edits.{sets};
 ghost use Rattle.words.specs.Layout.{length_at, held_at};
 ghost use Rattle.words.specs.Begin.{size_words, begin12, begun?, BeginDid};
-ghost use Rattle.words.specs.Beginning.{beginning_number, beginning_place, begun_by};
+ghost use Rattle.words.specs.Beginning.{refused_number, refused_place, beginning_number, beginning_place, begun_by};
+ghost use Rattle.words.specs.declared.beginning.BeginningRefusal.TheVariants.{Grammar};
 ghost use Rattle.words.specs.inside.Bytes.{sizes_held};
 
 use crate::layout::{BYTE_COUNT_AT, HELD_AT, LENGTH_AT, LENGTH_HIGH_AT, MIN_WORDS};
-use number::Refusal;
-use soundness::Verdict;
+use number::{Numbered, Refusal};
 
-// What beginning answers.
-#[derive(Clone, Copy)]
-pub enum Beginning {
-    // The cache has begun.
-    Ready,
+// Why a cache has not begun.
+#[derive(Clone, Copy, Debug, PartialEq, Eq)]
+pub enum BeginningRefusal {
     // 1 to 7: the grammar is refused.
-    Refused(Refusal),
+    Grammar(Refusal),
     // 12: the cache is too short.
     ShortCache,
 }
 
-impl Beginning {
-    // The scope's number: 0 where the cache has begun.
-    pub fn number(self) -> u32
-        ensures { result ≡ beginning_number self }
-    {
+impl From<Refusal> for BeginningRefusal {
+    ghost from_gives = { λ r e. e ≡ Grammar r };
+
+    fn from(r: Refusal) -> BeginningRefusal {
+        BeginningRefusal::Grammar(r)
+    }
+}
+
+impl Numbered for BeginningRefusal {
+    ghost scope_number = { refused_number };
+
+    ghost scope_place = { refused_place };
+
+    fn number(&self) -> u32 {
         match self {
-            Beginning::Ready => 0,
-            Beginning::Refused(r) => r.number(),
-            Beginning::ShortCache => 12,
+            BeginningRefusal::Grammar(r) => r.number(),
+            BeginningRefusal::ShortCache => 12,
         }
     }
 
-    // The scope's place: 0 where none is named.
-    pub fn place(self) -> usize
-        ensures { result ≡ beginning_place self }
-    {
+    // 0 where none is named.
+    fn place(&self) -> usize {
         match self {
-            Beginning::Ready => 0,
-            Beginning::Refused(r) => r.place(),
-            Beginning::ShortCache => 0,
+            BeginningRefusal::Grammar(r) => r.place(),
+            BeginningRefusal::ShortCache => 0,
         }
     }
 }
@@ -59,18 +62,6 @@ fn high(n: usize) -> u32
     (n >> 32) as u32
 }
 
-// Zeros in every word.
-fn clear(cache: &mut [u32])
-    ensures { cache.new ≡ replicate (length cache.old) 0 }
-{
-    let n = cache.len();
-    let mut k = 0;
-    while k < n {
-        cache[k] = 0;
-        k += 1;
-    }
-}
-
 // Stores the cache's length, and the number of the grammar's bytes.
 fn write_sizes(count: usize, cache: &mut [u32])
     requires { (held_at ≤ length cache.old) × (count < 2 ^ 32) }
@@ -87,41 +78,32 @@ fn has_sizes(count: usize, cache: &[u32]) -> bool
     ensures { result ≡ sizes_held count cache.now }
 {
     let n = cache.len();
-    if n < HELD_AT {
-        return false;
-    }
-    if cache[LENGTH_AT] != low(n) {
-        return false;
-    }
-    if cache[LENGTH_HIGH_AT] != high(n) {
-        return false;
-    }
-    base::number(cache[BYTE_COUNT_AT]) == count
+    HELD_AT <= n
+        && cache[LENGTH_AT] == low(n)
+        && cache[LENGTH_HIGH_AT] == high(n)
+        && base::number(cache[BYTE_COUNT_AT]) == count
 }
 
 // 12, and then every word is settled.
-fn settle(bytes: &[u8], cache: &mut [u32]) -> Beginning
+fn settle(bytes: &[u8], cache: &mut [u32]) -> Result<(), BeginningRefusal>
     requires { length bytes.now < 2 ^ 10 }
     ensures { begun_by result cache.new ≡ begin12 bytes.now cache.old }
 {
     if cache.len() < MIN_WORDS {
-        return Beginning::ShortCache;
+        return Err(BeginningRefusal::ShortCache);
     }
-    clear(cache);
+    cache.fill(0);
     write_sizes(bytes.len(), cache);
     crate::bytes::write_bytes(bytes, cache);
-    Beginning::Ready
+    Ok(())
 }
 
 // Begins a cache for a grammar: every word is settled. Where it is refused, every word stays as it was.
-pub fn begin(grammar: &[u8], cache: &mut [u32]) -> Beginning
+pub fn begin(grammar: &[u8], cache: &mut [u32]) -> Result<(), BeginningRefusal>
     ensures { BeginDid grammar.now cache.old (beginning_number result) (beginning_place result) cache.new }
 {
-    let verdict = soundness::check(grammar);
-    match verdict {
-        Verdict::Refused(r) => Beginning::Refused(r),
-        Verdict::Sound => settle(grammar, cache),
-    }
+    soundness::check(grammar)?;
+    settle(grammar, cache)
 }
 
 // Whether a cache has begun for this grammar at this length: 13 is refused where it has not.

@@ -7,6 +7,6 @@ pub mod layout;
 pub mod slots;
 mod standing;
 
-pub use beginning::{Beginning, begin, is_begun};
+pub use beginning::{BeginningRefusal, begin, is_begun};
 pub use layout::MIN_WORDS;
-pub use standing::{Standing, stands};
+pub use standing::{CacheRefusal, stands};

@@ -1,28 +1,21 @@
 // The fields of a cache's words. Nothing is assumed of the words: a count above the most that is kept is read as that.
-ghost use Rattle.std.specs.Prelude.{◌≡◌, ◌+◌, ◌*◌, ◌≤◌, ◌<◌, length, take, drop};
-ghost use Rattle.std.proofs.lemmas.List.Edits.{sets};
+ghost use Rattle.std.specs.Prelude.{◌≡◌, ◌≤◌, ◌<◌, length};
+ghost use Rattle.std.specs.Option.{MatchOption};
 ghost use Rattle.grammar.specs.Limits.{max_kinds, max_nonterminals};
-ghost use Rattle.lookahead.specs.Closing.{same_list};
-ghost use Rattle.words.specs.Layout.{min_words, max_slots, slots, slot_at, step_at, configs_at};
-ghost use Rattle.words.specs.Words.{held, searched, start_of, step_of, decision, kept_count};
+ghost use Rattle.words.specs.Layout.{min_words, max_slots, slots, slot_at, step_at, full_word, state_word};
+ghost use Rattle.words.specs.Words.{held, searched, start_of, step_of, decision, kept_count, kept_words};
 
 use crate::layout::{
-    COUNT_AT, FIXED_WORDS, HELD_AT, MAX_SLOTS, SLOT_HEAD, SLOT_WORDS, STARTS_AT, STEPS_AT,
+    COUNT_AT, FIXED_WORDS, FULL, HELD_AT, MAX_SLOTS, SLOT_HEAD, SLOT_WORDS, STARTS_AT, STATES,
+    STEPS_AT,
 };
-use configurations::KEPT;
+use configurations::{CONFIG_WORDS, KEPT};
 
 // The slots of a cache of n words.
 pub fn slots(n: usize) -> usize
     ensures { result ≡ slots n }
 {
-    if n < FIXED_WORDS {
-        return 0;
-    }
-    let s = (n - FIXED_WORDS) / SLOT_WORDS;
-    if MAX_SLOTS < s {
-        return MAX_SLOTS;
-    }
-    s
+    (n.saturating_sub(FIXED_WORDS) / SLOT_WORDS).min(MAX_SLOTS)
 }
 
 // How many states are held.
@@ -46,12 +39,7 @@ pub fn searched(cache: &[u32]) -> usize
     requires { min_words ≤ length cache.now }
     ensures { result ≡ searched cache.now }
 {
-    let n = held(cache);
-    let most = slots(cache.len());
-    if n < most {
-        return n;
-    }
-    most
+    held(cache).min(slots(cache.len()))
 }
 
 // Where slot s begins.
@@ -68,14 +56,6 @@ pub fn step_at(s: usize, t: usize) -> usize
     ensures { result ≡ step_at s t }
 {
     slot_at(s) + (STEPS_AT + t)
-}
-
-// Where the configurations of slot s begin.
-pub fn configs_at(s: usize) -> usize
-    requires { s ≤ max_slots }
-    ensures { result ≡ configs_at s }
-{
-    slot_at(s) + SLOT_HEAD
 }
 
 // The decision of slot s.
@@ -95,40 +75,37 @@ pub fn step_of(cache: &[u32], s: usize, t: usize) -> u32
 }
 
 // How many configurations slot s keeps.
-pub fn kept_count(cache: &[u32], s: usize) -> usize
+fn kept_count(cache: &[u32], s: usize) -> usize
     requires { s < slots (length cache.now) }
     ensures { result ≡ kept_count cache.now s }
 {
-    let n = base::number(cache[slot_at(s) + COUNT_AT]);
-    if KEPT < n {
-        return KEPT;
-    }
-    n
+    base::number(cache[slot_at(s) + COUNT_AT]).min(KEPT)
 }
 
-// Whether the n words from `at` on are the first n of ws.
-pub fn same_words(cache: &[u32], at: usize, ws: &[u32], n: usize) -> bool
-    requires { (at + n ≤ length cache.now) × (n ≤ length ws.now) }
-    ensures { result ≡ same_list (take n (drop at cache.now)) (take n ws.now) }
+// The words of the configurations that slot s keeps.
+pub fn kept(cache: &[u32], s: usize) -> &[u32]
+    requires { s < slots (length cache.now) }
+    ensures { result.now ≡ kept_words cache.now s }
 {
-    let mut k = 0;
-    while k < n {
-        if cache[at + k] != ws[k] {
-            return false;
-        }
-        k += 1;
-    }
-    true
+    let from = slot_at(s) + SLOT_HEAD;
+    &cache[from..from + CONFIG_WORDS * kept_count(cache, s)]
 }
 
-// Stores the first n of ws from `at` on.
-pub fn store_words(cache: &mut [u32], at: usize, ws: &[u32], n: usize)
-    requires { (at + n ≤ length cache.old) × (n ≤ length ws.now) }
-    ensures { cache.new ≡ sets cache.old at (take n ws.now) }
+// The word that records state s.
+pub fn state_word(s: usize) -> u32
+    requires { s < max_slots }
+    ensures { result ≡ state_word s }
 {
-    let mut k = 0;
-    while k < n {
-        cache[at + k] = ws[k];
-        k += 1;
+    base::word(STATES + s)
+}
+
+// The state that a word records, if it records one: none is recorded by 0, an alternative or FULL.
+pub fn state_of(word: u32) -> Option<usize>
+    ensures { MatchOption result (word ≤ full_word) (λ s. word ≡ state_word s) }
+{
+    if word <= FULL {
+        None
+    } else {
+        Some(base::number(word) - STATES)
     }
 }

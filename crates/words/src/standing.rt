@@ -2,11 +2,9 @@
 ghost use Rattle.std.specs.Prelude.{◌≡◌};
 ghost use Rattle.words.specs.inside.Standings.{standing_of};
 
-// What may be done with a cache by a grammar.
-#[derive(Clone, Copy)]
-pub enum Standing {
-    // It has begun for the grammar at this length.
-    Begun,
+// Why a cache may not be used by a grammar. Where it may, it has begun for the grammar at this length.
+#[derive(Clone, Copy, Debug, PartialEq, Eq)]
+pub enum CacheRefusal {
     // 12: it is shorter than every cache.
     Short,
     // 13: it has not begun for the grammar at this length.
@@ -14,14 +12,14 @@ pub enum Standing {
 }
 
 // 12, and then 13.
-pub fn stands(grammar: &[u8], cache: &[u32]) -> Standing
+pub fn stands(grammar: &[u8], cache: &[u32]) -> Result<(), CacheRefusal>
     ensures { result ≡ standing_of grammar.now cache.now }
 {
     if cache.len() < crate::layout::MIN_WORDS {
-        return Standing::Short;
+        return Err(CacheRefusal::Short);
     }
     if !crate::beginning::is_begun(grammar, cache) {
-        return Standing::Foreign;
+        return Err(CacheRefusal::Foreign);
     }
-    Standing::Begun
+    Ok(())
 }

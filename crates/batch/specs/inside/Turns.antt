@@ -5,9 +5,8 @@ use Rattle.grammar.specs.inside.Tables.{grammar_in}
 use Rattle.derivation.specs.Gate.{at_gate, note_gate}
 use Rattle.derivation.specs.Plain.{refuse}
 use Rattle.derivation.specs.inside.Ready.{Ready}
-use Rattle.words.specs.declared.standing.Standing.{Standing}
-use Rattle.gate.specs.Reading.{reading_number, reading_place, reading_count}
-use Rattle.gate.specs.declared.reading.Reading.{Reading}
+use Rattle.words.specs.inside.Standings.{Standing}
+use Rattle.gate.specs.Reading.{Reading, reading_number, reading_place, reading_count}
 use Rattle.adaptive.specs.Quick.{Reply, reply}
 use Rattle.adaptive.specs.Calls.{Call, in_turn, last_words}
 use Rattle.quick.specs.inside.Replied.{LongEnough, over_standing}

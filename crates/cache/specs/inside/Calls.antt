@@ -1,5 +1,5 @@
 -- What the cache's calls may rely on.
-use Rattle.std.specs.Prelude.{◌≡◌, List, ℕ, ◌+◌, ◌*◌, ◌≤◌, ◌<◌, ◌^◌, length}
+use Rattle.std.specs.Prelude.{◌≡◌, List, ℕ, ◌+◌, ◌*◌, ◌%◌, ◌≤◌, ◌<◌, ◌^◌, length}
 use Rattle.grammar.specs.Limits.{max_kinds}
 use Rattle.grammar.specs.inside.Tables.{nonterminals_in, grammar_in}
 use Rattle.derivation.specs.inside.Ready.{Ready}
@@ -10,10 +10,10 @@ use Rattle.words.specs.Layout.{slot_words, max_slots, min_words, slots, slot_at}
 use Rattle.words.specs.Words.{held, step_of}
 
 -- ---- recording
--- n configurations of a state, whose words are the first of ws
-pub record KeptConfigs (n : ℕ) (ws : List ℕ) : Type 0 where
-  pub few : n ≤ max_kept
-  pub room : config_words * n ≤ length ws
+-- the words of no more configurations than may be kept
+pub record KeptConfigs (ws : List ℕ) : Type 0 where
+  pub few : length ws ≤ config_words * max_kept
+  pub whole : length ws % config_words ≡ 0
 
 -- slot s is the next one, and a state of decision a can be stored in it
 pub record Next (c : List ℕ) (s a : ℕ) : Type 0 where

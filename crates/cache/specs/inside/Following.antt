@@ -3,8 +3,7 @@ use Rattle.std.specs.Prelude.{◌≡◌, List, [], ℕ, ◌≤◌, ◌<◌, leng
 use Rattle.grammar.specs.Limits.{max_kinds, max_nonterminals, max_productions}
 use Rattle.grammar.specs.Grammar.{Grammar, alternatives}
 use Rattle.words.specs.Layout.{min_words, full_word}
-use Rattle.cache.specs.declared.prediction.Forecast.{Forecast}
-use Rattle.cache.specs.Predictor.{predicted}
+use Rattle.cache.specs.Predictor.{Forecast, predicted}
 use Rattle.cache.specs.Recording.{learned}
 use Rattle.cache.specs.Predict.{predict_from, predict}
 

@@ -1,10 +1,8 @@
 -- `cells::matches` meets its contract: behind the note's end there is no token, and before it the one that stands there is asked for.
-use native.Mathlib.Omega.{arith}
-use Rattle.cells.proofs.MatchLaws.{matches-end, matches-here}
+use borrow.Author.Tests.{tests}
+use Rattle.std.proofs.Common.{rules}
+use Rattle.cells.proofs.MatchLaws.{matches-asked}
 use Rattle.cells.proofs.matches.Goals as goal
 
-pub returns-then-note-i : goal.returns-then-note-i
-returns-then-note-i c = matches-end _ _ _ _ c.if-note-i.true
-
 pub returns : goal.returns
-returns c = matches-here _ _ _ _ (omega arith) c.index.ensures c.admits.ensures
+returns c = matches-asked _ _ _ _ _ _ (λ x p. search (rules, tests)) c.get.ensures.lookup c.is_some_and.ensures

@@ -1,36 +1,39 @@
 -- `cells::through` meets its contract: without members there is nothing, one member leads where its cell says, and a first
 -- one that leads everywhere up to the end leaves nothing for the others, because cells lead ahead.
 use native.Mathlib.Omega.{arith}
-use Rattle.cells.proofs.Spots.{spot_in}
+use Rattle.positions.proofs.MemberLaws.{loop-begins, turn-holds, turn-within, loop_on, loop-ends}
 use Rattle.cells.proofs.ThroughLaws.{no_member, one-member, everywhere, more-members}
 use Rattle.cells.proofs.through.Goals as goal
 
-pub returns-then-n-first : goal.returns-then-n-first
-returns-then-n-first c = no_member _ _ _ _ _ (omega (arith, c.requires.lent.short)) _ _ c.next-first.ensures c.if-n-first.true c.empty.ensures
+pub returns-in_default : goal.returns-in_default
+returns-in_default c =
+    let begun = loop-begins c.members-members.ensures (λ m h. h) in
+    let short = c.requires.lent.short in
+    let (m, l, x) = loop-ends begun c.in_default.ensures.steps (omega (arith, short)) in
+    no_member _ _ _ _ _ (omega (arith, short)) _ _ x l c.empty.ensures
 
-pub cell-r-requires : goal.cell-r-requires
-cell-r-requires c = spot_in _ _ _ _ _ c.requires.lent c.requires.within (omega arith)
-
-pub overflow_add-first : goal.overflow_add-first
-overflow_add-first c = omega (arith, c.requires.lent.short)
-
-pub returns-then-n-second : goal.returns-then-n-second
-returns-then-n-second c =
-    one-member _ _ _ _ _ (omega (arith, c.requires.lent.short)) _ _ _ c.next-first.ensures (omega arith) c.cell-r.ensures
-    c.next-second.ensures c.if-n-second.true
-
-pub full-requires : goal.full-requires
-full-requires c = omega (arith, c.requires.lent.short)
+pub returns-in_default-next : goal.returns-in_default-next
+returns-in_default-next c =
+    let begun = loop-begins c.members-members.ensures (λ m h. h) in
+    let step = c.in-Some.ensures.steps in
+    let short = c.requires.lent.short in
+    let (m, l, x) = loop-ends (loop_on begun step (λ m h. h)) c.in_default-next.ensures.steps (omega (arith, short)) in
+    one-member _ _ _ _ _ (omega (arith, short)) _ _ _ (turn-holds begun step) (turn-within begun step) c.cell-r.ensures x l
 
 pub returns-then-full : goal.returns-then-full
 returns-then-full c =
-    everywhere _ _ _ _ _ (omega (arith, c.requires.lent.short)) _ _ _ c.next-first.ensures (omega arith) c.cell-r.ensures
-    c.next-second.ensures c.requires.ahead c.full.ensures c.if-full.true
-
-pub onward-requires : goal.onward-requires
-onward-requires c = (c.requires.lent, c.requires.within)
+    let begun = loop-begins c.members-members.ensures (λ m h. h) in
+    let step = c.in-Some.ensures.steps in
+    let next = loop_on begun step (λ m h. h) in
+    let short = c.requires.lent.short in
+    everywhere _ _ _ _ _ (omega (arith, short)) _ _ _ (turn-holds begun step) (turn-within begun step) c.cell-r.ensures
+    (turn-holds next c.in-Some-next.ensures.steps) c.requires.ahead c.full.ensures c.if-full.true
 
 pub returns : goal.returns
 returns c =
-    more-members _ _ _ _ _ (omega (arith, c.requires.lent.short)) _ _ _ c.next-first.ensures (omega arith) c.cell-r.ensures
-    c.next-second.ensures _ c.onward.ensures
+    let begun = loop-begins c.members-members.ensures (λ m h. h) in
+    let step = c.in-Some.ensures.steps in
+    let next = loop_on begun step (λ m h. h) in
+    let short = c.requires.lent.short in
+    more-members _ _ _ _ _ (omega (arith, short)) _ _ _ (turn-holds begun step) (turn-within begun step) c.cell-r.ensures
+    (turn-holds next c.in-Some-next.ensures.steps) _ c.onward.ensures

@@ -12,6 +12,3 @@ invariant-loop-i l =
     × (length l.ws ≡ length l.initial.ws)
     × ChartedFrom l.tables l.note l.ws l.i
     × KeptBehind (grammar_in l.tables).size (length l.note) l.initial.ws l.ws
-
-abbrev pub decreases-loop-i : goal.decreases-loop-i
-decreases-loop-i l = l.i

@@ -11,6 +11,3 @@ abbrev pub invariant-loop-p : goal.invariant-loop-p
 invariant-loop-p l =
     (l.p ≤ l.places) × (length l.ws ≡ length l.initial.ws) × Written l.tables l.note l.i l.p l.ws
     × KeptBehind l.places (length l.note) l.initial.ws l.ws
-
-abbrev pub decreases-loop-p : goal.decreases-loop-p
-decreases-loop-p l = l.p

@@ -47,13 +47,20 @@ pub record Gathered (t rows : List ℕ) (led empty : ℕ) : Type 0 where
   pub headed : Headed (grammar_in t) (nonterminals_in t) led rows
   pub empties : Empties (grammar_in t) (nonterminals_in t) empty
 
--- what a pass that looks at rows first starts from: none of those that it judges has a production that passes where its row misses the set
-pub record Rowed (t rows : List ℕ) (candidates from : ℕ) : Type 0 where
+-- where a test turns a candidate away, no production of it passes
+abbrev pub TurnedAway : Bool → Grammar → ℕ → (ℕ → ℕ → Type 0) → Type 0
+TurnedAway tokens g candidates Away =
+    (x a : ℕ) → T (test_bit candidates a) → Away x a → deriving_round tokens g (test_bit x) a ≡ false
+
+-- what the closure starts from: nonterminals that derive, and those to be judged; one of neither has no production that passes, whatever else does, and none of
+-- those to be judged has one where a test turns it away
+pub record Begins (tokens : Bool) (t : List ℕ) (judged from : ℕ) (Away : ℕ → ℕ → Type 0) : Type 0 where
   pub fits : TablesFit t
-  pub long : length rows ≡ max_nonterminals
-  pub candidates-fit : Candidates (nonterminals_in t) candidates from
-  pub first : (a : ℕ) → T (test_bit candidates a) → (X : ℕ → Bool) → ((c : ℕ) → T (test_bit (get_or rows a 0) c) → X c ≡ false)
-      → deriving_round false (grammar_in t) X a ≡ false
+  pub derive : Derivers tokens (grammar_in t) from
+  pub few : (a : ℕ) → T (test_bit judged a) → a < nonterminals_in t
+  pub others : (a x : ℕ) → a < nonterminals_in t → test_bit judged a ≡ false → test_bit from a ≡ false
+      → deriving_round tokens (grammar_in t) (test_bit x) a ≡ false
+  pub away : (x a : ℕ) → T (test_bit judged a) → test_bit from a ≡ false → Away x a → deriving_round tokens (grammar_in t) (test_bit x) a ≡ false
 
 -- `need` is what a set must hold for every symbol of the list to pass; said of sets that miss some nonterminal
 unfoldable pub NeedIs : Bool → List Symbol → ℕ → Type 0
@@ -89,12 +96,6 @@ pub record Unnoted (t needs owners : List ℕ) : Type 0 where
   pub fits : TablesFit t
   pub needs-long : length needs ≡ row_words
   pub owners-none : owners ≡ replicate row_words 0
-
--- rows of full length of which `count` words are used
-pub record Rows (count : ℕ) (needs owners : List ℕ) : Type 0 where
-  pub used : count ≤ row_words
-  pub needs-long : length needs ≡ row_words
-  pub owners-long : length owners ≡ row_words
 
 -- the set x with the owners of those of the first k productions whose need it holds
 unfoldable pub round_of : List ℕ → List ℕ → ℕ → ℕ → ℕ

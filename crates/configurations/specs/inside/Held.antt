@@ -4,8 +4,8 @@ use Rattle.std.proofs.Math.Option.{Option, none, some}
 use Rattle.lookahead.specs.Configs.{Config}
 use Rattle.lookahead.specs.Closing.{max_members, max_kept}
 use Rattle.lookahead.specs.Order.{insert}
-use Rattle.configurations.specs.declared.members.Added.{Added}
-use Rattle.configurations.specs.declared.members.Added.TheVariants.{Count, Full}
+use Rattle.std.specs.Prelude.{Some, None}
+use Rattle.std.specs.Prelude as code
 use Rattle.configurations.specs.inside.Packed.{config_of, Exact, member_words, packed_at}
 
 -- the configuration at k
@@ -34,15 +34,19 @@ pub record MemberPart (ws : List ℕ) (f t : ℕ) : Type 0 where
   pub within : f ≤ t
   pub room : Room ws t
 
+-- how many members there are, or nothing where there would be too many, or one too deep
+abbrev pub Added : Type 0
+Added = code.Option ℕ
+
 -- the members after an answer
 unfoldable pub held_after : Added → List ℕ → Option (List Config)
 unfolding configs_from
-held_after (Count n) ws = some (configs_from ws 0 n)
-held_after Full ws = none
+held_after (Some n) ws = some (configs_from ws 0 n)
+held_after None ws = none
 
 unfoldable pub RoomAfter : Added → List ℕ → Type 0
-RoomAfter (Count n) ws = Room ws n
-RoomAfter Full ws = Unit {0}
+RoomAfter (Some n) ws = Room ws n
+RoomAfter None ws = Unit {0}
 
 -- the words hold these members, or there are none
 pub record Grows (r : Added) (ws : List ℕ) (ms : Option (List Config)) : Type 0 where
@@ -69,5 +73,5 @@ pub record Stands (ws : List ℕ) (f n : ℕ) (ks : List Config) : Type 0 where
 
 -- they do from the answered number on, or are more than 64
 unfoldable pub Sorted : Added → List ℕ → ℕ → List Config → Type 0
-Sorted (Count f) ws n ks = Stands ws f n ks
-Sorted Full ws n ks = max_kept < length ks
+Sorted (Some f) ws n ks = Stands ws f n ks
+Sorted None ws n ks = max_kept < length ks

@@ -1,43 +1,49 @@
 -- The goals of `ends::settle` that are not found.
-use mathlib.Core.Path.{refl, ap}
+use mathlib.Core.Path.{◌≡◌, ap}
 use native.Mathlib.Omega.{arith}
-use lib.ListN.{length}
+use Prim.Native.Nat.{◌<◌}
+use lib.ListN.{length, take}
+use Rattle.std.proofs.lemmas.List.{get_or-take, length-take-le}
 use Rattle.ends.proofs.LookLaws.{sound_none}
 use Rattle.ends.proofs.JudgedLaws.{judged-none, judged-on, judged-all}
 use Rattle.ends.proofs.settle.Goals as goal
+use Rattle.ends.proofs.settle.Goals.{In-loop-a}
 
-pub nonterminals-n-requires : goal.nonterminals-n-requires
-nonterminals-n-requires c = c.requires.row.ready.fits.long
+pub nonterminals-requires : goal.nonterminals-requires
+nonterminals-requires c = c.requires.row.ready.fits.long
 
-pub loop-k-init : goal.loop-k-init
-loop-k-init c =
+pub loop-a-init : goal.loop-a-init
+loop-a-init c =
     let row = c.requires.row in
     let empty = c.requires.empty in
     (ap length empty, judged-none _ _ _ _ row _ _ (rw empty (sound_none _ _ _ row.ready.fits.few)))
 
-pub offset_bounds-order-k : goal.offset_bounds-order-k
-offset_bounds-order-k c = omega (arith, c.nonterminals-n.ensures, c.requires.row.ready.fits.few)
-
-pub bounds-order-k : goal.bounds-order-k
-bounds-order-k c = omega (arith, c.nonterminals-n.ensures, c.requires.lined.room)
+-- the part of the order that is gone through has every nonterminal, and each in its place
+lined-up : (c : In-loop-a) → length (take c.nonterminals.result c.args.order.now) ≡ c.nonterminals.result
+lined-up c = length-take-le _ _ (omega (arith, c.nonterminals.ensures, c.requires.lined.room))
 
 pub look-requires : goal.look-requires
 look-requires c =
+    let l : c.loop-a.a-index < c.nonterminals.result = omega (arith, lined-up (goal.at.look-requires c).In-loop-a, c.loop-a-test.true) in
     record {
       row = c.requires.row;
-      long = c.loop-k.invariant.0;
-      named = c.requires.lined.lined.named _ (omega (arith, c.nonterminals-n.ensures));
+      long = c.loop-a.invariant.0;
+      named = rw (get_or-take c.nonterminals.result c.args.order.now c.loop-a.a-index 0 l)
+          (c.requires.lined.lined.named _ (omega (arith, c.nonterminals.ensures)));
     }
 
-pub loop-k-preserved : goal.loop-k-preserved
-loop-k-preserved c = (
-  omega (arith, c.loop-k.invariant.0),
-  judged-on _ _ _ _ c.requires.row _ c.requires.lined _ _ _ (omega (arith, c.nonterminals-n.ensures)) c.loop-k.invariant.1 refl
-      c.look.ensures,
-)
+pub loop-a-preserved : goal.loop-a-preserved
+loop-a-preserved c =
+    let l : c.loop-a.a-index < c.nonterminals.result = omega (arith, lined-up (goal.at.loop-a-preserved c).In-loop-a, c.loop-a-test.true) in (
+      omega (arith, c.loop-a.invariant.0),
+      judged-on _ _ _ _ c.requires.row _ c.requires.lined _ _ _ (omega (arith, c.nonterminals.ensures)) c.loop-a.invariant.1
+          (get_or-take c.nonterminals.result c.args.order.now c.loop-a.a-index 0 l) c.look.ensures,
+    )
 
 pub shape_of-ends : goal.shape_of-ends
-shape_of-ends c = omega (arith, c.loop-k.invariant.0, ap length c.requires.empty)
+shape_of-ends c = omega (arith, c.loop-a.invariant.0, ap length c.requires.empty)
 
 pub returns : goal.returns
-returns c = judged-all _ _ _ _ c.requires.row _ c.requires.lined _ _ (omega (arith, c.nonterminals-n.ensures)) c.loop-k.invariant.1
+returns c =
+    let l = length-take-le c.nonterminals.result c.args.order.now (omega (arith, c.nonterminals.ensures, c.requires.lined.room)) in
+    judged-all _ _ _ _ c.requires.row _ c.requires.lined _ _ (omega (arith, c.nonterminals.ensures, l, c.loop-a-test.false)) c.loop-a.invariant.1

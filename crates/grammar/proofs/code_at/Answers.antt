@@ -7,4 +7,4 @@ pub returns-then-p-gt-END_PLACE : goal.returns-then-p-gt-END_PLACE
 returns-then-p-gt-END_PLACE c = code-past _ _ (omega arith)
 
 pub returns : goal.returns
-returns c = code_in _ _ (omega arith) c.index.ensures
+returns c = code_in _ _ (omega arith) c.from.ensures

@@ -4,4 +4,4 @@ use Rattle.grammar.proofs.kinds.Goals as goal
 
 pub returns : goal.returns
 unfolding grammar_in
-returns c = c.index.ensures
+returns c = c.from.ensures

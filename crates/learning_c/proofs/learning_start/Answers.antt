@@ -4,10 +4,10 @@ use Rattle.learning_c.proofs.QuestionLaws.{start-refused, start-asked}
 use Rattle.learning_c.proofs.learning_start.Goals as goal
 
 pub start-requires : goal.start-requires
-start-requires c = let a = c.args in sound-ready a.grammar.now c.compile-verdict.ensures c.in-Sound.is
+start-requires c = let a = c.args in sound-ready a.grammar.now c.compile.ensures c.in-Ok.is
 
-pub returns-in-Refused : goal.returns-in-Refused
-returns-in-Refused c = start-refused _ _ c.compile-verdict.ensures _ c.in-Refused.is
+pub returns-in-Err : goal.returns-in-Err
+returns-in-Err c = start-refused _ _ c.compile.ensures _ c.in-Err.is
 
-pub returns-in-Sound : goal.returns-in-Sound
-returns-in-Sound c = start-asked _ _ c.compile-verdict.ensures c.in-Sound.is c.number.ensures c.start.ensures
+pub returns-in-Ok : goal.returns-in-Ok
+returns-in-Ok c = start-asked _ _ c.compile.ensures c.in-Ok.is c.number.ensures c.start.ensures

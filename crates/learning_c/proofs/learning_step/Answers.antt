@@ -4,12 +4,12 @@ use Rattle.learning_c.proofs.QuestionLaws.{step-refused, step-asked}
 use Rattle.learning_c.proofs.learning_step.Goals as goal
 
 pub step-requires : goal.step-requires
-step-requires c = let a = c.args in sound-ready a.grammar.now c.compile-verdict.ensures c.in-Sound.is
+step-requires c = let a = c.args in sound-ready a.grammar.now c.compile.ensures c.in-Ok.is
 
-pub returns-in-Refused : goal.returns-in-Refused
-returns-in-Refused c = step-refused _ _ c.compile-verdict.ensures _ _ c.in-Refused.is
+pub returns-in-Err : goal.returns-in-Err
+returns-in-Err c = step-refused _ _ c.compile.ensures _ _ c.in-Err.is
 
-pub returns-in-Sound : goal.returns-in-Sound
-returns-in-Sound c =
-    step-asked _ _ c.compile-verdict.ensures c.in-Sound.is c.number.ensures c.number-in-Sound.ensures
+pub returns-in-Ok : goal.returns-in-Ok
+returns-in-Ok c =
+    step-asked _ _ c.compile.ensures c.in-Ok.is c.number.ensures c.number-in-Ok.ensures
     c.step.ensures

@@ -1,5 +1,6 @@
 -- How the code finds the lowest alternative that serves: by which members of sets meet.
 use Rattle.std.specs.Prelude.{◌≡◌, Bool, false, ◌&&◌, List, ℕ, suc, ◌≤◌, length}
+use Rattle.std.specs.Prelude as prelude
 use Rattle.std.proofs.Math.Option.{Option, none, some}
 use Rattle.base.specs.Search.{lowest_from}
 use Rattle.grammar.specs.Grammar.{alternatives, first}
@@ -21,6 +22,11 @@ ends_in P ws i s (some f) = meets_of (set_at ws (spot P f i)) s
 abbrev pub or_zero : Option ℕ → ℕ
 or_zero none = 0
 or_zero (some b) = b
+
+-- what P says of an alternative as a number, said of one as the code has it
+abbrev pub Numbered : prelude.Option ℕ → (ℕ → Type 0) → Type 0
+Numbered prelude.None P = P 0
+Numbered (prelude.Some b) P = ¬ (b ≡ 0) × P b
 
 -- the lowest alternative of a by which a position in s can be come to from i, counted from 1; 0 for none
 unfoldable pub lowest_in : List ℕ → List ℕ → ℕ → ℕ → List ℕ → ℕ

@@ -10,12 +10,15 @@ use Rattle.derivation.specs.Runs.{marked, Serves}
 use Rattle.derivation.specs.Machine.{lowest}
 use Rattle.derivation.specs.inside.Frames.{returns_of}
 use Rattle.filtering.specs.inside.OpenStacks.{Open, Reached}
-use Rattle.machine.specs.inside.Choice.{or_zero}
+use Rattle.machine.specs.inside.Choice.{or_zero, Numbered}
 use Rattle.search.specs.inside.Words.{search_words, Kept}
 use Rattle.search.specs.inside.Searching.{Pair, Holds, state_of}
 use Rattle.search.specs.inside.Trials.{CameSoFar}
-use Rattle.search.specs.declared.words.Meter.{Meter}
+use Rattle.search.specs.declared.meter.Meter.{Meter}
 use Rattle.search.specs.declared.words.Size.{Size}
+use Rattle.search.specs.declared.words.Pair as code
+use Rattle.search.specs.declared.given.Search.{Search}
+use Rattle.opening.specs.declared.marks.Frames.{Frames}
 use Rattle.opening.specs.inside.Marks.{Marks}
 use Rattle.opening.specs.inside.Stacks.{Stacked, StackKept}
 use Rattle.opening.specs.declared.choice.Found.{Found}
@@ -28,11 +31,12 @@ pub record MayChoose (t w ms ws : List ℕ) (s : Size) (base d known a i : ℕ) 
   pub stack : Open (grammar_in t) a (returns_of ws base d)
   pub pair : Pair t w a i
 
--- as long as budget is left, the answer is the plain chooser's alternative, 0 for none, and so many frames have marks
+-- as long as budget is left, the answer is the plain chooser's alternative, if there is one, and so many frames have marks
 pub record Chosen (t w ms ws after : List ℕ) (base d known a i : ℕ) (m : Meter) (r : Found) : Type 0 where
   pub kept : StackKept t w ms ws after base known
   pub spent : r.meter.left ≤ m.left
-  pub chosen : 0 < r.meter.left → r.alternative ≡ or_zero (lowest (grammar_in t) (marked w) (returns_of ws base d) a i)
+  pub chosen : 0 < r.meter.left
+      → Numbered r.alternative (λ b. b ≡ or_zero (lowest (grammar_in t) (marked w) (returns_of ws base d) a i))
   pub few : r.known ≤ d
   pub marks : 0 < r.meter.left → Marks (grammar_in t) (marked w) after base r.known
   pub far : 0 < r.meter.left → ((b f : ℕ) → first (grammar_in t) a b ≡ some f → Reached (grammar_in t) (marked w) (f ∷ returns_of ws base d) i)
@@ -57,10 +61,27 @@ pub record AskedFor (t w ms ws after : List ℕ) (a i budget r : ℕ) : Type 0 w
   pub spent : r ≤ budget
   pub done : 0 < r → T ((state_of t w after).done a i)
 
--- if some alternative of a serves over an open stack, and the answer is not 0, it is the lowest that does
+-- c is the lowest alternative of a over every open stack over which some alternative serves; said of none but alternatives, which are not 0
+abbrev pub LowestWhere : List ℕ → List ℕ → ℕ → ℕ → ℕ → Type 0
+LowestWhere t w a i c = (S : List ℕ) → Open (grammar_in t) a S → (b : ℕ) → Serves (grammar_in t) (marked w) S a i b → ¬ (c ≡ 0)
+    → lowest (grammar_in t) (marked w) S a i ≡ some c
+
+-- if some alternative of a serves over an open stack, and one is told, it is the lowest that does
 pub record Taken (t w ms ws after : List ℕ) (a i budget : ℕ) (r : Pick) : Type 0 where
   pub kept : Kept (search_words (nonterminals_in t) (length w)) ws after
   pub holds : Holds t w ms after
   pub spent : r.left ≤ budget
-  pub taken : (S : List ℕ) → Open (grammar_in t) a S → (b : ℕ) → Serves (grammar_in t) (marked w) S a i b → ¬ (r.alternative ≡ 0)
-      → lowest (grammar_in t) (marked w) S a i ≡ some r.alternative
+  pub taken : Numbered r.alternative (LowestWhere t w a i)
+
+-- the same of what the code holds
+abbrev pub Chooses : Search → List ℕ → Frames → code.Pair → Type 0
+Chooses s ws o p = MayChoose s.tables.now s.note.now s.masks.now ws s.size o.base o.depth o.known p.nonterminal p.position
+
+abbrev pub ChosenBy : Search → List ℕ → List ℕ → Frames → code.Pair → Meter → Found → Type 0
+ChosenBy s ws after o p m r = Chosen s.tables.now s.note.now s.masks.now ws after o.base o.depth o.known p.nonterminal p.position m r
+
+abbrev pub AskedForBy : Search → List ℕ → List ℕ → code.Pair → ℕ → ℕ → Type 0
+AskedForBy s ws after p budget r = AskedFor s.tables.now s.note.now s.masks.now ws after p.nonterminal p.position budget r
+
+abbrev pub TakenBy : Search → List ℕ → List ℕ → code.Pair → ℕ → Pick → Type 0
+TakenBy s ws after p budget r = Taken s.tables.now s.note.now s.masks.now ws after p.nonterminal p.position budget r

@@ -1,6 +1,7 @@
 -- Where a production and where a set of positions leads, what that needs being worked out.
-use Rattle.std.specs.Prelude.{◌≡◌, List, ℕ, ◌≤◌, ◌<◌, T, length, ◌↔◌}
+use Rattle.std.specs.Prelude.{◌≡◌, List, ℕ, ◌≤◌, T, length, ◌↔◌, Result, IfOk}
 use Rattle.grammar.specs.inside.Tables.{grammar_in, nonterminals_in}
+use Rattle.positions.specs.declared.Positions.{Positions}
 use Rattle.positions.specs.inside.Positions.{member}
 use Rattle.derivation.specs.Runs.{marked}
 use Rattle.derivation.specs.inside.Reach.{Reach}
@@ -11,10 +12,12 @@ use Rattle.search.specs.inside.Searching.{Holds}
 use Rattle.search.specs.inside.Ways.{Went}
 use Rattle.search.specs.inside.Walks.{Within}
 use Rattle.search.specs.inside.Trials.{CameSoFar}
-use Rattle.search.specs.declared.words.Meter.{Meter}
+use Rattle.search.specs.declared.meter.Meter.{Meter}
+use Rattle.search.specs.declared.meter.Exhausted.{Exhausted}
+use Rattle.search.specs.declared.given.Search.{Search}
+use Rattle.search.specs.declared.words.Pair.{Pair}
+use Rattle.search.specs.declared.ways.Way.{Way}
 use Rattle.search.specs.declared.ways.Way.TheVariants.{Needs}
-use Rattle.opening.specs.declared.leading.Course.{Course}
-use Rattle.opening.specs.declared.leading.Scatter.{Scatter}
 
 -- pairs were worked out, and no word behind those of the search has changed
 pub record Worked (t w ms ws after : List ℕ) (m r : Meter) : Type 0 where
@@ -22,17 +25,30 @@ pub record Worked (t w ms ws after : List ℕ) (m r : Meter) : Type 0 where
   pub holds : Holds t w ms after
   pub spent : r.left ≤ m.left
 
--- from place p at position i, in the state that is left: if budget is left, this is where it leads, and nothing is needed any more
-pub record Led (t w ms ws after : List ℕ) (p i : ℕ) (m : Meter) (r : Course) : Type 0 where
-  pub worked : Worked t w ms ws after m r.meter
-  pub went : 0 < r.meter.left → Went t w ms after p i r.way
-  pub needs-none : 0 < r.meter.left → (b j : ℕ) → ¬ (r.way ≡ Needs b j)
-  pub far : 0 < r.meter.left → Reach (grammar_in t) (marked w) p i → CameSoFar t w ms ws m.high → CameSoFar t w ms after r.meter.high
+-- from place p at position i, in the state that is left, this is where it leads, and nothing is needed any more
+pub record LeadsThere (t w ms ws after : List ℕ) (p i high high' : ℕ) (way : Way) : Type 0 where
+  pub went : Went t w ms after p i way
+  pub needs-none : (n : Pair) → ¬ (way ≡ Needs n)
+  pub far : Reach (grammar_in t) (marked w) p i → CameSoFar t w ms ws high → CameSoFar t w ms after high'
 
--- from the positions of the set x at place p: if budget is left, its production ends in those of the answer
-pub record LedAll (t w ms ws after : List ℕ) (p : ℕ) (x : List ℕ) (m : Meter) (r : Scatter) : Type 0 where
-  pub worked : Worked t w ms ws after m r.meter
-  pub within : 0 < r.meter.left → Within w r.to.words
-  pub ends : 0 < r.meter.left → (j : ℕ) → EndsFrom (grammar_in t) (masks_in ms) (marked w) (λ i. T (member x i)) p j ↔ T (member r.to.words j)
-  pub far : 0 < r.meter.left → ((i : ℕ) → T (member x i) → Reach (grammar_in t) (marked w) p i) → CameSoFar t w ms ws m.high
-      → CameSoFar t w ms after r.meter.high
+-- that is known, or the budget is out
+pub record Led (t w ms ws after : List ℕ) (p i : ℕ) (m m' : Meter) (r : Result Way Exhausted) : Type 0 where
+  pub worked : Worked t w ms ws after m m'
+  pub there : IfOk r (λ way. LeadsThere t w ms ws after p i m.high m'.high way)
+
+-- from the positions of the set x at place p its production ends in those of the answer
+pub record SpreadsThere (t w ms ws after : List ℕ) (p : ℕ) (x : List ℕ) (high high' : ℕ) (to : Positions) : Type 0 where
+  pub within : Within w to.words
+  pub ends : (j : ℕ) → EndsFrom (grammar_in t) (masks_in ms) (marked w) (λ i. T (member x i)) p j ↔ T (member to.words j)
+  pub far : ((i : ℕ) → T (member x i) → Reach (grammar_in t) (marked w) p i) → CameSoFar t w ms ws high → CameSoFar t w ms after high'
+
+pub record LedAll (t w ms ws after : List ℕ) (p : ℕ) (x : List ℕ) (m m' : Meter) (r : Result Positions Exhausted) : Type 0 where
+  pub worked : Worked t w ms ws after m m'
+  pub there : IfOk r (λ to. SpreadsThere t w ms ws after p x m.high m'.high to)
+
+-- the same of what the code holds
+abbrev pub LedBy : Search → List ℕ → List ℕ → ℕ → ℕ → Meter → Meter → Result Way Exhausted → Type 0
+LedBy s ws after p i m m' r = Led s.tables.now s.note.now s.masks.now ws after p i m m' r
+
+abbrev pub LedAllBy : Search → List ℕ → List ℕ → ℕ → List ℕ → Meter → Meter → Result Positions Exhausted → Type 0
+LedAllBy s ws after p x m m' r = LedAll s.tables.now s.note.now s.masks.now ws after p x m m' r

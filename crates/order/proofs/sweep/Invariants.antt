@@ -1,7 +1,7 @@
 -- `order::sweep` meets its contract: whoever takes a place is ripe then, so the places stay lined up; if nobody took one, nobody was ripe, and that
 -- cannot be as long as somebody has no place.
 use mathlib.Core.Path.{◌≡◌}
-use Prim.Native.Nat.{◌-◌, ◌≤◌}
+use Prim.Native.Nat.{◌≤◌}
 use lib.ListN.{length}
 use Rattle.order.specs.inside.Placing.{Placing}
 use Rattle.order.proofs.SweepLaws.{NoneRipe}
@@ -13,6 +13,3 @@ invariant-loop-k l =
     × (l.initial.placed.count ≤ l.placed.count)
     × Placing l.tables l.order l.placed.set l.placed.count
     × (l.placed.count ≡ l.initial.placed.count → NoneRipe l.tables l.up l.n l.k l.placed.set)
-
-abbrev pub decreases-loop-k : goal.decreases-loop-k
-decreases-loop-k l = l.n - l.k

@@ -8,7 +8,7 @@ use Rattle.derivation.specs.Machine.{plainly, Ended, reading}
 use Rattle.machine.specs.inside.Ending.{Counted}
 use Rattle.machine.specs.inside.Going.{Ran}
 use Rattle.serving.specs.inside.Aids.{budget_in, Told, Tallied, Stage}
-use Rattle.plain.specs.declared.reading.Stop.{Stop}
+use Rattle.serving.specs.declared.running.Stop.{Stop}
 
 -- something was worked out to choose by; if a search has budget, the note is a sentence
 pub record MayRun (t w ms tally ws : List ℕ) : Type 0 where

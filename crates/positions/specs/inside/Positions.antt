@@ -39,20 +39,13 @@ union_of a b =
 abbrev pub all_words : (ℕ → ℕ) → ℕ
 all_words word = bit_or (bit_or (bit_or (bit_or (word 0) (word 1)) (word 2)) (word 3)) (word 4)
 
--- what two sets have in common in word k, and what only one of them has
+-- what two sets have in common in word k
 abbrev pub common : List ℕ → List ℕ → ℕ → ℕ
 common a b k = bit_and (get_or a k 0) (get_or b k 0)
-
-abbrev pub differing : List ℕ → List ℕ → ℕ → ℕ
-differing a b k = bit_xor (get_or a k 0) (get_or b k 0)
 
 -- two sets share a member
 unfoldable pub meets_of : List ℕ → List ℕ → Bool
 meets_of a b = not (eqb (all_words (common a b)) 0)
-
--- two sets have the same words
-unfoldable pub same_of : List ℕ → List ℕ → Bool
-same_of a b = eqb (all_words (differing a b)) 0
 
 -- r is the lowest bit of the word x from k on, or word_bits if there is none
 pub record FromBit (x k r : ℕ) : Type 0 where

@@ -8,7 +8,7 @@ use Rattle.machine.specs.inside.Ending.{Counted}
 use Rattle.machine.specs.inside.Going.{Ran}
 use Rattle.serving.specs.inside.Aids.{Tallied, Stage, Far}
 use Rattle.serving.specs.inside.Judging.{MayJudge}
-use Rattle.quick.specs.declared.running.Stop.{Stop}
+use Rattle.serving.specs.declared.running.Stop.{Stop}
 
 -- the end of the whole reading of note w over the words c, with room for so many alternatives
 abbrev pub quick_end : List ℕ → List ℕ → ℕ → List ℕ → Ended (List ℕ)

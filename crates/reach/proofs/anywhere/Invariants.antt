@@ -1,10 +1,7 @@
 -- `reach::anywhere` meets its contract: the union of the sets is made place by place.
-use Prim.Native.Nat.{◌≤◌, ◌-◌}
+use Prim.Native.Nat.{◌≤◌}
 use Rattle.reach.specs.inside.Sets.{Occupied}
 use Rattle.reach.proofs.anywhere.Given as goal
 
 abbrev pub invariant-loop-p : goal.invariant-loop-p
 invariant-loop-p l = (l.p ≤ l.places) × Occupied l.sets l.p l.all.words
-
-abbrev pub decreases-loop-p : goal.decreases-loop-p
-decreases-loop-p l = l.places - l.p

@@ -1,12 +1,9 @@
--- `reach::highest` meets its contract: no position behind the one that is looked at is a member.
+-- `reach::highest` meets its contract: no position from k on is a member.
 use mathlib.Core.Path.{◌≡◌}
-use Prim.Native.Nat.{◌≤◌}
+use mathlib.Core.Bool.{false}
+use Prim.Native.Nat.{ℕ, ◌≤◌}
 use Rattle.positions.specs.inside.Positions.{member}
-use Rattle.derivation.specs.ReachRounds.{highest_to}
 use Rattle.reach.proofs.highest.Given as goal
 
 abbrev pub invariant-loop-k : goal.invariant-loop-k
-invariant-loop-k l = (l.k ≤ l.n) × (highest_to (member l.s.words) l.k ≡ highest_to (member l.s.words) l.n)
-
-abbrev pub decreases-loop-k : goal.decreases-loop-k
-decreases-loop-k l = l.k
+invariant-loop-k l = (j : ℕ) → l.k ≤ j → j ≤ l.n → member l.s.words j ≡ false

@@ -1,8 +1,6 @@
 -- The goals of `reach::settle` that are not found.
-use mathlib.Core.Bool.{not}
-use mathlib.Core.Path.{refl, ◌∙◌, ap}
+use mathlib.Core.Path.{refl, ◌∙◌}
 use native.Mathlib.Omega.{arith}
-use borrow.Author.Tests.{not-true, not-false}
 use Rattle.positions.proofs.WordLaws.{total-le}
 use Rattle.reach.proofs.PassLaws.{grown-none, grown-both, settle-end, stepped-none}
 use Rattle.reach.proofs.settle.Goals as goal
@@ -15,18 +13,18 @@ pass-requires c =
     let start = c.requires in
     (record { given = start.given; here = start.here; long = c.loop-stepped.invariant.0 ∙ start.long }, c.loop-stepped.invariant.2)
 
-pub shape_of-sets-then-not-pass : goal.shape_of-sets-then-not-pass
-shape_of-sets-then-not-pass c = omega (arith, c.pass.auto.sets)
+pub shape_of-sets : goal.shape_of-sets
+shape_of-sets c = omega (arith, c.pass.auto.sets)
 
-pub returns-then-not-pass : goal.returns-then-not-pass
-returns-then-not-pass c = settle-end c.loop-stepped.invariant.1 c.pass.ensures (not-true _ (ap not c.if-not-pass.true))
+pub returns : goal.returns
+returns c = settle-end c.loop-stepped.invariant.1 c.pass.ensures c.loop-stepped-test.false
 
 pub loop-stepped-smaller : goal.loop-stepped-smaller
 loop-stepped-smaller c =
     let pass = c.pass in
     omega (
       arith,
-      pass.ensures.to.grown (not-false _ (ap not c.if-not-pass.false)),
+      pass.ensures.to.grown c.loop-stepped-test.true,
       pass.auto.sets,
       total-le pass.new.sets (λ i. (c.slice_known-in-loop-stepped-1.given i).fits),
     )

@@ -24,9 +24,6 @@ loop-i-init c = (
 pub settle-requires : goal.settle-requires
 settle-requires c = record { given = c.requires; here = omega arith; long = c.loop-i.invariant.1 }
 
-pub overflow_add-i : goal.overflow_add-i
-overflow_add-i c = omega (arith, c.requires.lent.short)
-
 pub loop-i-preserved : goal.loop-i-preserved
 loop-i-preserved c = (
   omega arith,

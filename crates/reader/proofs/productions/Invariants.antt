@@ -14,6 +14,3 @@ invariant-loop-k l =
     × (productions_of l.bytes l.kinds l.nonterminals l.owner (l.last - l.k) l.c.at l.p l.k l.tables
     ≡ productions_of l.bytes l.kinds l.nonterminals l.owner l.count l.initial.c.at l.first l.production l.initial.tables)
     × Tallied l.bytes l.c
-
-abbrev pub decreases-loop-k : goal.decreases-loop-k
-decreases-loop-k l = l.last - l.k

@@ -1,6 +1,6 @@
 -- The goals of `reader::rules` that are not found.
 use native.Mathlib.Omega.{arith}
-use mathlib.Core.Path.{refl}
+use mathlib.Core.Path.{◌≡◌, refl}
 use native.Mathlib.Nat.{sub-zero}
 use lib.ListN.{length-set}
 use Rattle.number.proofs.NumberLaws.{limited-is}
@@ -48,4 +48,6 @@ loop-a-preserved c =
     )
 
 pub returns : goal.returns
-returns c = rules-done _ _ _ _ _ _ _ _ _ c.loop-a.invariant.5 (omega arith) c.narrow-2.ensures c.loop-a.invariant.4
+returns c =
+    let e : c.loop-a.a ≡ c.args.nonterminals = omega arith in
+    rules-done _ _ _ _ _ _ _ _ _ c.loop-a.invariant.5 (omega arith) c.narrow-2.ensures (rw e at c.loop-a.invariant.4)

@@ -14,6 +14,3 @@ invariant-loop-a l =
     × (nonterminals_of l.bytes l.kinds l.nonterminals l.a (l.nonterminals - l.a) l.c.at l.p l.k l.tables
     ≡ nonterminals_of l.bytes l.kinds l.nonterminals 0 l.nonterminals l.initial.c.at 0 0 l.initial.tables)
     × Tallied l.bytes l.c
-
-abbrev pub decreases-loop-a : goal.decreases-loop-a
-decreases-loop-a l = l.nonterminals - l.a

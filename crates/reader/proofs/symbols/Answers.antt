@@ -1,8 +1,8 @@
 -- The goals of `reader::symbols` that are not found.
 use native.Mathlib.Omega.{arith}
 use borrow.Author.Rules.{rules}
-use mathlib.Core.Path.{refl, ◌∙◌}
-use Prim.Native.Nat.{◌-◌}
+use mathlib.Core.Path.{◌≡◌, refl, ◌∙◌}
+use Prim.Native.Nat.{◌+◌, ◌-◌}
 use lib.ListN.{length-set}
 use Rattle.grammar.specs.inside.Tables.{codes}
 use Rattle.number.proofs.NumberLaws.{symbol_low}
@@ -31,4 +31,6 @@ loop-p-preserved c = (
 )
 
 pub returns : goal.returns
-returns c = symbols-done _ _ _ _ _ _ _ _ c.loop-p.invariant.3 (omega arith) c.loop-p.invariant.2 c.end_word.ensures
+returns c =
+    let e : c.loop-p.p ≡ c.args.first + c.args.count = omega arith in
+    symbols-done _ _ _ _ _ _ _ _ c.loop-p.invariant.3 (omega arith) (rw e at c.loop-p.invariant.2) c.end_word.ensures

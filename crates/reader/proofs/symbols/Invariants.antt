@@ -13,6 +13,3 @@ invariant-loop-p l =
     × (symbols_of l.bytes l.kinds l.nonterminals l.owner (l.end - l.p) l.c.at l.p l.tables
     ≡ symbols_of l.bytes l.kinds l.nonterminals l.owner l.count l.initial.c.at l.first l.initial.tables)
     × Tallied l.bytes l.c
-
-abbrev pub decreases-loop-p : goal.decreases-loop-p
-decreases-loop-p l = l.end - l.p

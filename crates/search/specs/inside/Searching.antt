@@ -13,6 +13,8 @@ use Rattle.first_follow.specs.inside.Words.{nullable_at, mask_words, masks_in}
 use Rattle.filtering.specs.inside.Known as known
 use Rattle.search.specs.inside.Words.{pair_set, search_words, state_in}
 use Rattle.search.specs.declared.words.Size.{Size}
+use Rattle.search.specs.declared.words.Pair as code
+use Rattle.search.specs.declared.given.Search.{Search}
 use Rattle.search.specs.declared.replies.Reply.{Reply}
 use Rattle.search.specs.declared.replies.Reply.TheVariants.{Unknown, Nowhere, Only, Several}
 
@@ -71,3 +73,10 @@ reply_in set Several = known.among (member set)
 -- r is what is known of pair (a, i)
 abbrev pub KnownIs : List ℕ → List ℕ → List ℕ → List ℕ → ℕ → ℕ → Reply → Type 0
 KnownIs t w ms ws a i r = reply_in (set_of t w ws a i) r ≡ known.known (masks_in ms) (marked w) (state_of t w ws) a i
+
+-- the same of what the code holds
+abbrev pub Asks : Search → List ℕ → code.Pair → Type 0
+Asks s ws p = MayAsk s.tables.now s.note.now s.masks.now ws s.size p.nonterminal p.position
+
+abbrev pub KnownBy : Search → List ℕ → code.Pair → Reply → Type 0
+KnownBy s ws p r = KnownIs s.tables.now s.note.now s.masks.now ws p.nonterminal p.position r

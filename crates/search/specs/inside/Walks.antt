@@ -1,9 +1,10 @@
 -- Where a set of positions leads, over one symbol and along a production.
-use Rattle.std.specs.Prelude.{◌≡◌, ◌↔◌, ◌⊎◌, List, ℕ, ◌≤◌, ◌<◌, T, length}
+use Rattle.std.specs.Prelude.{◌≡◌, ◌↔◌, ◌⊎◌, List, ℕ, ◌≤◌, ◌<◌, T, length, Result, Ok, Err}
 use Rattle.grammar.specs.declared.Symbol.{Symbol}
 use Rattle.grammar.specs.declared.Symbol.TheVariants.{Nonterminal, End}
 use Rattle.grammar.specs.Grammar.{facing}
 use Rattle.grammar.specs.inside.Tables.{grammar_in, nonterminals_in}
+use Rattle.positions.specs.declared.Positions.{Positions}
 use Rattle.positions.specs.inside.Positions.{member}
 use Rattle.derivation.specs.Runs.{marked}
 use Rattle.first_follow.specs.inside.Words.{masks_in}
@@ -11,10 +12,10 @@ use Rattle.filtering.specs.inside.Filtered.{EndsFrom, Leads}
 use Rattle.filtering.specs.inside.Cover as cover
 use Rattle.search.specs.inside.Searching.{Searching, Sized, state_of}
 use Rattle.search.specs.declared.words.Size.{Size}
-use Rattle.search.specs.declared.words.Meter.{Meter}
-use Rattle.search.specs.declared.walking.Passage.{Passage}
-use Rattle.search.specs.declared.walking.Walked.{Walked}
-use Rattle.search.specs.declared.walking.Walked.TheVariants.{To, Needs, Out}
+use Rattle.search.specs.declared.meter.Meter.{Meter}
+use Rattle.search.specs.declared.given.Search.{Search}
+use Rattle.search.specs.declared.walking.Halt.{Halt}
+use Rattle.search.specs.declared.walking.Halt.TheVariants.{Needs, Out}
 
 -- a set of positions of the note
 abbrev pub Within : List ℕ → List ℕ → Type 0
@@ -66,16 +67,16 @@ module _ (t w ms ws : List ℕ) (p : ℕ) (x : List ℕ) where
     pub low : cover.Covered (grammar_in t) (masks_in ms) (marked w) (state_of t w ws).done high → ((m : ℕ) → T (member x m) → m ≤ high)
         → (m : ℕ) → T (member y m) → m ≤ after
 
-  abbrev pub PassedTo : ℕ → Walked → List ℕ → ℕ → Type 0
-  PassedTo high To y after = LedTo high after y
-  PassedTo high (Needs b j) y after = WantsPair b j
-  PassedTo high Out y after = Unit {0}
+  abbrev pub PassedTo : ℕ → Result Positions Halt → ℕ → Type 0
+  PassedTo high (Ok y) after = LedTo high after y.words
+  PassedTo high (Err (Needs n)) after = WantsPair n.nonterminal n.position
+  PassedTo high (Err Out) after = Unit {0}
 
   -- over one symbol
-  pub record Passed (m : Meter) (r : Passage) : Type 0 where
-    pub spent : Spent m r.meter
-    pub raised : Raised m.high r.meter.high
-    pub passed : PassedTo m.high r.walked r.to.words r.meter.high
+  pub record Passed (m after : Meter) (r : Result Positions Halt) : Type 0 where
+    pub spent : Spent m after
+    pub raised : Raised m.high after.high
+    pub passed : PassedTo m.high r after.high
 
   -- the production of place p ends in the members of y, from members of x; and that is covered, where all that is worked out is
   pub record EndsIn (high after : ℕ) (y : List ℕ) : Type 0 where
@@ -84,13 +85,26 @@ module _ (t w ms ws : List ℕ) (p : ℕ) (x : List ℕ) where
     pub cover : cover.Covered (grammar_in t) (masks_in ms) (marked w) (state_of t w ws).done high → ((m : ℕ) → T (member x m) → m ≤ high)
         → (m : ℕ) → T (member x m) → cover.CoveredFrom (grammar_in t) (masks_in ms) (marked w) (state_of t w ws).done after p m
 
-  abbrev pub WalkedTo : ℕ → Walked → List ℕ → ℕ → Type 0
-  WalkedTo high To y after = EndsIn high after y
-  WalkedTo high (Needs b j) y after = WantsPair b j
-  WalkedTo high Out y after = Unit {0}
+  abbrev pub WalkedTo : ℕ → Result Positions Halt → ℕ → Type 0
+  WalkedTo high (Ok y) after = EndsIn high after y.words
+  WalkedTo high (Err (Needs n)) after = WantsPair n.nonterminal n.position
+  WalkedTo high (Err Out) after = Unit {0}
 
   -- along the production
-  pub record DidWalk (m : Meter) (r : Passage) : Type 0 where
-    pub spent : Spent m r.meter
-    pub raised : Raised m.high r.meter.high
-    pub walked : WalkedTo m.high r.walked r.to.words r.meter.high
+  pub record DidWalk (m after : Meter) (r : Result Positions Halt) : Type 0 where
+    pub spent : Spent m after
+    pub raised : Raised m.high after.high
+    pub walked : WalkedTo m.high r after.high
+
+-- the same of what the code holds
+abbrev pub WalksFrom : Search → List ℕ → ℕ → List ℕ → Type 0
+WalksFrom s ws p x = MayWalk s.tables.now s.note.now s.masks.now ws s.size p x
+
+abbrev pub Passes : Search → List ℕ → ℕ → List ℕ → Symbol → Type 0
+Passes s ws p x symbol = MayPass s.tables.now s.note.now s.masks.now ws s.size p x symbol
+
+abbrev pub PassedBy : Search → List ℕ → ℕ → List ℕ → Meter → Meter → Result Positions Halt → Type 0
+PassedBy s ws p x m after r = Passed s.tables.now s.note.now s.masks.now ws p x m after r
+
+abbrev pub WalkedBy : Search → List ℕ → ℕ → List ℕ → Meter → Meter → Result Positions Halt → Type 0
+WalkedBy s ws p x m after r = DidWalk s.tables.now s.note.now s.masks.now ws p x m after r

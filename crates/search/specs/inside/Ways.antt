@@ -11,6 +11,7 @@ use Rattle.filtering.specs.inside.Cover.{Walks, CoveredFrom}
 use Rattle.filtering.specs.inside.Turns.{RestFrom}
 use Rattle.search.specs.inside.Searching.{Searching, Sized, state_of, set_of}
 use Rattle.search.specs.declared.words.Size.{Size}
+use Rattle.search.specs.declared.given.Search.{Search}
 use Rattle.search.specs.declared.ways.Way.{Way}
 use Rattle.search.specs.declared.ways.Way.TheVariants.{Ends, Nowhere, Needs, Several}
 
@@ -69,5 +70,12 @@ module _ (t w ms ws : List ℕ) (f i : ℕ) where
   abbrev pub Went : Way → Type 0
   Went (Ends j) = EndsAt j
   Went (Nowhere j) = EndsNowhere j
-  Went (Needs b j) = Lacks b j
-  Went (Several q b j) = GoesOn q b j
+  Went (Needs p) = Lacks p.nonterminal p.position
+  Went (Several q p) = GoesOn q p.nonterminal p.position
+
+-- the same of what the code holds
+abbrev pub Goes : Search → List ℕ → ℕ → ℕ → Type 0
+Goes s ws f i = MayGo s.tables.now s.note.now s.masks.now ws s.size f i
+
+abbrev pub WentBy : Search → List ℕ → ℕ → ℕ → Way → Type 0
+WentBy s ws f i r = Went s.tables.now s.note.now s.masks.now ws f i r

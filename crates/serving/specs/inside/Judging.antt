@@ -10,6 +10,7 @@ use Rattle.filtering.specs.inside.Known as known
 use Rattle.search.specs.inside.Searching.{Searching, Sized, state_of, set_of, reply_in}
 use Rattle.search.specs.inside.Trials.{CameSoFar}
 use Rattle.search.specs.declared.words.Size.{Size}
+use Rattle.search.specs.declared.given.Search.{Search}
 use Rattle.search.specs.declared.replies.Reply.{Reply}
 use Rattle.serving.specs.inside.Aids.{budget_in, high_in, Stage, Far, Tallied, Told}
 use Rattle.serving.specs.declared.judging.Judged.{Judged}
@@ -55,3 +56,10 @@ pub record Judges (t w ms tally ws ms' tally' after : List ℕ) (r : Judged) : T
 -- the note's end is among the ends that a reply tells
 abbrev pub tells_end : List ℕ → List ℕ → List ℕ → Reply → Bool
 tells_end t w ws r = known.tells (reply_in (set_of t w ws 0 0) r) (length w)
+
+-- the same of what the code holds
+abbrev pub StartsFrom : Search → List ℕ → List ℕ → Type 0
+StartsFrom s tally ws = MayStart s.tables.now s.note.now s.masks.now tally ws s.size
+
+abbrev pub StartedBy : Search → List ℕ → List ℕ → List ℕ → List ℕ → Type 0
+StartedBy s tally ws tally' after = Started s.tables.now s.note.now s.masks.now tally ws tally' after

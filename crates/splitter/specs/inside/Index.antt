@@ -1,11 +1,8 @@
 -- The index of a list's words: where each stands, and for each bucket of words that may be equal a chain through them.
 use Rattle.std.specs.Prelude.{◌≡◌, ℕ, zero, suc, ◌+◌, ◌*◌, ◌-◌, ◌%◌, ◌≤◌, ◌<◌, true, false, List, [], ◌∷◌, ◌++◌, length, get_or, take, drop}
-use Rattle.std.proofs.Math.Option.{none, some}
 use Rattle.splitter.specs.Classes.{word_byte?}
-use Rattle.splitter.specs.Listing.{max_listed, word_run, list_of, among?}
+use Rattle.splitter.specs.Listing.{max_listed, word_run, among?}
 use Rattle.splitter.specs.declared.runs.Run.{Run}
-use Rattle.splitter.specs.declared.listing.Listing.{Listing}
-use Rattle.splitter.specs.declared.listing.Listing.TheVariants.{Words, Bad}
 
 -- the buckets, and the lengths of the two rows of the index
 abbrev pub buckets : ℕ
@@ -64,7 +61,7 @@ pub record Indexed (list starts links : List ℕ) (n : ℕ) : Type 0 where
   pub back : (k : ℕ) → k < n → get_or links k 0 ≤ k
   pub heads : (h : ℕ) → h < buckets → get_or links (max_listed + h) 0 ≤ n
   -- every word is on its bucket's chain
-  pub chained : (k : ℕ) → k < n → OnChain links n k (get_or links (max_listed + bucket_from 0 (word_at list starts k)) 0)
+  pub chained : (k : ℕ) → k < n → ∥ OnChain links n k (get_or links (max_listed + bucket_from 0 (word_at list starts k)) 0) ∥₁
   -- no word is one of those before it
   pub distinct : (k : ℕ) → k < n → among? (words_at list starts k) (word_at list starts k) ≡ false
 
@@ -80,8 +77,3 @@ pub record Added (list starts starts' links' : List ℕ) (n i e : ℕ) : Type 0 
   pub indexed : Indexed list starts' links' (suc n)
   pub words : words_at list starts' (suc n) ≡ words_at list starts n ++ (word_run (drop i list) ∷ [])
   pub next : get_or starts' (suc n) 0 ≡ suc e
-
--- what reading a list answers, and the index that it leaves
-unfoldable pub ListingDid : List ℕ → List ℕ → List ℕ → Listing → Type 0
-ListingDid list starts links (Words n) = Indexed list starts links n × (some (words_at list starts n) ≡ list_of list)
-ListingDid list starts links Bad = none ≡ list_of list

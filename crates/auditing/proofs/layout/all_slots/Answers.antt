@@ -1,19 +1,20 @@
--- The goals of `auditing::layout::all_slots` that are not found.
-use mathlib.Core.Bool.{not}
-use mathlib.Core.Path.{ap}
+-- `auditing::layout::all_slots` meets its contract: the slots are asked one after another.
+use borrow.Author.Tests.{tests}
+use mathlib.Core.Path.{refl, ◌∙◌}
 use native.Mathlib.Omega.{arith}
-use Rattle.base.proofs.Booleans.{failed, passed}
-use Rattle.base.proofs.AllLaws.{all-begin, all-next, all-fails, all_done}
+use Prim.Native.Nat.{ℕ}
+use mathlib.Core.Bool.{Bool}
+use Rattle.std.proofs.Common.{rules}
+use Rattle.std.proofs.lemmas.Iterator.{YieldsList-from_range}
+use Rattle.std.proofs.lemmas.Iterator.Search.{all_from_yields_List}
+use Rattle.grammar.specs.inside.Tables.{grammar_in}
+use Rattle.auditing.specs.Coherence.{slot?}
+use Rattle.auditing.proofs.LayoutSteps.{all-range}
 use Rattle.auditing.proofs.layout.all_slots.Goals as goal
 
-pub loop-s-init : goal.loop-s-init
-loop-s-init c = all-begin _ _
-
-pub returns-then-not-slot : goal.returns-then-not-slot
-returns-then-not-slot c = all-fails _ _ _ (omega arith) (failed c.slot.ensures (ap not c.if-not-slot.true)) c.loop-s.invariant
-
-pub loop-s-preserved : goal.loop-s-preserved
-loop-s-preserved c = all-next _ _ _ (omega arith) (passed c.slot.ensures (ap not c.if-not-slot.false)) c.loop-s.invariant
-
 pub returns : goal.returns
-returns c = all_done _ _ _ (omega arith) c.loop-s.invariant
+returns c =
+    let P : ℕ → Bool = slot? (grammar_in c.args.tables.now) c.args.cache.now in
+    all_from_yields_List P _ _ c.all.result c.all.ensures.ran (YieldsList-from_range 0 c.args.held c.args.held refl (omega arith))
+    (λ x b q k. search (rules, tests))
+    ∙ all-range P 0 c.args.held

@@ -8,7 +8,4 @@ use Rattle.auditing.proofs.KeptSteps.{FitBelow}
 use Rattle.auditing.proofs.layout.kept.Given as goal
 
 abbrev pub invariant-loop-k : goal.invariant-loop-k
-invariant-loop-k l = (all_from (in_order? l.ws) l.k (l.n - l.k) ≡ kept? l.ws) × FitBelow l.ws l.k
-
-abbrev pub decreases-loop-k : goal.decreases-loop-k
-decreases-loop-k l = l.n - l.k
+invariant-loop-k l = (all_from (in_order? l.words) l.k (l.k-end - l.k) ≡ kept? l.words) × FitBelow l.words l.k

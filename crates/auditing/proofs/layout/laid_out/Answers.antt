@@ -1,8 +1,9 @@
 -- `auditing::layout::laid_out` meets its contract: the number of states, the words before the slots, those behind the last held one, and then slot by slot.
 use mathlib.Core.Bool.{not}
 use mathlib.Core.Path.{refl, ap}
+use lib.ListN.{length}
 use native.Mathlib.Omega.{arith}
-use Rattle.auditing.proofs.LayoutSteps.{slots-few, states-many, fixed-used, rest-used, slots-decide}
+use Rattle.auditing.proofs.LayoutSteps.{part-zeros, slots-end, slots-few, states-many, fixed-used, rest-used, slots-decide}
 use Rattle.auditing.proofs.layout.laid_out.Goals as goal
 
 pub returns-then-slots-held : goal.returns-then-slots-held
@@ -14,12 +15,25 @@ returns-then-not-fixed c = fixed-used _ _ _ c.held-held.ensures c.slots.ensures 
 pub slot_at-requires : goal.slot_at-requires
 slot_at-requires c = slots-few _ c.slots.ensures (omega arith)
 
+pub offset_bounds-cache-slot_at : goal.offset_bounds-cache-slot_at
+offset_bounds-cache-slot_at c = omega (arith, slots-end _ c.slots.ensures (omega arith) c.slot_at.ensures (omega arith))
+
+pub slice_bounds-zeros-count : goal.slice_bounds-zeros-count
+slice_bounds-zeros-count c = omega (arith, slots-end _ c.slots.ensures (omega arith) c.slot_at.ensures (omega arith))
+
+pub slice_bounds-zeros-start : goal.slice_bounds-zeros-start
+slice_bounds-zeros-start c = omega (arith, slots-end _ c.slots.ensures (omega arith) c.slot_at.ensures (omega arith))
+
 pub returns-then-not-zeros : goal.returns-then-not-zeros
 returns-then-not-zeros c =
     rest-used _ _ _ c.held-held.ensures c.slots.ensures (omega arith) c.fixed.ensures (ap not c.if-not-fixed.false)
-    c.slot_at.ensures refl c.zeros.ensures (ap not c.if-not-zeros.true)
+    c.slot_at.ensures refl
+    (part-zeros _ _ (length c.args.cache.now) (slots-end _ c.slots.ensures (omega arith) c.slot_at.ensures (omega arith)) (omega arith) c.zeros.ensures)
+    (ap not c.if-not-zeros.true)
 
 pub returns : goal.returns
 returns c =
     slots-decide _ _ _ c.held-held.ensures c.slots.ensures (omega arith) c.fixed.ensures (ap not c.if-not-fixed.false)
-    c.slot_at.ensures refl c.zeros.ensures (ap not c.if-not-zeros.false) c.all_slots.ensures
+    c.slot_at.ensures refl
+    (part-zeros _ _ (length c.args.cache.now) (slots-end _ c.slots.ensures (omega arith) c.slot_at.ensures (omega arith)) (omega arith) c.zeros.ensures)
+    (ap not c.if-not-zeros.false) c.all_slots.ensures

@@ -5,7 +5,7 @@ use lib.ListN.{length}
 use native.Mathlib.Omega.{arith}
 use Rattle.words.proofs.SlotLaws.{slot-few}
 use Rattle.words.proofs.WordLaws.{slot-within}
-use Rattle.auditing.proofs.LayoutSteps.{ready-kinds, no-decision, nothing-kept, too_many, not-kept, steps-used, behind-decides}
+use Rattle.auditing.proofs.LayoutSteps.{part-zeros, ready-kinds, no-decision, nothing-kept, too_many, not-kept, steps-used, behind-decides}
 use Rattle.auditing.proofs.layout.slot.Goals as goal
 
 pub returns-then-not-decides : goal.returns-then-not-decides
@@ -70,24 +70,37 @@ overflow_add-steps c =
     let few = ready-kinds c.requires.0 in
     omega (arith, c.step_at-steps.ensures, c.kinds.ensures)
 
-pub zeros-requires : goal.zeros-requires
-zeros-requires c =
+pub offset_bounds-cache-steps : goal.offset_bounds-cache-steps
+offset_bounds-cache-steps c =
     let inside = slot-within (length c.args.cache.now) c.args.s c.requires.1 in
-    omega (arith, c.slot_at-at.ensures)
+    let few = ready-kinds c.requires.0 in
+    omega (arith, c.step_at-steps.ensures, c.kinds.ensures)
+
+pub slice_bounds-zeros-count : goal.slice_bounds-zeros-count
+slice_bounds-zeros-count c =
+    let few = ready-kinds c.requires.0 in
+    omega (arith, c.step_at-steps.ensures, c.kinds.ensures, c.slot_at-at.ensures)
+
+pub slice_bounds-zeros-start : goal.slice_bounds-zeros-start
+slice_bounds-zeros-start c =
+    let few = ready-kinds c.requires.0 in
+    omega (arith, c.step_at-steps.ensures, c.kinds.ensures, c.slot_at-at.ensures)
 
 pub returns-then-not-zeros : goal.returns-then-not-zeros
 returns-then-not-zeros c =
     steps-used _ _ _ c.decision.ensures c.decides.ensures (ap not c.if-not-decides.false) c.slot_at-at.ensures
     refl c.number-n.ensures (omega arith) (omega arith) refl refl c.kept.ensures (ap not c.if-not-kept.false)
-    (omega (arith, c.step_at-steps.ensures, c.kinds.ensures)) c.zeros.ensures (ap not c.if-not-zeros.true)
+    (omega (arith, c.step_at-steps.ensures, c.kinds.ensures))
+    (part-zeros _ _ _ (omega (arith, ready-kinds c.requires.0, c.step_at-steps.ensures, c.kinds.ensures, c.slot_at-at.ensures))
+    (omega (arith, slot-within (length c.args.cache.now) c.args.s c.requires.1, c.slot_at-at.ensures)) c.zeros.ensures) (ap not c.if-not-zeros.true)
 
 pub overflow_add-at-2 : goal.overflow_add-at-2
 overflow_add-at-2 c =
     let inside = slot-within (length c.args.cache.now) c.args.s c.requires.1 in
     omega (arith, c.slot_at-at.ensures)
 
-pub zeros-requires-2 : goal.zeros-requires-2
-zeros-requires-2 c =
+pub slice_bounds-zeros-end-2 : goal.slice_bounds-zeros-end-2
+slice_bounds-zeros-end-2 c =
     let inside = slot-within (length c.args.cache.now) c.args.s c.requires.1 in
     omega (arith, c.slot_at-at.ensures)
 
@@ -95,5 +108,7 @@ pub returns : goal.returns
 returns c =
     behind-decides _ _ _ c.decision.ensures c.decides.ensures (ap not c.if-not-decides.false) c.slot_at-at.ensures
     refl c.number-n.ensures (omega arith) (omega arith) refl refl c.kept.ensures (ap not c.if-not-kept.false)
-    (omega (arith, c.step_at-steps.ensures, c.kinds.ensures)) c.zeros.ensures (ap not c.if-not-zeros.false)
-    refl c.zeros-2.ensures
+    (omega (arith, c.step_at-steps.ensures, c.kinds.ensures))
+    (part-zeros _ _ _ (omega (arith, ready-kinds c.requires.0, c.step_at-steps.ensures, c.kinds.ensures, c.slot_at-at.ensures))
+    (omega (arith, slot-within (length c.args.cache.now) c.args.s c.requires.1, c.slot_at-at.ensures)) c.zeros.ensures) (ap not c.if-not-zeros.false)
+    refl (part-zeros _ _ _ (omega arith) (omega (arith, slot-within (length c.args.cache.now) c.args.s c.requires.1, c.slot_at-at.ensures)) c.zeros-2.ensures)

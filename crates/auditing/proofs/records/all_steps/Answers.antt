@@ -8,11 +8,11 @@ use Rattle.auditing.proofs.RecordSteps.{all-steps-begin}
 use Rattle.auditing.proofs.records.all_steps.Goals as goal
 
 pub loop-s-init : goal.loop-s-init
-loop-s-init c = (all-steps-begin _ _ c.held-held.ensures, c.requires.long)
+loop-s-init c = (all-steps-begin _ _ c.held-s-end.ensures, c.requires.long)
 
 pub steps-requires : goal.steps-requires
 steps-requires c =
-    (record { ready = c.requires.ready; words = c.requires.words; long = c.loop-s.invariant.1 }, omega (arith, c.held-held.ensures))
+    (record { ready = c.requires.ready; words = c.requires.words; long = c.loop-s.invariant.1 }, omega (arith, c.held-s-end.ensures))
 
 pub returns-then-not-steps : goal.returns-then-not-steps
 returns-then-not-steps c = all-fails _ _ _ (omega arith) (failed c.steps.ensures (ap not c.if-not-steps.true)) c.loop-s.invariant.0

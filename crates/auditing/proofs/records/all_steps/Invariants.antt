@@ -11,8 +11,5 @@ use Rattle.auditing.proofs.records.all_steps.Given as goal
 
 abbrev pub invariant-loop-s : goal.invariant-loop-s
 invariant-loop-s l =
-    (all_from (steps? (grammar_in l.tables) l.cache) l.s (l.held - l.s) ≡ all_from (steps? (grammar_in l.tables) l.cache) 0 (held l.cache))
+    (all_from (steps? (grammar_in l.tables) l.cache) l.s (l.s-end - l.s) ≡ all_from (steps? (grammar_in l.tables) l.cache) 0 (held l.cache))
     × (length l.members ≡ member_words)
-
-abbrev pub decreases-loop-s : goal.decreases-loop-s
-decreases-loop-s l = l.held - l.s

@@ -13,6 +13,3 @@ abbrev pub invariant-loop-a : goal.invariant-loop-a
 invariant-loop-a l =
     (all_from (start? (grammar_in l.tables) l.cache) l.a (max_nonterminals - l.a) ≡ all_from (start? (grammar_in l.tables) l.cache) 0 max_nonterminals)
     × (length l.members ≡ member_words)
-
-abbrev pub decreases-loop-a : goal.decreases-loop-a
-decreases-loop-a l = max_nonterminals - l.a

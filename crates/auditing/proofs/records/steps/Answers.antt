@@ -8,31 +8,29 @@ use Rattle.auditing.proofs.LayoutSteps.{ready-kinds}
 use Rattle.auditing.proofs.RecordSteps.{steps-begin}
 use Rattle.auditing.proofs.records.steps.Goals as goal
 
-pub overflow_add-n : goal.overflow_add-n
-overflow_add-n c = omega (arith, ready-kinds c.requires.0.ready, c.kinds-n.ensures)
-
 pub loop-t-init : goal.loop-t-init
-loop-t-init c = (steps-begin _ _ _ c.kinds-n.ensures, c.requires.0.long)
+loop-t-init c = (steps-begin _ _ _ c.kinds-t-end.ensures, c.requires.0.long)
 
 pub step-requires : goal.step-requires
 step-requires c =
     let few = ready-kinds c.requires.0.ready in (
       record { ready = c.requires.0.ready; words = c.requires.0.words; long = c.loop-t.invariant.1 },
       c.requires.1,
-      omega (arith, c.kinds-n.ensures),
+      omega (arith, c.kinds-t-end.ensures),
     )
 
 pub returns-then-not-step : goal.returns-then-not-step
 returns-then-not-step c = all-fails _ _ _ (omega arith) (failed c.step.ensures (ap not c.if-not-step.true)) c.loop-t.invariant.0
-
-pub overflow_add-t : goal.overflow_add-t
-overflow_add-t c = omega (arith, ready-kinds c.requires.0.ready, c.kinds-n.ensures)
 
 pub loop-t-preserved : goal.loop-t-preserved
 loop-t-preserved c = (
   all-next _ _ _ (omega arith) (passed c.step.ensures (ap not c.if-not-step.false)) c.loop-t.invariant.0,
   omega (arith, c.step.auto.members, c.loop-t.invariant.1),
 )
+
+pub returns-else-not-step : goal.returns-else-not-step
+returns-else-not-step c =
+    all_done _ _ _ (omega arith) (all-next _ _ _ (omega arith) (passed c.step.ensures (ap not c.if-not-step.false)) c.loop-t.invariant.0)
 
 pub returns : goal.returns
 returns c = all_done _ _ _ (omega arith) c.loop-t.invariant.0

@@ -8,6 +8,3 @@ use Rattle.auditing.proofs.states.new.Given as goal
 
 abbrev pub invariant-loop-p : goal.invariant-loop-p
 invariant-loop-p l = all_from (λ (p : ℕ). not (equal? l.cache p l.s)) l.p (l.s - l.p) ≡ new? l.cache l.s
-
-abbrev pub decreases-loop-p : goal.decreases-loop-p
-decreases-loop-p l = l.s - l.p

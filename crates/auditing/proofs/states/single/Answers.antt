@@ -8,22 +8,22 @@ use Rattle.auditing.proofs.StateSteps.{single-begin, none-printed, one-printed, 
 use Rattle.auditing.proofs.states.single.Goals as goal
 
 pub loop-s-init : goal.loop-s-init
-loop-s-init c = (single-begin _ c.held-held.ensures, none-printed _ _ refl)
+loop-s-init c = (single-begin _ c.held-s-end.ensures, none-printed _ _ refl)
 
 pub bounds-prints-s : goal.bounds-prints-s
-bounds-prints-s c = state-low _ c.requires c.held-held.ensures c.loop-s.s (omega arith)
+bounds-prints-s c = state-low _ c.requires c.held-s-end.ensures c.loop-s.s (omega arith)
 
 pub new-requires : goal.new-requires
 new-requires c =
-    let low = state-low _ c.requires c.held-held.ensures c.loop-s.s (omega arith) in
-    (omega (arith, c.held-held.ensures, c.requires.few), one-printed _ _ _ c.loop-s.invariant.1 low c.print_of.ensures)
+    let low = state-low _ c.requires c.held-s-end.ensures c.loop-s.s (omega arith) in
+    (omega (arith, c.held-s-end.ensures, c.requires.few), one-printed _ _ _ c.loop-s.invariant.1 low c.print_of.ensures)
 
 pub returns-then-not-new : goal.returns-then-not-new
 returns-then-not-new c = all-fails _ _ _ (omega arith) (failed c.new.ensures (ap not c.if-not-new.true)) c.loop-s.invariant.0
 
 pub loop-s-preserved : goal.loop-s-preserved
 loop-s-preserved c =
-    let low = state-low _ c.requires c.held-held.ensures c.loop-s.s (omega arith) in (
+    let low = state-low _ c.requires c.held-s-end.ensures c.loop-s.s (omega arith) in (
       all-next _ _ _ (omega arith) (passed c.new.ensures (ap not c.if-not-new.false)) c.loop-s.invariant.0,
       next-printed _ _ _ (one-printed _ _ _ c.loop-s.invariant.1 low c.print_of.ensures),
     )

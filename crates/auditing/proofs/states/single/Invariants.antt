@@ -7,7 +7,4 @@ use Rattle.auditing.specs.inside.Relied.{Printed}
 use Rattle.auditing.proofs.states.single.Given as goal
 
 abbrev pub invariant-loop-s : goal.invariant-loop-s
-invariant-loop-s l = (all_from (new? l.cache) l.s (l.held - l.s) ≡ single? l.cache) × Printed l.cache l.prints l.s
-
-abbrev pub decreases-loop-s : goal.decreases-loop-s
-decreases-loop-s l = l.held - l.s
+invariant-loop-s l = (all_from (new? l.cache) l.s (l.s-end - l.s) ≡ single? l.cache) × Printed l.cache l.prints l.s

@@ -19,10 +19,10 @@ loop-k-init c =
     )
 
 pub overflow_add-to : goal.overflow_add-to
-overflow_add-to c = omega (arith, note-fits _ _ _ _ _ c.loop-k.invariant.0.underway (omega arith), c.index.ensures)
+overflow_add-to c = omega (arith, note-fits _ _ _ _ _ c.loop-k.invariant.0.underway (omega arith), c.from.ensures)
 
 pub slice_bounds-read-end : goal.slice_bounds-read-end
-slice_bounds-read-end c = omega (arith, note-fits _ _ _ _ _ c.loop-k.invariant.0.underway (omega arith), c.index.ensures)
+slice_bounds-read-end c = omega (arith, note-fits _ _ _ _ _ c.loop-k.invariant.0.underway (omega arith), c.from.ensures)
 
 pub overflow_add-at : goal.overflow_add-at
 overflow_add-at c = omega (arith, part-fits _ _ _ _ _ c.loop-k.invariant.0.underway (omega arith))
@@ -43,7 +43,7 @@ pub loop-k-preserved : goal.loop-k-preserved
 loop-k-preserved c =
     let kept = c.loop-k.invariant.0 in (
       record {
-        underway = underway-next _ _ _ _ _ kept.underway c.loop-k-test.true c.read-reading.result _ _ c.index.ensures
+        underway = underway-next _ _ _ _ _ kept.underway c.loop-k-test.true c.read-reading.result _ _ c.from.ensures
             c.loop-k.invariant.1 (omega (arith, c.row-1.given.0, c.read-arg-in-loop-k-1.given.2))
             (omega (arith, c.requires.fits.three, kept.answers-kept)) c.read-reading.ensures c.tell.ensures;
         within = omega (arith, c.loop-k-test.true);

@@ -4,8 +4,8 @@ use Prim.Native.Nat.{suc, ◌-◌, ◌≤◌}
 use Rattle.cache.proofs.FollowSteps.{Following}
 use Rattle.cache.proofs.following.recorded.Given as goal
 
-abbrev pub invariant-loop-said : goal.invariant-loop-said
-invariant-loop-said l = Following l.a l.note l.cache l.i l.j l.said × (l.j ≤ suc l.n)
+abbrev pub invariant-loop-s : goal.invariant-loop-s
+invariant-loop-s l = Following l.a l.note l.cache l.i l.j l.said × (l.j ≤ suc l.n)
 
-abbrev pub decreases-loop-said : goal.decreases-loop-said
-decreases-loop-said l = suc l.n - l.j
+abbrev pub decreases-loop-s : goal.decreases-loop-s
+decreases-loop-s l = suc l.n - l.j

@@ -11,11 +11,11 @@ use Rattle.cache.specs.Predict.{predict_from}
 use Rattle.cache.proofs.PredictSteps.{Asking}
 use Rattle.cache.proofs.prediction.learn.Given as goal
 
-abbrev pub invariant-loop-said : goal.invariant-loop-said
-invariant-loop-said l =
+abbrev pub invariant-loop-s : goal.invariant-loop-s
+invariant-loop-s l =
     Asking (grammar_in l.tables) l.a l.note (predict_from (grammar_in l.tables) l.a (drop l.i (marked l.note)) (learned l.initial.said l.initial.cache)) l.j
     l.said l.cache
     × (l.j ≤ suc l.n) × (l.slots ≡ layout.slots (length l.cache)) × (length l.cache ≡ length l.initial.cache)
 
-abbrev pub decreases-loop-said : goal.decreases-loop-said
-decreases-loop-said l = suc l.n - l.j
+abbrev pub decreases-loop-s : goal.decreases-loop-s
+decreases-loop-s l = suc l.n - l.j

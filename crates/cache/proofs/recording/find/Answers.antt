@@ -1,19 +1,22 @@
--- The goals of `cache::recording::find` that are not found.
-use Rattle.cache.proofs.StateSteps.{seek-begins, seek-ends, seek_hit, seek-next, searched-low}
-use native.Mathlib.Omega.{arith}
+-- `cache::recording::find` meets its contract: the slots are looked at from the first on, so where one holds the state it is the lowest.
+use borrow.Author.Tests.{tests}
+use mathlib.Core.Path.{◌≡◌}
+use mathlib.Core.Bool.{true, false}
+use Prim.Native.Nat.{ℕ}
+use Rattle.std.proofs.Common.{rules, arith}
+use Rattle.std.proofs.lemmas.Iterator.{serves_from_Range, first_from_Range}
+use Rattle.cache.specs.inside.ByWords.{holds_words}
+use Rattle.cache.proofs.StateSteps.{searched-low, found-slot}
 use Rattle.cache.proofs.recording.find.Goals as goal
 
-pub loop-s-init : goal.loop-s-init
-loop-s-init c = seek-begins _ _ _ _ c.searched-count.ensures
-
-pub holds-requires : goal.holds-requires
-holds-requires c = (searched-low c.args.cache.now _ (omega (arith, c.searched-count.ensures)), c.requires.1)
-
-pub returns-then-holds : goal.returns-then-holds
-returns-then-holds c = seek_hit _ _ _ _ _ c.loop-s.invariant c.loop-s-test.true c.holds.ensures c.if-holds.true
-
-pub loop-s-preserved : goal.loop-s-preserved
-loop-s-preserved c = seek-next _ _ _ _ _ c.loop-s.invariant c.loop-s-test.true c.holds.ensures c.if-holds.false
+pub find-requires-clause-callable : goal.find-requires-clause-callable
+find-requires-clause-callable c = serves_from_Range (λ x q k. search rules)
+    (λ x l m y e _ _ _ _ _ _ _ _ _ _. searched-low c.args.cache.now c.searched.ensures y.now (omega arith))
 
 pub returns : goal.returns
-returns c = seek-ends _ _ _ _ _ c.loop-s.invariant (omega arith)
+returns c =
+    let p = holds_words c.args.cache.now c.args.a c.args.kept.now in
+    let Yes : ℕ → Type 0 = λ s. p s ≡ true in
+    let No : ℕ → Type 0 = λ s. p s ≡ false in
+    found-slot c.args.cache.now c.args.a c.args.kept.now c.searched.ensures
+    (first_from_Range _ _ _ c.find.result Yes No c.find.ensures.ran (λ x q k. search (rules, tests)) (λ x q k. search (rules, tests)))

@@ -9,17 +9,14 @@ add_state-requires c =
     let (low, within) = slot-below (length c.args.cache.now) c.slots.ensures c.if-s-slots.true in
     (record { is = c.held-s.ensures; low = low; within = within; decision = c.requires.0.decision }, c.requires.1)
 
-pub overflow_add-s : goal.overflow_add-s
-overflow_add-s c = omega (arith, (slot-below (length c.args.cache.now) c.slots.ensures c.if-s-slots.true).0)
-
-pub word-requires : goal.word-requires
-word-requires c = omega (arith, (slot-below (length c.args.cache.now) c.slots.ensures c.if-s-slots.true).0)
+pub state_word-requires : goal.state_word-requires
+state_word-requires c = (slot-below (length c.args.cache.now) c.slots.ensures c.if-s-slots.true).0
 
 pub returns-then-s-slots : goal.returns-then-s-slots
 returns-then-s-slots c =
-    new-held _ _ _ _ _ c.held-s.ensures (omega (arith, c.slots.ensures)) c.add_state.ensures
-    c.word.ensures
+    new-held _ _ _ _ c.held-s.ensures (omega (arith, c.slots.ensures)) c.add_state.ensures
+    c.state_word.ensures
     c.say.ensures
 
 pub returns : goal.returns
-returns c = new-full _ _ _ _ _ c.held-s.ensures (omega (arith, c.slots.ensures))
+returns c = new-full _ _ _ _ c.held-s.ensures (omega (arith, c.slots.ensures))

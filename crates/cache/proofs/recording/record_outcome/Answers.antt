@@ -3,17 +3,20 @@ use Rattle.cache.proofs.AskSteps.{room-state, room-part, record-full, record-alt
 use native.Mathlib.Omega.{arith}
 use Rattle.cache.proofs.recording.record_outcome.Goals as goal
 
-pub overflow_mul-first : goal.overflow_mul-first
-overflow_mul-first c = omega (arith, (room-state _ c.args.members.now c.in-State.is c.requires.1).0)
+pub overflow_mul-kept : goal.overflow_mul-kept
+overflow_mul-kept c = omega (arith, (room-state _ c.args.members.now c.in-State.is c.requires.1).1)
+
+pub overflow_add-kept : goal.overflow_add-kept
+overflow_add-kept c = omega (arith, (room-state _ c.args.members.now c.in-State.is c.requires.1).1)
+
+pub overflow_mul-kept-in-State : goal.overflow_mul-kept-in-State
+overflow_mul-kept-in-State c = omega (arith, (room-state _ c.args.members.now c.in-State.is c.requires.1).1)
 
 pub offset_bounds-members-first : goal.offset_bounds-members-first
-offset_bounds-members-first c = omega (arith, (room-state _ c.args.members.now c.in-State.is c.requires.1).0)
+offset_bounds-members-first c = omega (arith, (room-state _ c.args.members.now c.in-State.is c.requires.1).1)
 
-pub slice_bounds-record_state-count : goal.slice_bounds-record_state-count
-slice_bounds-record_state-count c = omega (arith, (room-state _ c.args.members.now c.in-State.is c.requires.1).0)
-
-pub slice_bounds-record_state-start : goal.slice_bounds-record_state-start
-slice_bounds-record_state-start c = omega (arith, (room-state _ c.args.members.now c.in-State.is c.requires.1).0)
+pub slice_bounds-kept-end : goal.slice_bounds-kept-end
+slice_bounds-kept-end c = omega (arith, (room-state _ c.args.members.now c.in-State.is c.requires.1).1)
 
 pub record_state-requires : goal.record_state-requires
 record_state-requires c = (c.requires.0, room-part _ c.args.members.now c.in-State.is c.requires.1)

@@ -1,6 +1,7 @@
 -- `choosing::deciding::decide` meets its contract: a single production, the predicted alternative and the lowest that serves are the three ways of the
 -- definition's chooser.
 use native.Mathlib.Omega.{arith}
+use Rattle.machine.proofs.LowestLaws.{numbered-map}
 use Rattle.machine.proofs.WaitLaws.{waits-small}
 use Rattle.serving.proofs.PickLaws.{serve-room}
 use Rattle.choosing.proofs.DecideStage.{serve-named}
@@ -17,15 +18,17 @@ push-stand-requires c = (
 )
 
 pub returns-then-alternatives-lt2 : goal.returns-then-alternatives-lt2
-returns-then-alternatives-lt2 c =
-    decide-single _ _ _ _ _ c.requires.serve c.push-stand.ensures.0 c.push-stand.ensures.1 _
-    c.alternatives.ensures c.if-alternatives-lt2.true
+returns-then-alternatives-lt2 c = (
+  λ z. omega arith,
+  decide-single _ _ _ _ _ c.requires.serve c.push-stand.ensures.0 c.push-stand.ensures.1 _
+      c.alternatives.ensures c.if-alternatives-lt2.true,
+)
 
-pub predict-prediction-requires : goal.predict-prediction-requires
-predict-prediction-requires c = deciding-predicts _ _ _ _ _ _ c.requires
+pub predict-requires : goal.predict-requires
+predict-requires c = deciding-predicts _ _ _ _ _ _ c.requires
 
-pub push-stand-requires-in-Alternative : goal.push-stand-requires-in-Alternative
-push-stand-requires-in-Alternative c = (
+pub push-stand-requires-in-Some : goal.push-stand-requires-in-Some
+push-stand-requires-in-Some c = (
   serve-room _ _ c.requires.serve,
   omega (arith, waits-small _ c.requires.serve.told.ready _ c.requires.serve.waits),
 )
@@ -33,12 +36,12 @@ push-stand-requires-in-Alternative c = (
 pub serve-requires : goal.serve-requires
 serve-requires c = c.requires.serve
 
-pub returns-in-Alternative : goal.returns-in-Alternative
-returns-in-Alternative c =
-    decide-named _ _ _ _ _ c.requires.serve c.push-stand-in-Alternative.ensures.0 c.push-stand-in-Alternative.ensures.1 _
-    c.alternatives.ensures (omega arith) c.predict-prediction.ensures c.in-Alternative.is
+pub returns-in-Some : goal.returns-in-Some
+returns-in-Some c =
+    decide-named _ _ _ _ _ c.requires.serve c.push-stand-in-Some.ensures.0 c.push-stand-in-Some.ensures.1 _
+    c.alternatives.ensures (omega arith) c.predict.ensures c.in-Some.is
 
-pub returns-in-Full : goal.returns-in-Full
-returns-in-Full c =
-    decide-full _ _ _ _ _ c.requires.serve _ c.alternatives.ensures (omega arith) c.predict-prediction.ensures
-    c.in-Full.is c.serve.ensures
+pub returns-in-None : goal.returns-in-None
+returns-in-None c =
+    numbered-map _ (λ r x. decide-full _ _ _ _ _ c.requires.serve _ c.alternatives.ensures (omega arith) c.predict.ensures c.in-None.is x)
+    c.serve.ensures

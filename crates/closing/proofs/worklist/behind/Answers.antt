@@ -48,13 +48,13 @@ at-requires c =
 pub add-requires : goal.add-requires
 add-requires c = (c.loop-p.invariant.1.room, c.at.ensures.exact)
 
-pub returns-in_default : goal.returns-in_default
-returns-in_default c =
+pub returns-in_err-n : goal.returns-in_err-n
+returns-in_err-n c =
     let small = sought-within _ c.requires.0.ready c.size-size.ensures c.seek-here.ensures c.if-here-size.false in
     let hit = behinds-hit _ c.requires.0.ready _ _ _ (omega arith) c.calls.ensures c.if-calls.true in
     let left = left_by c.loop-p.invariant.1 (behinds-sought _ _ _ _ _ _ c.seek-here.ensures) in
-    left-stop left hit (grow-packs _ (at-empty c.args.c c.requires.1.empty c.at.ensures) c.add.ensures)
-    c.in_default.is
+    rw c.from_residual.ensures
+    (left-stop left hit (grow-packs _ (at-empty c.args.c c.requires.1.empty c.at.ensures) c.add.ensures) c.in_err-n.was)
 
 pub loop-p-smaller-then-calls : goal.loop-p-smaller-then-calls
 loop-p-smaller-then-calls c = omega (arith, c.seek-here.ensures.from, c.loop-p-test.true)
@@ -66,7 +66,7 @@ loop-p-preserved-then-calls c =
     let left = left_by c.loop-p.invariant.1 (behinds-sought _ _ _ _ _ _ c.seek-here.ensures) in (
       omega (arith, c.seek-here.ensures.to, c.if-here-size.false),
       left-on left hit
-          (grow-packs _ (at-empty c.args.c c.requires.1.empty c.at.ensures) c.add.ensures) _ c.in-Count.is,
+          (grow-packs _ (at-empty c.args.c c.requires.1.empty c.at.ensures) c.add.ensures) _ c.in_ok-n.was,
     )
 
 pub loop-p-smaller : goal.loop-p-smaller

@@ -13,4 +13,4 @@ pub overflow_add-result : goal.overflow_add-result
 overflow_add-result c = omega (arith, c.requires.small)
 
 pub returns : goal.returns
-returns c = calls_is _ _ _ c.requires.within c.index.ensures
+returns c = calls_is _ _ _ c.requires.within c.from.ensures

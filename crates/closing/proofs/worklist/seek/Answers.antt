@@ -17,13 +17,13 @@ pub any_calls-requires : goal.any_calls-requires
 any_calls-requires c =
     record { long = c.requires.ready.fits.long; within = omega (arith, c.requires.few, c.loop-q-test.true); small = c.requires.small }
 
-pub returns-then-any_calls : goal.returns-then-any_calls
-returns-then-any_calls c = c.loop-q.invariant
+pub returns-else-not-any_calls : goal.returns-else-not-any_calls
+returns-else-not-any_calls c = c.loop-q.invariant
 
 pub loop-q-preserved : goal.loop-q-preserved
 loop-q-preserved c =
     sought-on _ c.requires.ready _ _ _ _ c.requires.few c.loop-q-test.true c.loop-q.invariant
-    (c.any_calls.ensures c.if-any_calls.false)
+    (c.any_calls.ensures c.if-not-any_calls.true)
 
-pub returns : goal.returns
-returns c = c.loop-q.invariant
+pub returns-after-loop-q : goal.returns-after-loop-q
+returns-after-loop-q c = c.loop-q.invariant

@@ -1,37 +1,26 @@
--- The goals of `closures::closure::all_pass` that are not found.
-use mathlib.Core.Bool.{not}
-use native.Mathlib.Omega.{arith}
-use mathlib.Core.Path.{ap}
-use Rattle.grammar.proofs.WordLaws.{facing-of}
-use Rattle.closures.proofs.ClosureSteps.{pass-end, pass-past, pass-token-stops, pass-token, pass-stops, pass-goes}
+-- `closures::closure::all_pass` meets its contract: a production passes if each of its symbols does.
+use borrow.Author.Tests.{tests}
+use mathlib.Core.Bool.{Bool}
+use mathlib.Core.Path.{◌∙◌}
+use mathlib.Core.List.{[], ◌∷◌}
+use Rattle.std.proofs.Common.{rules}
+use Rattle.std.proofs.lemmas.Iterator.Search.{all_from_yields_List}
+use Rattle.base.specs.Bits.{test_bit}
+use Rattle.grammar.specs.declared.Symbol.{Symbol}
+use Rattle.grammar.specs.Grammar.{suffix}
+use Rattle.grammar.specs.inside.Tables.{grammar_in}
+use Rattle.grammar.proofs.SymbolChains.{symbols_come, symbols_serve, among-few}
+use Rattle.closures.specs.Closures.{passes}
+use Rattle.closures.proofs.ClosureSteps.{all-passes}
 use Rattle.closures.proofs.closure.all_pass.Goals as goal
 
-pub place_at-place-requires : goal.place_at-place-requires
-place_at-place-requires c = c.requires.long
-
-pub returns-in-End : goal.returns-in-End
-returns-in-End c = pass-end _ _ _ _ _ c.loop-p.invariant (facing-of _ _ c.place_at-place.ensures c.in-End.is)
-
-pub returns-then-not-tokens : goal.returns-then-not-tokens
-returns-then-not-tokens c =
-    pass-token-stops _ _ _ _ _ c.loop-p.invariant (facing-of _ _ c.place_at-place.ensures c.in-Token.is) (ap not c.if-not-tokens.true)
-
-pub loop-p-preserved-else-not-tokens : goal.loop-p-preserved-else-not-tokens
-loop-p-preserved-else-not-tokens c =
-    pass-token _ _ _ _ _ c.loop-p.invariant (facing-of _ _ c.place_at-place.ensures c.in-Token.is) (ap not c.if-not-tokens.false)
-
-pub has-requires : goal.has-requires
-has-requires c = let n = c.requires.named _ _ (facing-of _ _ c.place_at-place.ensures c.in-Nonterminal.is) in omega (arith, c.requires.few)
-
-pub returns-then-not-has : goal.returns-then-not-has
-returns-then-not-has c =
-    pass-stops _ _ _ _ _ c.loop-p.invariant (facing-of _ _ c.place_at-place.ensures c.in-Nonterminal.is) c.has.ensures
-    (ap not c.if-not-has.true)
-
-pub loop-p-preserved : goal.loop-p-preserved
-loop-p-preserved c =
-    pass-goes _ _ _ _ _ c.loop-p.invariant (facing-of _ _ c.place_at-place.ensures c.in-Nonterminal.is) c.has.ensures
-    (ap not c.if-not-has.false)
+pub all-requires-clause-callable : goal.all-requires-clause-callable
+all-requires-clause-callable c =
+    symbols_serve (λ x q k. search (rules, tests)) (λ x a. let m = among-few _ _ c.requires c.symbols_from.ensures.0 x a in search rules)
 
 pub returns : goal.returns
-returns c = pass-past _ _ _ _ _ c.loop-p.invariant (omega arith)
+returns c =
+    let P : Symbol → Bool = λ x. passes c.args.tokens (test_bit c.args.set) (x ∷ []) in
+    all_from_yields_List P c.all.new.self _ c.all.result c.all.ensures.ran (symbols_come c.symbols_from.result) (λ x b q k. search (rules, tests))
+    ∙ rw (c.symbols_from.ensures.0, c.symbols_from.ensures.1)
+    (all-passes c.args.tokens (test_bit c.args.set) (suffix (grammar_in c.args.tables.now) c.args.first))

@@ -6,7 +6,7 @@ use Rattle.closures.proofs.rounds.by_rounds.Goals as goal
 
 pub returns-then-next-set : goal.returns-then-next-set
 returns-then-next-set c =
-    round_exact _ _ c.requires.0 _ _ _ _ c.note_rules-count.ensures.1 _ c.loop-set.invariant.2
+    round_exact _ _ c.requires.0 _ _ _ _ c.note_rules.ensures.1 _ c.loop-set.invariant.2
     (sym c.if-next-set.true ∙ c.round-next.ensures) c.loop-set.invariant.1
 
 pub loop-set-smaller : goal.loop-set-smaller
@@ -15,7 +15,7 @@ loop-set-smaller c = let h = round-grows _ _ _ _ c.round-next.ensures in omega (
 pub loop-set-preserved : goal.loop-set-preserved
 loop-set-preserved c = (
   c.round-next.type_inv,
-  round_keeps _ _ c.requires.0 _ _ _ _ c.note_rules-count.ensures.1 _ _ c.round-next.ensures
+  round_keeps _ _ c.requires.0 _ _ _ _ c.note_rules.ensures.1 _ _ c.round-next.ensures
       c.loop-set.invariant.1,
   round-holds _ _ _ _ _ c.round-next.ensures c.loop-set.invariant.2,
 )

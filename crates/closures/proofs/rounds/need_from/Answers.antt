@@ -1,30 +1,32 @@
 -- The goals of `closures::rounds::need_from` that are not found.
 use mathlib.Core.Bool.{not}
 use mathlib.Core.Path.{ap}
-use native.Mathlib.Omega.{arith}
-use Rattle.grammar.proofs.WordLaws.{facing-of}
-use Rattle.closures.proofs.NoteSteps.{need-begin, need-end, need-past, need-never, need-token, need-more}
+use Rattle.closures.proofs.NoteSteps.{asks-begin, asks-end, asks-none, asks-never, asks-token, asks-more}
 use Rattle.closures.proofs.rounds.need_from.Goals as goal
 
-pub loop-p-init : goal.loop-p-init
-loop-p-init c = need-begin _ _ _
+pub loop-symbol-init : goal.loop-symbol-init
+loop-symbol-init c =
+    let i = c.into_iter-symbol-iterator.ensures.into_iter_gives in
+    let s = c.symbols_from-symbol-items.ensures in
+    (rw (i, s.0) c.requires, tt, asks-begin _ _ _ (rw (i, s.0, s.1)))
 
 pub returns-in-End : goal.returns-in-End
-returns-in-End c = need-end _ _ _ _ _ c.loop-p.invariant (facing-of _ _ c.place_at-place.ensures c.in-End.is)
+returns-in-End c = asks-none _ _ _ _ c.loop-symbol.invariant.2 c.in-Some.ensures.steps.0 c.in-End.is
 
 pub returns-then-not-tokens : goal.returns-then-not-tokens
 returns-then-not-tokens c =
-    need-never _ _ _ _ _ c.loop-p.invariant (facing-of _ _ c.place_at-place.ensures c.in-Token.is) (ap not c.if-not-tokens.true)
+    asks-never _ _ _ _ c.loop-symbol.invariant.2 c.in-Some.ensures.steps.0 c.in-Token.is (ap not c.if-not-tokens.true)
 
-pub loop-p-preserved-else-not-tokens : goal.loop-p-preserved-else-not-tokens
-loop-p-preserved-else-not-tokens c =
-    need-token _ _ _ _ _ c.loop-p.invariant (facing-of _ _ c.place_at-place.ensures c.in-Token.is) (ap not c.if-not-tokens.false)
+pub loop-symbol-preserved-else-not-tokens : goal.loop-symbol-preserved-else-not-tokens
+loop-symbol-preserved-else-not-tokens c = (
+  c.in-Some.ensures.goes.keeps,
+  tt,
+  asks-token _ _ _ _ c.loop-symbol.invariant.2 c.in-Some.ensures.steps.0 c.in-Token.is (ap not c.if-not-tokens.false),
+)
 
-pub with-need-requires : goal.with-need-requires
-with-need-requires c = let n = c.requires.named _ _ (facing-of _ _ c.place_at-place.ensures c.in-Nonterminal.is) in omega (arith, c.requires.few)
-
-pub loop-p-preserved : goal.loop-p-preserved
-loop-p-preserved c = need-more _ _ _ _ _ c.loop-p.invariant (facing-of _ _ c.place_at-place.ensures c.in-Nonterminal.is) c.with-need.ensures
+pub loop-symbol-preserved : goal.loop-symbol-preserved
+loop-symbol-preserved c =
+    (c.in-Some.ensures.goes.keeps, tt, asks-more _ _ _ _ c.loop-symbol.invariant.2 c.in-Some.ensures.steps.0 c.in-Nonterminal.is c.with-need.ensures)
 
 pub returns : goal.returns
-returns c = need-past _ _ _ _ _ c.loop-p.invariant (omega arith)
+returns c = asks-end _ _ _ _ c.loop-symbol.invariant.2 c.in-None.ensures.steps.0.0

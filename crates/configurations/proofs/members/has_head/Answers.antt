@@ -1,45 +1,16 @@
 -- `configurations::members::has_head` meets its contract: whoever has another head is another configuration.
+use borrow.Author.Tests.{tests}
 use native.Mathlib.Omega.{arith}
-use Rattle.base.proofs.Booleans.{clash}
-use Rattle.configurations.proofs.SearchLaws.{part-has, block_none}
+use Rattle.std.proofs.Common.{rules, refl, sym, ◌∙◌}
+use Rattle.std.proofs.lemmas.Iterator.{YieldsList-from_range}
+use Rattle.std.proofs.lemmas.Iterator.Search.{any_from_yields_List}
+use Rattle.configurations.specs.inside.Held.{block_members}
+use Rattle.configurations.proofs.SearchLaws.{part-known, headed, block_none}
 use Rattle.configurations.proofs.members.has_head.Goals as goal
 
-pub head-requires : goal.head-requires
-head-requires c = part-has c.requires.0 _ (omega arith)
-
-pub returns-then-head-c : goal.returns-then-head-c
-returns-then-head-c c = λ t. clash (cc)
-
-pub overflow_add-k : goal.overflow_add-k
-overflow_add-k c = omega (arith, c.requires.0.room.few)
-
-pub head-requires-2 : goal.head-requires-2
-head-requires-2 c = part-has c.requires.0 _ (omega arith)
-
-pub returns-then-head-c-2 : goal.returns-then-head-c-2
-returns-then-head-c-2 c = λ t. clash (cc)
-
-pub overflow_add-k-2 : goal.overflow_add-k-2
-overflow_add-k-2 c = omega (arith, c.requires.0.room.few)
-
-pub head-requires-3 : goal.head-requires-3
-head-requires-3 c = part-has c.requires.0 _ (omega arith)
-
-pub returns-then-head-c-3 : goal.returns-then-head-c-3
-returns-then-head-c-3 c = λ t. clash (cc)
-
-pub overflow_add-k-3 : goal.overflow_add-k-3
-overflow_add-k-3 c = omega (arith, c.requires.0.room.few)
-
-pub head-requires-4 : goal.head-requires-4
-head-requires-4 c = part-has c.requires.0 _ (omega arith)
-
-pub returns-then-head-c-4 : goal.returns-then-head-c-4
-returns-then-head-c-4 c = λ t. clash (cc)
-
 pub returns : goal.returns
-returns c =
-    λ t. block_none _ _ c.requires.0 c.requires.1
-    (omega (arith, c.head.ensures, c.if-head-c.false))
-    (omega (arith, c.head-2.ensures, c.if-head-c-2.false))
-    (omega (arith, c.head-3.ensures, c.if-head-c-3.false)) (omega (arith, c.head-4.ensures, c.if-head-c-4.false))
+returns c = λ f.
+    let ws = c.args.members.now in
+    let asked = any_from_yields_List (headed ws c.args.c) _ _ c.any.result c.any.ensures.ran (YieldsList-from_range _ _ block_members refl (omega arith))
+    (λ x b q k. search (rules, tests)) in
+    block_none ws c.args.c c.requires.1 c.args.k block_members (part-known _ _ c.requires.0 _ refl) (sym asked ∙ f)

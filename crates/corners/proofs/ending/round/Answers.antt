@@ -1,6 +1,7 @@
 -- The goals of `corners::ending::round` that are not found.
-use mathlib.Core.Path.{refl, ap, ◌∙◌}
-use Prim.Native.Nat.{ℕ}
+use mathlib.Core.Path.{refl, ◌∙◌}
+use lib.ListN.{length-take}
+use lib.Seq.{get_or-take}
 use native.Mathlib.Omega.{arith}
 use Rattle.corners.specs.inside.Ending.{ended_below}
 use Rattle.corners.proofs.EndingLaws.{ended-more}
@@ -8,10 +9,9 @@ use Rattle.corners.proofs.ending.round.Goals as goal
 
 pub loop-a-init : goal.loop-a-init
 unfolding ended_below
-loop-a-init c = (omega arith, refl)
+loop-a-init c = refl
 
 pub loop-a-preserved : goal.loop-a-preserved
-loop-a-preserved c = (omega arith, ended-more _ _ _ c.loop-a.invariant.1 c.ended-next.ensures)
-
-pub returns : goal.returns
-returns c = c.loop-a.invariant.1 ∙ ap (λ (k : ℕ). ended_below c.args.rows.now c.args.set k) (omega arith)
+loop-a-preserved c =
+    ended-more _ _ _ c.loop-a.invariant
+    (c.ended-next.ensures ∙ rw (get_or-take c.args.n c.args.rows.now c.loop-a.a 0 (omega (arith, length-take c.args.n c.args.rows.now))))

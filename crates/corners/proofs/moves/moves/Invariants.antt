@@ -1,10 +1,8 @@
--- `corners::moves::moves` meets its contract: what the set and the productions from k on lead to together is what all of them lead to.
-use Prim.Native.Nat.{◌-◌}
+-- `corners::moves::moves` meets its contract: what the set and the productions still to come lead to together is what all of them lead to.
+use lib.ListN.{drop}
+use Rattle.grammar.specs.inside.Tables.{grammar_in}
 use Rattle.corners.proofs.LeftSteps.{Rest}
 use Rattle.corners.proofs.moves.moves.Given as goal
 
-abbrev pub invariant-loop-k : goal.invariant-loop-k
-invariant-loop-k l = Rest l.tables l.nullable l.a l.end l.set l.k
-
-abbrev pub decreases-loop-k : goal.decreases-loop-k
-decreases-loop-k l = l.end - l.k
+abbrev pub invariant-loop-first : goal.invariant-loop-first
+invariant-loop-first l = Rest (grammar_in l.tables) l.nullable l.a l.set (drop l.first-index l.first-items)

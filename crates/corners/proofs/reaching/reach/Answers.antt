@@ -5,20 +5,19 @@ use native.Mathlib.Omega.{arith}
 use Rattle.corners.specs.inside.Steps.{reach_of}
 use Rattle.corners.proofs.LeftSteps.{reach-pivot, reach-empty}
 use Rattle.corners.proofs.reaching.reach.Goals as goal
+use Rattle.corners.proofs.reaching.reach.Goals.{then-row-ne0, else-row-ne0}
 
 pub loop-b-init : goal.loop-b-init
 unfolding reach_of
-loop-b-init c = (omega arith, refl, refl)
-
-pub loop-b-preserved-then-row-ne0 : goal.loop-b-preserved-then-row-ne0
-loop-b-preserved-then-row-ne0 c = (
-  omega arith,
-  omega (arith, c.through.auto.rows),
-  reach-pivot _ _ _ _ c.loop-b.invariant.2 refl c.if-row-ne0.true c.through.ensures,
-)
+loop-b-init c = (refl, refl)
 
 pub loop-b-preserved : goal.loop-b-preserved
-loop-b-preserved c = (omega arith, omega arith, reach-empty _ _ _ _ c.loop-b.invariant.2 refl c.if-row-ne0.false)
+loop-b-preserved c =
+    elim c.if-row-ne0.branch [
+      | then-row-ne0 w ↦
+          rw w.rows-is (omega (arith, w.through.auto.rows), reach-pivot _ _ _ _ c.loop-b.invariant.1 refl w.if-row-ne0.true w.through.ensures)
+      | else-row-ne0 w ↦ rw w.rows-is (c.loop-b.invariant.0, reach-empty _ _ _ _ c.loop-b.invariant.1 refl w.if-row-ne0.false)
+    ]
 
 pub returns : goal.returns
-returns c = c.loop-b.invariant.2 ∙ ap (λ (k : ℕ). reach_of c.args.n k c.args.rows.now) (omega arith)
+returns c = c.loop-b.invariant.1 ∙ ap (λ (k : ℕ). reach_of c.args.n k c.args.rows.now) (omega arith)

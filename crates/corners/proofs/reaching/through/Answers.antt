@@ -9,10 +9,10 @@ use Rattle.corners.proofs.reaching.through.Goals as goal
 
 pub loop-a-init : goal.loop-a-init
 unfolding pivot_below
-loop-a-init c = (omega arith, refl, refl)
+loop-a-init c = (refl, refl)
 
 pub loop-a-preserved : goal.loop-a-preserved
-loop-a-preserved c = (omega arith, simp length-set (omega arith), through-more _ _ _ _ _ c.loop-a.invariant.2 c.joined.ensures)
+loop-a-preserved c = (simp length-set c.loop-a.invariant.0, through-more _ _ _ _ _ c.loop-a.invariant.1 c.joined.ensures)
 
 pub returns : goal.returns
-returns c = c.loop-a.invariant.2 ∙ ap (λ (k : ℕ). pivot_below c.args.row c.args.b k c.args.rows.now) (omega arith)
+returns c = c.loop-a.invariant.1 ∙ ap (λ (k : ℕ). pivot_below c.args.row c.args.b k c.args.rows.now) (omega arith)

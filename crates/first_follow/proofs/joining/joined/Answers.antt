@@ -1,19 +1,14 @@
 -- The goals of `first_follow::joining::joined` that are not found.
-use native.Mathlib.Omega.{arith}
-use Rattle.first_follow.proofs.JoinLaws.{join-none, join-next, join-done, join_last}
+use Rattle.first_follow.proofs.JoinLaws.{joining-begins, joining-next, joining-ends}
 use Rattle.first_follow.proofs.joining.joined.Goals as goal
 
-pub loop-k-init : goal.loop-k-init
-loop-k-init c = join-none _ _ _
+pub loop-x-init : goal.loop-x-init
+loop-x-init c =
+    let i = c.into_iter-x-iterator.ensures.into_iter_gives in
+    (tt, tt, joining-begins _ _ _ {left = c.into_iter-x-iterator.result.left} (rw i c.members-x-items.ensures))
 
-pub returns-then-x-ge-WORD_BITS : goal.returns-then-x-ge-WORD_BITS
-returns-then-x-ge-WORD_BITS c = join_last _ _ _ (omega arith) _ _ c.loop-k.invariant _ c.from_bit-x.ensures (omega arith)
-
-pub loop-k-smaller : goal.loop-k-smaller
-loop-k-smaller c = let h = c.from_bit-x.ensures.above (omega arith) in omega arith
-
-pub loop-k-preserved : goal.loop-k-preserved
-loop-k-preserved c = join-next _ _ _ _ _ _ c.loop-k.invariant c.from_bit-x.ensures (omega arith)
+pub loop-x-preserved : goal.loop-x-preserved
+loop-x-preserved c = let s = c.in-Some.ensures.steps in (tt, tt, joining-next _ _ _ _ _ c.loop-x.invariant.2 _ _ s.0 s.1)
 
 pub returns : goal.returns
-returns c = join-done _ _ _ (omega arith) _ _ c.loop-k.invariant (omega arith)
+returns c = joining-ends _ _ _ _ _ c.loop-x.invariant.2 c.in-None.ensures.steps.0

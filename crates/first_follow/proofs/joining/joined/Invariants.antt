@@ -1,11 +1,7 @@
--- `first_follow::joining::joined` meets its contract: the rows of the members below k are joined, and a turn goes on to the next member.
-use Prim.Native.Nat.{◌-◌}
-use Rattle.base.specs.Bits.{word_bits}
-use Rattle.first_follow.proofs.JoinLaws.{JoinedTo}
+-- `first_follow::joining::joined` meets its contract: the set so far and the rows of the members still to come are together what is asked for.
+use Rattle.first_follow.proofs.JoinLaws.{Joining}
 use Rattle.first_follow.proofs.joining.joined.Given as goal
 
-abbrev pub invariant-loop-k : goal.invariant-loop-k
-invariant-loop-k l = JoinedTo l.rows l.set l.from l.k l.all
-
-abbrev pub decreases-loop-k : goal.decreases-loop-k
-decreases-loop-k l = word_bits - l.k
+abbrev pub invariant-loop-x : goal.invariant-loop-x
+invariant-loop-x l =
+    (goal.iterator-loop-x).can_next l.x-iterator × (goal.iterator-loop-x).is_finite l.x-iterator × Joining l.rows l.set l.from l.x-iterator.left l.all

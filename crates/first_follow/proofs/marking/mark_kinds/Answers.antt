@@ -4,10 +4,10 @@ use Rattle.first_follow.proofs.JoinLaws.{kinds-none, kinds-next, kinds-upto}
 use Rattle.first_follow.proofs.marking.mark_kinds.Goals as goal
 
 pub loop-t-init : goal.loop-t-init
-loop-t-init c = (omega arith, c.requires.1.masks-long, kinds-none _)
+loop-t-init c = (c.requires.1.masks-long, kinds-none _)
 
 pub loop-t-preserved : goal.loop-t-preserved
-loop-t-preserved c = (omega arith, c.mark_kind.ensures.0, kinds-next _ _ _ _ c.loop-t.invariant.2 c.mark_kind.ensures.1)
+loop-t-preserved c = (c.mark_kind.ensures.0, kinds-next _ _ _ _ c.loop-t.invariant.1 c.mark_kind.ensures.1)
 
 pub returns : goal.returns
-returns c = (c.loop-t.invariant.1, kinds-upto _ _ _ _ c.loop-t.invariant.2 (omega arith))
+returns c = (c.loop-t.invariant.0, kinds-upto _ _ _ _ c.loop-t.invariant.1 (omega arith))

@@ -11,8 +11,8 @@ pub overflow_mul-places : goal.overflow_mul-places
 overflow_mul-places c =
     omega (arith, space-small _ c.args.note.now c.requires c.size-places.ensures (omega (arith, c.if-note-gt-MAX_TOKENS.false)))
 
-pub overflow_mul-places-in-Known : goal.overflow_mul-places-in-Known
-overflow_mul-places-in-Known c =
+pub overflow_mul-places-2 : goal.overflow_mul-places-2
+overflow_mul-places-2 c =
     omega (arith, space-small _ c.args.note.now c.requires c.size-places.ensures (omega (arith, c.if-note-gt-MAX_TOKENS.false)))
 
 pub overflow_add-places : goal.overflow_add-places
@@ -21,14 +21,14 @@ overflow_add-places c =
 
 pub returns-then-space-places : goal.returns-then-space-places
 returns-then-space-places c =
-    short-space _ _ _ (omega (arith, c.if-note-gt-MAX_TOKENS.false)) c.kinds.ensures c.first_unknown-tokens.ensures
-    c.in-Known.is c.size-places.ensures c.if-space-places.true
+    short-space _ _ _ (omega (arith, c.if-note-gt-MAX_TOKENS.false)) c.kinds.ensures c.first_unknown.ensures
+    c.in_default.is c.size-places.ensures c.if-space-places.true
 
-pub returns-in-Unknown : goal.returns-in-Unknown
-returns-in-Unknown c =
-    unknown-token _ _ _ (omega (arith, c.if-note-gt-MAX_TOKENS.false)) c.kinds.ensures c.first_unknown-tokens.ensures c.in-Unknown.is
+pub returns-in-Some : goal.returns-in-Some
+returns-in-Some c =
+    unknown-token _ _ _ (omega (arith, c.if-note-gt-MAX_TOKENS.false)) c.kinds.ensures c.first_unknown.ensures c.in-Some.is
 
-pub returns-else-space-places : goal.returns-else-space-places
-returns-else-space-places c =
-    note-passed _ _ _ (omega (arith, c.if-note-gt-MAX_TOKENS.false)) c.kinds.ensures c.first_unknown-tokens.ensures
-    c.in-Known.is c.size-places.ensures c.requires (omega (arith, c.if-space-places.false))
+pub returns : goal.returns
+returns c =
+    note-passed _ _ _ (omega (arith, c.if-note-gt-MAX_TOKENS.false)) c.kinds.ensures c.first_unknown.ensures
+    c.in_default.is c.size-places.ensures c.requires (omega (arith, c.if-space-places.false))

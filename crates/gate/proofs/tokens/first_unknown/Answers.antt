@@ -1,19 +1,18 @@
--- The goals of `gate::tokens::first_unknown` that are not found.
-use native.Mathlib.Omega.{arith}
-use Rattle.gate.proofs.SearchLaws.{looking-begins, found-zero, found-high, looking-on, looking-ends}
+-- `gate::tokens::first_unknown` meets its contract: the first token of which the test holds is the lowest position of an unknown one.
+use borrow.Author.Tests.{tests}
+use mathlib.Core.Path.{refl, ◌∙◌}
+use mathlib.Core.Bool.{not}
+use Rattle.std.proofs.Common.{rules}
+use Rattle.std.proofs.lemmas.Iterator.{YieldsList-from_slice}
+use Rattle.std.proofs.lemmas.Iterator.Search.{position_from_yields_List}
+use Rattle.base.proofs.Lowest.{position-lowest}
+use Rattle.derivation.specs.Gate.{known?, first_unknown}
+use Rattle.gate.proofs.PassingLaws.{unknown-is}
 use Rattle.gate.proofs.tokens.first_unknown.Goals as goal
 
-pub loop-i-init : goal.loop-i-init
-loop-i-init c = looking-begins _ _
-
-pub returns-then-t-eq0 : goal.returns-then-t-eq0
-returns-then-t-eq0 c = found-zero _ _ _ c.loop-i.invariant c.loop-i-test.true c.index-t.ensures c.if-t-eq0.true
-
-pub returns-then-kinds-t : goal.returns-then-kinds-t
-returns-then-kinds-t c = found-high _ _ _ c.loop-i.invariant c.loop-i-test.true c.index-t.ensures c.if-kinds-t.true
-
-pub loop-i-preserved : goal.loop-i-preserved
-loop-i-preserved c = looking-on _ _ _ c.loop-i.invariant c.loop-i-test.true c.index-t.ensures c.if-t-eq0.false (omega arith)
-
 pub returns : goal.returns
-returns c = looking-ends _ _ _ c.loop-i.invariant (omega arith)
+unfolding first_unknown
+returns c =
+    position_from_yields_List (λ t. not (known? c.args.kinds t)) _ _ c.position.result c.position.ensures.ran (YieldsList-from_slice c.args.note.now cc)
+    (λ x b q k. search (rules, tests, unknown-is))
+    ∙ position-lowest (λ t. not (known? c.args.kinds t)) c.args.note.now _ (λ k l. refl)

@@ -10,13 +10,13 @@ pub returns-in_default : goal.returns-in_default
 returns-in_default c = finish-over _ c.close.ensures c.in_default.is _
 
 pub sort-requires : goal.sort-requires
-sort-requires c = (c.requires.0.fits.long, grow-room c.close.ensures _ c.in-Count.is)
+sort-requires c = (c.requires.0.fits.long, grow-room c.close.ensures _ c.in-Some.is)
 
 pub returns-in_default-sort : goal.returns-in_default-sort
-returns-in_default-sort c = finish-many _ c.close.ensures _ c.in-Count.is _ c.sort.ensures c.in_default-sort.is _
+returns-in_default-sort c = finish-many _ c.close.ensures _ c.in-Some.is _ c.sort.ensures c.in_default-sort.is _
 
 pub judge-requires : goal.judge-requires
-judge-requires c = finish-judges _ c.close.ensures _ c.in-Count.is _ c.sort.ensures _ c.in-Count-sort.is
+judge-requires c = finish-judges _ c.close.ensures _ c.in-Some.is _ c.sort.ensures _ c.in-Some-sort.is
 
 pub returns : goal.returns
-returns c = finish-judged _ c.close.ensures _ c.in-Count.is _ c.sort.ensures _ c.in-Count-sort.is _ c.judge.ensures
+returns c = finish-judged _ c.close.ensures _ c.in-Some.is _ c.sort.ensures _ c.in-Some-sort.is _ c.judge.ensures

@@ -7,7 +7,7 @@ pub returns-in_default : goal.returns-in_default
 returns-in_default c = start-full _ _ c.begin.ensures c.in_default.is _
 
 pub finish-requires : goal.finish-requires
-finish-requires c = (c.requires.ready, grow-room c.begin.ensures _ c.in-Count.is)
+finish-requires c = (c.requires.ready, grow-room c.begin.ensures _ c.in-Some.is)
 
 pub returns : goal.returns
-returns c = start-on _ _ c.begin.ensures _ c.in-Count.is _ _ c.finish.ensures
+returns c = start-on _ _ c.begin.ensures _ c.in-Some.is _ _ c.finish.ensures

@@ -7,7 +7,7 @@ pub returns-in_default : goal.returns-in_default
 returns-in_default c = step-full _ _ _ c.advance.ensures c.in_default.is _
 
 pub finish-requires : goal.finish-requires
-finish-requires c = (c.requires.0, grow-room c.advance.ensures _ c.in-Count.is)
+finish-requires c = (c.requires.0, grow-room c.advance.ensures _ c.in-Some.is)
 
 pub returns : goal.returns
-returns c = step-on _ _ _ c.advance.ensures _ c.in-Count.is _ _ c.finish.ensures
+returns c = step-on _ _ _ c.advance.ensures _ c.in-Some.is _ _ c.finish.ensures

@@ -1,25 +1,20 @@
--- The goals of `learning::rules::alone` that are not found.
-use mathlib.Core.Path.{refl}
-use native.Mathlib.Omega.{arith}
-use Rattle.configurations.proofs.HeldLaws.{member-has}
-use Rattle.learning.proofs.JudgeLaws.{alone-not, alone-next, alone-end}
+-- `learning::rules::alone` meets its contract: each of them is asked whether it is a rival of c.
+use borrow.Author.Tests.{tests}
+use Prim.Native.Nat.{ℕ}
+use mathlib.Core.Bool.{Bool, not}
+use Rattle.std.proofs.Common.{rules, refl, ap, ◌∙◌}
+use Rattle.std.proofs.lemmas.Iterator.{YieldsList-from_range}
+use Rattle.std.proofs.lemmas.Iterator.Search.{any_from_yields_List}
+use Rattle.lookahead.specs.Outcomes.{rivals}
+use Rattle.configurations.specs.inside.Packed.{config_of, packed_at}
+use Rattle.configurations.specs.inside.Held.{config_at}
+use Rattle.configurations.proofs.HeldLaws.{any-range}
 use Rattle.learning.proofs.rules.alone.Goals as goal
 
-pub loop-k-init : goal.loop-k-init
-loop-k-init c = (omega arith, refl)
-
-pub member-d-requires : goal.member-d-requires
-member-d-requires c = member-has c.requires.0 _ c.loop-k-test.true
-
-pub returns-then-rivals : goal.returns-then-rivals
-returns-then-rivals c = alone-not _ _ _ _ c.loop-k.invariant.1 c.loop-k-test.true c.member-d.ensures c.rivals.ensures c.if-rivals.true
-
-pub loop-k-preserved : goal.loop-k-preserved
-loop-k-preserved c = (
-  omega arith,
-  alone-next _ _ _ _ c.loop-k.invariant.1 c.loop-k-test.true c.member-d.ensures c.rivals.ensures
-      c.if-rivals.false,
-)
-
 pub returns : goal.returns
-returns c = alone-end _ _ _ _ c.loop-k.invariant.1 (omega arith)
+unfolding config_at
+returns c =
+    let P : ℕ → Bool = λ j. rivals (config_of c.args.c) (config_of (packed_at c.args.members.now j)) in
+    ap not
+    (any_from_yields_List P _ _ c.any.result c.any.ensures.ran (YieldsList-from_range _ _ _ refl refl) (λ x b q k. search (rules, tests))
+    ∙ any-range c.args.members.now (rivals (config_of c.args.c)) c.args.first _)

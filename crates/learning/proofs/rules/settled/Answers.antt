@@ -1,24 +1,22 @@
--- The goals of `learning::rules::settled` that are not found.
-use native.Mathlib.Omega.{arith}
-use Rattle.configurations.proofs.HeldLaws.{member-has}
-use Rattle.learning.proofs.JudgeLaws.{settled-whole, settled-hit, settled-next, settled-end}
+-- `learning::rules::settled` meets its contract: each of them is asked whether it has a rival.
+use borrow.Author.Tests.{tests}
+use Prim.Native.Nat.{ℕ, ◌-◌}
+use mathlib.Core.Bool.{Bool, not}
+use Rattle.std.proofs.Common.{rules, refl, ◌∙◌}
+use Rattle.std.proofs.lemmas.Iterator.{YieldsList-from_range}
+use Rattle.std.proofs.lemmas.Iterator.Search.{any_from_yields_List}
+use Rattle.base.specs.Rounds.{any_of}
+use Rattle.lookahead.specs.Configs.{Config}
+use Rattle.lookahead.specs.Outcomes.{rivals, settled}
+use Rattle.configurations.specs.inside.Packed.{config_of, packed_at}
+use Rattle.configurations.specs.inside.Held.{config_at, configs_from}
+use Rattle.configurations.proofs.HeldLaws.{any-range}
 use Rattle.learning.proofs.rules.settled.Goals as goal
 
-pub loop-k-init : goal.loop-k-init
-loop-k-init c = (omega arith, settled-whole _ _ _)
-
-pub member-c-requires : goal.member-c-requires
-member-c-requires c = member-has c.requires.0 _ c.loop-k-test.true
-
-pub returns-then-alone : goal.returns-then-alone
-returns-then-alone c = settled-hit _ _ _ _ c.loop-k.invariant.1 c.loop-k-test.true c.member-c.ensures c.alone.ensures c.if-alone.true
-
-pub loop-k-preserved : goal.loop-k-preserved
-loop-k-preserved c = (
-  omega arith,
-  settled-next _ _ _ _ c.loop-k.invariant.1 c.loop-k-test.true c.member-c.ensures c.alone.ensures
-      c.if-alone.false,
-)
-
 pub returns : goal.returns
-returns c = settled-end _ _ _ _ c.loop-k.invariant.1 (omega arith)
+unfolding settled config_at
+returns c =
+    let ks = configs_from c.args.members.now c.args.first (c.args.n - c.args.first) in
+    let P : ℕ → Bool = λ j. not (any_of (rivals (config_of (packed_at c.args.members.now j))) ks) in
+    any_from_yields_List P _ _ c.any.result c.any.ensures.ran (YieldsList-from_range _ _ _ refl refl) (λ x b q k. search (rules, tests))
+    ∙ any-range c.args.members.now (λ (k : Config). not (any_of (rivals k) ks)) c.args.first _

@@ -1,56 +1,38 @@
--- The goals of `machine::choice::lowest` that are not found.
-use mathlib.Core.Path.{refl}
+-- `machine::choice::lowest` meets its contract: the first place in the list of the nonterminal's productions that can end in s is its lowest alternative.
+use borrow.Author.Tests.{tests}
+use mathlib.Core.Bool.{Bool}
+use mathlib.Core.Path.{◌≡◌, refl}
+use Prim.Native.Nat.{ℕ, ◌+◌, ◌<◌}
 use native.Mathlib.Omega.{arith}
+use Rattle.std.proofs.Common.{rules}
+use Rattle.std.proofs.lemmas.Iterator.{YieldsList-from_slice}
+use Rattle.std.proofs.lemmas.Iterator.Search.{position_from_yields_List}
+use Rattle.std.proofs.lemmas.Iterator.Adapters.{serves_from_places, position_from-zero}
+use Rattle.grammar.specs.inside.Tables.{grammar_in}
 use Rattle.cells.proofs.Spots.{spot_in}
-use Rattle.derivation.proofs.FirstLaws.{rule-within, first-in}
-use Rattle.machine.specs.inside.Choice.{ends_in, lowest_in}
+use Rattle.positions.specs.inside.Positions.{meets_of}
+use Rattle.positions.specs.inside.Words.{set_at}
+use Rattle.cells.specs.inside.Chart.{spot}
+use Rattle.std.specs.Prelude.{option_map}
+use Rattle.machine.specs.inside.Choice.{ends_in}
 use Rattle.machine.proofs.CallLaws.{lent_of}
-use Rattle.machine.proofs.SeekLaws.{seeking-begins, seeking-found, seeking-on, seeking-ends, cell-ends}
+use Rattle.machine.proofs.LowestLaws.{placed-lowest, first-inside}
 use Rattle.machine.proofs.choice.lowest.Goals as goal
 
-pub loop-k-init : goal.loop-k-init
-unfolding ends_in
-loop-k-init c = (
-  omega arith,
-  seeking-begins _ _ _ c.requires.ready c.requires.named c.rule_at-start.ensures c.rule_at-end.ensures refl,
-)
-
-pub first_place-f-requires : goal.first_place-f-requires
-first_place-f-requires c = (
-  omega (
-    arith,
-    c.requires.ready.fits.long,
-    c.loop-k.invariant.0,
-    rule-within _ c.requires.ready _ c.requires.named c.rule_at-start.ensures c.rule_at-end.ensures,
-  ),
-  c.requires.ready.fits.long,
-)
-
-pub cell-t-requires : goal.cell-t-requires
-cell-t-requires c =
-    spot_in _ _ _ _ _ (lent_of c.size-places.ensures c.requires.lent.lent)
-    (omega (
-      arith,
-      c.size-places.ensures,
-      first-in _ c.requires.ready _ c.requires.named c.rule_at-start.ensures c.rule_at-end.ensures _
-          c.loop-k.invariant.0 (omega arith) c.first_place-f.ensures,
-    )) c.requires.lent.here
-
-pub returns-then-meets : goal.returns-then-meets
-unfolding lowest_in
-returns-then-meets c =
-    seeking-found _ _ _ c.requires.ready c.requires.named c.rule_at-start.ensures c.rule_at-end.ensures _
-    c.loop-k.invariant.1 c.loop-k.invariant.0 (omega arith) c.first_place-f.ensures
-    (cell-ends c.size-places.ensures _ _ _ _ c.cell-t.ensures c.meets.ensures) c.if-meets.true
-
-pub loop-k-preserved : goal.loop-k-preserved
-loop-k-preserved c = (
-  omega (arith, c.loop-k.invariant.0),
-  seeking-on _ _ _ c.requires.ready c.requires.named c.rule_at-start.ensures c.rule_at-end.ensures _
-      c.loop-k.invariant.1 c.loop-k.invariant.0 (omega arith) c.first_place-f.ensures
-      (cell-ends c.size-places.ensures _ _ _ _ c.cell-t.ensures c.meets.ensures) c.if-meets.false,
-)
+pub position-requires-clause-callable : goal.position-requires-clause-callable
+position-requires-clause-callable c =
+    serves_from_places (YieldsList-from_slice c.first_places.result.now cc) (λ x q k. search (rules, tests)) (λ x k l e _ _ _ _ _ _ _ _ from _ _.
+    let inside : x.now < (grammar_in c.args.tables.now).size
+    = first-inside c.args.tables.now c.requires.ready c.args.a k x.now (rw c.first_places.ensures at l) (rw c.first_places.ensures at e) in
+    spot_in c.size-places.result c.requires.lent.tokens from.result c.args.i c.args.ws.now (lent_of c.size-places.ensures c.requires.lent.lent)
+    (omega (arith, from.ensures, c.size-places.ensures)) c.requires.lent.here)
 
 pub returns : goal.returns
-unfolding lowest_in
-returns c = seeking-ends _ _ _ _ _ _ c.loop-k.invariant.1 (omega arith)
+unfolding ends_in
+returns c =
+    let P : ℕ → Bool = λ f. meets_of (set_at c.args.ws.now (spot c.size-places.result f c.args.i)) c.args.s.words in
+    let e = position_from_yields_List P _ _ c.position.result c.position.ensures.ran (YieldsList-from_slice c.first_places.result.now cc)
+    (λ x b q k. search (rules, tests)) in
+    let z : c.map.result ≡ option_map (λ k. k + 1) c.position.result = search rules in
+    rw (z, e, position_from-zero P c.first_places.result.now, c.first_places.ensures)
+    (placed-lowest c.args.tables.now c.args.ws.now c.args.a c.args.i c.args.s.words P (λ f. rw c.size-places.ensures refl))

@@ -1,5 +1,5 @@
 -- `machine::ending::is_sentence` meets its contract: the note is a sentence exactly if some alternative of nonterminal 0 can end at the note's end.
-use mathlib.Core.Path.{refl}
+use mathlib.Core.Path.{refl, ◌∙◌}
 use native.Mathlib.Omega.{arith}
 use lib.ListN.{length}
 use Rattle.machine.proofs.CallLaws.{lent_at}
@@ -17,5 +17,5 @@ lowest-requires c =
 
 pub returns : goal.returns
 returns c =
-    sentence-is _ _ _ (λ k. (c.shared_slice_known-3-1.given k).fits) c.requires c.empty.ensures c.with-s.ensures
-    c.lowest.ensures
+    c.is_some.ensures
+    ∙ sentence-is _ _ _ (λ k. (c.shared_slice_known-3-1.given k).fits) c.requires c.empty.ensures c.with-s.ensures _ c.lowest.ensures

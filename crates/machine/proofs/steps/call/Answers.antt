@@ -2,6 +2,7 @@
 -- the set of the topmost frame says from where the return place leads on. So the lowest alternative that can end in the set is the plain chooser's.
 use native.Mathlib.Omega.{arith}
 use Rattle.machine.proofs.CallLaws.{calling-at, calling-chooses, ahead-end, ahead-over, call-leaves, lent_of}
+use Rattle.machine.proofs.LowestLaws.{numbered-map}
 use Rattle.machine.proofs.WaitLaws.{waits-named, waits-place, waits-frames}
 use Rattle.machine.proofs.steps.call.Goals as goal
 
@@ -13,9 +14,9 @@ choose-requires c = calling-chooses _ _ _ (λ k. (c.slice_known-1.given k).fits)
 
 pub returns-then-at-eq0 : goal.returns-then-at-eq0
 returns-then-at-eq0 c =
-    call-leaves _ _ _ (λ k. (c.slice_known-1.given k).fits) _ _ _ c.requires _
+    numbered-map _ (λ r x. call-leaves _ _ _ (λ k. (c.slice_known-1.given k).fits) _ _ _ c.requires _
     (ahead-end _ _ _ (λ k. (c.slice_known-1.given k).fits) _ _ _ c.requires c.if-at-eq0.true c.empty.ensures
-    c.with-s.ensures) c.choose.ensures.0 c.choose.ensures.1
+    c.with-s.ensures) x.0 x.1) c.choose.ensures
 
 pub ends_of-ends-requires : goal.ends_of-ends-requires
 ends_of-ends-requires c =
@@ -39,6 +40,6 @@ choose-requires-2 c = calling-chooses _ _ _ (λ k. (c.slice_known-1.given k).fit
 
 pub returns : goal.returns
 returns c =
-    call-leaves _ _ _ (λ k. (c.slice_known-1.given k).fits) _ _ _ c.requires _
+    numbered-map _ (λ r x. call-leaves _ _ _ (λ k. (c.slice_known-1.given k).fits) _ _ _ c.requires _
     (ahead-over _ _ _ (λ k. (c.slice_known-1.given k).fits) _ _ _ c.requires _ _ _ c.if-at-eq0.false c.ends_of-ends.ensures
-    c.rest-rest.ensures c.serving-s.ensures) c.choose-2.ensures.0 c.choose-2.ensures.1
+    c.rest-rest.ensures c.serving-s.ensures) x.0 x.1) c.choose-2.ensures

@@ -3,8 +3,10 @@
 use Rattle.opening.proofs.DescentLaws.{Downwards}
 use Rattle.opening.proofs.descent.descend.Given as goal
 
-abbrev pub invariant-loop-size : goal.invariant-loop-size
-invariant-loop-size l = Downwards l.tables l.note l.masks l.initial.ws l.base l.depth l.known l.q l.i l.initial.at l.ws l.at l.p l.j l.k
+abbrev pub invariant-loop-way : goal.invariant-loop-way
+invariant-loop-way l =
+    Downwards l.search.tables.now l.search.note.now l.search.masks.now l.initial.ws l.frames.base l.frames.depth l.frames.known l.q l.i l.initial.meter l.ws
+    l.meter l.p l.j l.k
 
-abbrev pub decreases-loop-size : goal.decreases-loop-size
-decreases-loop-size l = l.k
+abbrev pub decreases-loop-way : goal.decreases-loop-way
+decreases-loop-way l = l.k

@@ -3,9 +3,10 @@
 use Rattle.opening.proofs.ScatterLaws.{Spreading}
 use Rattle.opening.proofs.descent.spread.Given as goal
 
-abbrev pub invariant-loop-size : goal.invariant-loop-size
-invariant-loop-size l =
-    Spreading l.tables l.note l.masks l.initial.ws l.base l.depth l.known l.p l.initial.x.words l.initial.at l.ws l.at l.q l.x.words l.k
+abbrev pub invariant-loop-x : goal.invariant-loop-x
+invariant-loop-x l =
+    Spreading l.search.tables.now l.search.note.now l.search.masks.now l.initial.ws l.frames.base l.frames.depth l.frames.known l.p l.initial.x.words
+    l.initial.meter l.ws l.meter l.q l.x.words l.k
 
-abbrev pub decreases-loop-size : goal.decreases-loop-size
-decreases-loop-size l = l.k
+abbrev pub decreases-loop-x : goal.decreases-loop-x
+decreases-loop-x l = l.k

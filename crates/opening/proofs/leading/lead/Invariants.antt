@@ -5,8 +5,10 @@ use Rattle.derivation.specs.inside.Reach.{Reach}
 use Rattle.opening.proofs.LeadLaws.{Turned}
 use Rattle.opening.proofs.leading.lead.Given as goal
 
-abbrev pub invariant-loop-b : goal.invariant-loop-b
-invariant-loop-b l = Turned l.tables l.note l.masks l.initial.ws (Reach (grammar_in l.tables) (marked l.note) l.p l.i) l.initial.at l.ws l.at
+abbrev pub invariant-loop-pair : goal.invariant-loop-pair
+invariant-loop-pair l =
+    Turned l.search.tables.now l.search.note.now l.search.masks.now l.initial.ws
+    (Reach (grammar_in l.search.tables.now) (marked l.search.note.now) l.p l.i) l.initial.meter l.ws l.meter
 
-abbrev pub decreases-loop-b : goal.decreases-loop-b
-decreases-loop-b l = l.at.left
+abbrev pub decreases-loop-pair : goal.decreases-loop-pair
+decreases-loop-pair l = l.meter.left

@@ -9,9 +9,10 @@ use Rattle.derivation.specs.inside.Reach.{Reach}
 use Rattle.opening.proofs.LeadLaws.{Turned}
 use Rattle.opening.proofs.leading.spread.Given as goal
 
-abbrev pub invariant-loop-b : goal.invariant-loop-b
-invariant-loop-b l =
-    Turned l.tables l.note l.masks l.initial.ws ((i : ℕ) → T (member l.from.words i) → Reach (grammar_in l.tables) (marked l.note) l.p i) l.initial.at l.ws l.at
+abbrev pub invariant-loop-to : goal.invariant-loop-to
+invariant-loop-to l =
+    Turned l.search.tables.now l.search.note.now l.search.masks.now l.initial.ws
+    ((i : ℕ) → T (member l.from.words i) → Reach (grammar_in l.search.tables.now) (marked l.search.note.now) l.p i) l.initial.meter l.ws l.meter
 
-abbrev pub decreases-loop-b : goal.decreases-loop-b
-decreases-loop-b l = l.at.left
+abbrev pub decreases-loop-to : goal.decreases-loop-to
+decreases-loop-to l = l.meter.left

@@ -1,13 +1,16 @@
 -- `quick::reading::within` meets its contract: the gate is the definition's, and where it is passed the tables hold the grammar by which the note is read
 -- over the cache as it stands.
+use Rattle.std.proofs.lemmas.Result.{err_from_is_err_and}
 use Rattle.quick.proofs.ReadingLaws.{shut-is, passed_is, standing-long}
 use Rattle.quick.proofs.reading.within.Goals as goal
 
 pub over-requires : goal.over-requires
-over-requires c = (c.pass-gate.ensures.admits c.in-Passed.is, standing-long _ _ c.stands-standing.ensures)
+over-requires c = (c.pass.ensures.admits c.in_ok-pass.was, standing-long _ _ c.stands-standing.ensures)
 
-pub returns-in-Shut : goal.returns-in-Shut
-returns-in-Shut c = shut-is _ _ _ _ _ c.pass-gate.ensures c.in-Shut.is
+pub returns-in_err-pass : goal.returns-in_err-pass
+returns-in_err-pass c =
+    let p = err_from_is_err_and c.from_residual.result c.from_residual.ensures.1 in
+    rw (p.1, p.2) (shut-is _ _ _ _ _ c.pass.ensures c.in_err-pass.was)
 
-pub returns-in-Passed : goal.returns-in-Passed
-returns-in-Passed c = passed_is _ _ _ _ _ c.pass-gate.ensures c.in-Passed.is c.stands-standing.ensures c.over.ensures
+pub returns : goal.returns
+returns c = passed_is _ _ _ _ _ c.pass.ensures c.in_ok-pass.was c.stands-standing.ensures c.over.ensures

@@ -24,7 +24,7 @@ pub keep-requires : goal.keep-requires
 keep-requires c =
     let places = ready-size _ c.requires.told.ready in
     let short = c.requires.told.lent.short in
-    let few = units-few _ (omega (arith, c.size.ensures, places)) short c.units.ensures c.lower-left.ensures in
+    let few = units-few _ (omega (arith, c.size.ensures, places)) short c.units.ensures c.min-left.ensures in
     (c.requires.told.tallied.long, omega (arith, few), short)
 
 pub returns : goal.returns
@@ -41,4 +41,4 @@ returns c =
     } in
     begun_fresh c.requires (omega arith) (fits-is _ c.fits.ensures (ap not c.if-not-fits.false)) given c.size_of.ensures
     c.clear.ensures.0 c.clear.ensures.1 _ (omega (arith, c.size.ensures, ready-size _ c.requires.told.ready))
-    c.units.ensures c.lower-left.ensures c.keep.ensures
+    c.units.ensures c.min-left.ensures c.keep.ensures

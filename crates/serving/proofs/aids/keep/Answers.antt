@@ -5,4 +5,4 @@ use Rattle.serving.proofs.AidLaws.{tally-put}
 use Rattle.serving.proofs.aids.keep.Goals as goal
 
 pub returns : goal.returns
-returns c = tally-put c.args.tally.now c.requires.0 (c.word.ensures ∙ add-one _) (c.word-2.ensures ∙ c.lower.ensures)
+returns c = tally-put c.args.tally.now c.requires.0 (c.word.ensures ∙ add-one _) (c.word-2.ensures ∙ c.min.ensures)

@@ -33,7 +33,7 @@ pub returns-then-ends_note : goal.returns-then-ends_note
 returns-then-ends_note c =
     judged-sentence c.requires.1 c.begin.ensures (omega (arith, c.if-tally-lt2.false)) c.ask_start.ensures
     (omega (arith, c.if-tally-lt2-2.false)) c.known-reply.result c.known-reply.ensures c.ends_note.ensures c.meter-meter.ensures.1
-    c.lower-place.ensures c.if-ends_note.true
+    c.min-place.ensures c.if-ends_note.true
 
 pub shape_of-masks : goal.shape_of-masks
 shape_of-masks c = c.masks-1.given
@@ -48,4 +48,4 @@ pub returns : goal.returns
 returns c =
     judged-wrong c.requires.1 c.begin.ensures (omega (arith, c.if-tally-lt2.false)) c.ask_start.ensures
     (omega (arith, c.if-tally-lt2-2.false)) c.known-reply.result c.known-reply.ensures c.ends_note.ensures c.meter-meter.ensures.1
-    c.lower-place.ensures c.if-ends_note.false
+    c.min-place.ensures c.if-ends_note.false

@@ -2,8 +2,5 @@
 use native.Mathlib.Omega.{arith}
 use Rattle.serving.proofs.pushing.push.Goals as goal
 
-pub returns-then-known-at : goal.returns-then-known-at
-returns-then-known-at c = (cc, omega arith)
-
 pub returns : goal.returns
 returns c = (cc, omega arith)

@@ -1,5 +1,6 @@
 -- `serving::tabling::full` meets its contract: cells and sets are right before the plain choice is asked, and no return place has changed by that.
 use native.Mathlib.Omega.{arith}
+use Rattle.machine.proofs.LowestLaws.{numbered-map}
 use Rattle.serving.proofs.WaitingLaws.{first-asks, first_finds, over-place, over-standing, over-asks, over-finds}
 use Rattle.serving.proofs.tabling.full.Goals as goal
 
@@ -10,7 +11,7 @@ pub call-requires : goal.call-requires
 call-requires c = first-asks _ _ _ c.requires c.if-at-eq0.true c.fill.ensures
 
 pub returns-then-at-eq0 : goal.returns-then-at-eq0
-returns-then-at-eq0 c = first_finds _ _ _ c.requires c.if-at-eq0.true c.fill.ensures c.call.ensures
+returns-then-at-eq0 c = numbered-map _ (λ r x. first_finds _ _ _ c.requires c.if-at-eq0.true c.fill.ensures x) c.call.ensures
 
 pub overflow_sub-caller : goal.overflow_sub-caller
 overflow_sub-caller c = omega (arith, over-place _ _ _ c.requires c.if-at-eq0.false)
@@ -30,4 +31,5 @@ pub call-requires-2 : goal.call-requires-2
 call-requires-2 c = over-asks _ _ _ c.requires c.if-at-eq0.false c.table-stand.ensures c.settle.ensures
 
 pub returns : goal.returns
-returns c = over-finds _ _ _ c.requires c.if-at-eq0.false c.table-stand.ensures c.settle.ensures c.call-2.ensures
+returns c =
+    numbered-map _ (λ r x. over-finds _ _ _ c.requires c.if-at-eq0.false c.table-stand.ensures c.settle.ensures x) c.call-2.ensures

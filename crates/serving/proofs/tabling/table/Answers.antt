@@ -14,8 +14,5 @@ returns-then-known-eq0 c =
     table-put _ c.requires.ready _ _ c.requires.standing c.requires.spaced.base c.empty.ensures c.with-s.ensures
     c.put_rest.ensures c.fill.ensures
 
-pub returns-then-known-at : goal.returns-then-known-at
-returns-then-known-at c = table-again _ c.requires.ready _ _ c.requires.standing (omega arith) (omega arith)
-
 pub returns : goal.returns
 returns c = table-again _ c.requires.ready _ _ c.requires.standing (omega arith) (omega arith)

@@ -7,7 +7,7 @@ use Rattle.splitter.proofs.ItemLaws.{cut-begins, cut-ends, cut-blank, cut-many, 
 use Rattle.splitter.proofs.cutting.cut.Goals as goal
 
 pub loop-i-init : goal.loop-i-init
-loop-i-init c = (cut-begins _ _ _, c.requires.1, omega arith)
+loop-i-init c = (cut-begins _ _ _, c.requires.0, omega arith)
 
 pub loop-i-preserved-then-class-eq-BLANK : goal.loop-i-preserved-then-class-eq-BLANK
 loop-i-preserved-then-class-eq-BLANK c =
@@ -21,7 +21,7 @@ returns-then-k-ge-MAX_TOKENS c =
     (cut-many _ _ _ _ _ inv.0 (omega arith) refl c.class.ensures c.if-class-eq-BLANK.false (omega arith) inv.1, inv.1)
 
 pub item_at-item-requires : goal.item_at-item-requires
-item_at-item-requires c = (c.requires.0, omega arith, c.requires.2)
+item_at-item-requires c = (omega arith, c.requires.1)
 
 pub loop-i-smaller : goal.loop-i-smaller
 loop-i-smaller c =

@@ -9,7 +9,7 @@ use Rattle.splitter.proofs.cutting.cut.Given as goal
 
 abbrev pub invariant-loop-i : goal.invariant-loop-i
 invariant-loop-i l =
-    CutTo (words_at l.list l.starts l.count) l.line l.kinds l.i l.k × (length l.kinds ≡ max_split)
+    CutTo (words_at l.words.list.now l.words.starts l.words.count) l.line l.kinds l.i l.k × (length l.kinds ≡ max_split)
     × (l.k ≤ max_split)
 
 abbrev pub decreases-loop-i : goal.decreases-loop-i

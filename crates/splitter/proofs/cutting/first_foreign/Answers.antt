@@ -1,18 +1,17 @@
--- The goals of `splitter::cutting::first_foreign` that are not found.
-use Rattle.splitter.specs.inside.Cut.{scan_of}
-use mathlib.Core.Path.{refl, ap}
-use native.Mathlib.Omega.{arith}
-use Rattle.splitter.proofs.ForeignLaws.{seek-begins, seek-ends, seek-here, seek-on}
+-- `splitter::cutting::first_foreign` meets its contract: the first byte of the class foreign is the lowest place of one.
+use borrow.Author.Tests.{tests}
+use mathlib.Core.Path.{refl, ◌∙◌}
+use Rattle.std.proofs.Common.{rules}
+use Rattle.std.proofs.lemmas.Iterator.{YieldsList-from_slice}
+use Rattle.std.proofs.lemmas.Iterator.Search.{position_from_yields_List}
+use Rattle.base.proofs.Lowest.{position-lowest}
+use Rattle.splitter.specs.Classes.{foreign?}
+use Rattle.splitter.specs.Items.{first_foreign}
 use Rattle.splitter.proofs.cutting.first_foreign.Goals as goal
 
-pub loop-i-init : goal.loop-i-init
-loop-i-init c = (seek-begins c.args.line.now, omega arith)
-
-pub returns-then-class-eq-FOREIGN : goal.returns-then-class-eq-FOREIGN
-returns-then-class-eq-FOREIGN c = ap scan_of (seek-here _ _ c.loop-i.invariant.0 (omega arith) refl c.class.ensures c.if-class-eq-FOREIGN.true)
-
-pub loop-i-preserved : goal.loop-i-preserved
-loop-i-preserved c = (seek-on _ _ c.loop-i.invariant.0 (omega arith) refl c.class.ensures c.if-class-eq-FOREIGN.false, omega arith)
-
 pub returns : goal.returns
-returns c = ap scan_of (seek-ends _ _ c.loop-i.invariant.0 (omega arith))
+unfolding first_foreign foreign?
+returns c =
+    position_from_yields_List foreign? _ _ c.position.result c.position.ensures.ran (YieldsList-from_slice c.args.line.now cc)
+    (λ x b q k. search (rules, tests))
+    ∙ position-lowest foreign? c.args.line.now _ (λ k l. refl)

@@ -6,4 +6,4 @@ pub returns-then-cache-lt-MIN_WORDS : goal.returns-then-cache-lt-MIN_WORDS
 returns-then-cache-lt-MIN_WORDS c = short-cache _ _ c.if-cache-lt-MIN_WORDS.true
 
 pub returns : goal.returns
-returns c = settled _ _ c.if-cache-lt-MIN_WORDS.false c.clear.ensures c.write_sizes.ensures c.write_bytes.ensures
+returns c = settled _ _ c.if-cache-lt-MIN_WORDS.false (c.fill.ensures.after (λ y h. h)) c.write_sizes.ensures c.write_bytes.ensures

@@ -1,5 +1,5 @@
 -- `words::slots::kept_count` meets its contract: a count is read as what the slot says, or as the most that is kept where it says more.
-use Rattle.words.proofs.SlotLaws.{slot-few, count-high, count_low}
+use Rattle.words.proofs.SlotLaws.{slot-few, count-is}
 use Rattle.words.proofs.WordLaws.{slot-within}
 use lib.ListN.{length}
 use native.Mathlib.Omega.{arith}
@@ -14,8 +14,5 @@ offset_bounds-cache-slot_at c = omega (arith, slot-within (length c.args.cache.n
 pub bounds-cache-slot_at : goal.bounds-cache-slot_at
 bounds-cache-slot_at c = omega (arith, slot-within (length c.args.cache.now) c.args.s c.requires)
 
-pub returns-then-n-gt-KEPT : goal.returns-then-n-gt-KEPT
-returns-then-n-gt-KEPT c = count-high _ _ c.number-n.ensures c.slot_at.ensures c.if-n-gt-KEPT.true
-
 pub returns : goal.returns
-returns c = count_low _ _ c.number-n.ensures c.slot_at.ensures c.if-n-gt-KEPT.false
+returns c = omega (arith, count-is c.args.cache.now c.args.s c.number.ensures c.slot_at.ensures)

@@ -1,5 +1,0 @@
--- `search::words::put_wait` meets its contract: the pair as one number fits a word, and the words of the pairs that wait are in the slice.
-use Rattle.search.proofs.words.put_wait.Goals as goal
-
-pub returns : goal.returns
-returns c = cc

@@ -1,5 +1,0 @@
--- `search::words::wait_of` meets its contract: the words of the pairs that wait are in the slice.
-use Rattle.search.proofs.words.wait_of.Goals as goal
-
-pub returns : goal.returns
-returns c = cc
