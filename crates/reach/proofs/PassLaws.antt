@@ -3,22 +3,23 @@ use mathlib.Core.Path.{◌≡◌, refl, sym, ap, subst, ◌∙◌}
 use mathlib.Core.Logic.{⊎_elim}
 use mathlib.Core.Bool.{Bool, true, false, ◌||◌, true≢false, false≢true}
 use mathlib.Core.List.{List}
-use Prim.Native.Nat.{ℕ, zero, suc, ◌+◌, ◌*◌, ◌≤◌, ◌<◌}
+use Prim.Native.Nat.{ℕ, zero, suc, ◌+◌, ◌*◌, ◌/◌, ◌%◌, ◌≤◌, ◌<◌}
 use native.Mathlib.Omega.{arith}
 use native.Mathlib.Decide.{dec_lt}
-use lib.Dec.{T}
-use lib.ListN.{length, get_or, set, length-set, replicate, length-replicate}
-use lib.Seq.{get_or-set_other}
-use Rattle.base.proofs.Bits.{same?}
-use Rattle.base.proofs.Booleans.{true→T, false→¬T}
+use lib.Dec.{T, eqb, eqb→eq}
+use lib.ListN.{length, get_or, replicate, length-replicate}
+use Rattle.base.specs.Bits.{word_bits}
+use Rattle.base.proofs.Bits.{test-none}
+use Rattle.base.proofs.Booleans.{true→T, false→¬T, or-T}
 use Rattle.grammar.specs.Limits.{max_places}
 use Rattle.grammar.specs.Grammar.{Grammar}
 use Rattle.grammar.specs.inside.Tables.{grammar_in}
-use Rattle.positions.specs.inside.Positions.{position_count, set_words}
+use Rattle.positions.specs.inside.Positions.{position_count, set_words, member, with_of}
 use Rattle.positions.specs.inside.Words.{member_at, total}
+use Rattle.positions.proofs.SetLaws.{member-with, length-with}
 use Rattle.derivation.specs.inside.Ready.{Ready}
 use Rattle.derivation.proofs.ReadyLaws.{ready-size}
-use Rattle.reach.specs.inside.Sets.{PointInside, stands, Added}
+use Rattle.reach.specs.inside.Sets.{place_set_words, PointInside, stands, Added}
 use Rattle.reach.specs.inside.Passes.{Leads, Closed, SetsGrown, PassedTo, Passed, PassesDone, Stepped}
 use Rattle.reach.proofs.AddLaws.{or-first, or-second}
 use Rattle.reach.proofs.StepLaws.{leads-le, leads-in, leads-reach, leads-place}
@@ -130,45 +131,50 @@ module _ (t w : List ℕ) (p i : ℕ) {r : Bool} {ws₀ ws : List ℕ} (ready : 
         go false d = rw (or-first r u d) (pass-old d)
 
   -- a step was made from p before
-  pub pass-before : (from : List Bool) → Stepped t w i from ws → get_or from p false ≡ true → PassedTo (grammar_in t) w (p + 1) i r ws₀ ws
-  pass-before from y n =
+  pub pass-before : (from : List ℕ) → Stepped t w i from ws → {d : Bool} → d ≡ member from p → d ≡ true
+      → PassedTo (grammar_in t) w (p + 1) i r ws₀ ws
+  pass-before from y {d} c n =
       record {
         sets = h.sets;
         same = h.same;
         grown = h.grown;
-        closed = λ z. closed-more (grammar_in t) w p i ws (h.closed z) (λ q' j s x. y.made p q' j (true→T (get_or from p false) n) l x);
+        closed = λ z. closed-more (grammar_in t) w p i ws (h.closed z) (λ q' j s x. y.made p q' j (true→T (member from p) (sym c ∙ n)) l x);
       }
 
 -- ---- the places from which a step was made
-pub stepped-none : (t w : List ℕ) (i : ℕ) (ws : List ℕ) → Stepped t w i (replicate max_places false) ws
+pub stepped-none : (t w : List ℕ) (i : ℕ) (ws : List ℕ) → Stepped t w i (replicate place_set_words 0) ws
+unfolding member
 stepped-none t w i ws =
-    record { long = length-replicate {A = Bool} max_places false; made = λ p q j h l x. absurd (rw (none max_places p) at h) }
+    record { long = length-replicate {A = ℕ} place_set_words 0; made = λ p q j h l x. absurd (false→¬T (member (replicate place_set_words 0) p) (none p) h) }
   where
-    none : (n k : ℕ) → get_or (replicate n false) k false ≡ false
-    none zero k = refl
-    none (suc n) zero = refl
-    none (suc n) (suc k) = none n k
+    zeros : (n k : ℕ) → get_or {A = ℕ} (replicate n 0) k 0 ≡ 0
+    zeros zero k = refl
+    zeros (suc n) zero = refl
+    zeros (suc n) (suc k) = zeros n k
+
+    none : (p : ℕ) → member (replicate place_set_words 0) p ≡ false
+    none p = rw (zeros place_set_words (p / word_bits)) (test-none (p % word_bits))
 
 -- a step is made from p, which is put to them
 pub stepped-more : (t w : List ℕ) (p i : ℕ) {u : Bool} {ws after : List ℕ} → Ready t → length w < position_count → i ≤ length w → p < max_places
-    → {from from' : List Bool} → from' ≡ set from p true
+    → {from from' : List ℕ} → from' ≡ with_of from p
     → Stepped t w i from ws → Added (Leads (grammar_in t) w p i) u ws after → Stepped t w i from' after
-stepped-more t w p i {after = after} ready short m few {from} {from'} e y x = record { long = ap length e ∙ (length-set from p true ∙ y.long); made = made }
+stepped-more t w p i {after = after} ready short m few {from} {from'} e y x = record { long = ap length e ∙ (length-with from p ∙ y.long); made = made }
   where
-    made : (p' q j : ℕ) → T (get_or from' p' false) → p' < (grammar_in t).size → Leads (grammar_in t) w p' i q j → T (stands after q j)
-    made p' q j h l z = ⊎_elim (λ d. x.held q j inside (rw d at z))
-        (λ n. x.kept q j inside (y.made p' q j (rw (e, get_or-set_other from p p' true false n) at h) l z)) (same? p' p)
+    made : (p' q j : ℕ) → T (member from' p') → p' < (grammar_in t).size → Leads (grammar_in t) w p' i q j → T (stands after q j)
+    made p' q j h l z = ⊎_elim (λ d. x.kept q j inside (y.made p' q j d l z)) (λ d. x.held q j inside (rw (eqb→eq p' p d) at z))
+        (or-T (member from p') (eqb p' p) (rw (e, member-with from p p' (omega (arith, y.long))) at h))
       where
         inside : PointInside q j
         inside = leads-inside t w ready short l m z
 
 -- all places have had their turn
-pub pass-end : (t w : List ℕ) (p i : ℕ) {m : ℕ} {r : Bool} {ws after : List ℕ} {from : List Bool} → m ≡ (grammar_in t).size → p ≡ m
+pub pass-end : (t w : List ℕ) (p i : ℕ) {m : ℕ} {r : Bool} {ws after from : List ℕ} → m ≡ (grammar_in t).size → p ≡ m
     → PassedTo (grammar_in t) w p i r ws after → Stepped t w i from after → Passed t w i r ws after from
 pass-end t w p i s e h y = record { to = rw (e, s) at h; stepped = y }
 
 -- ---- passes
-pub settle-end : {t w : List ℕ} {i : ℕ} {r : Bool} {ws₀ ws after : List ℕ} {from : List Bool} → SetsGrown (grammar_in t) w i ws₀ ws
+pub settle-end : {t w : List ℕ} {i : ℕ} {r : Bool} {ws₀ ws after from : List ℕ} → SetsGrown (grammar_in t) w i ws₀ ws
     → Passed t w i r ws after from → r ≡ false
     → PassesDone t w i ws₀ after
 settle-end {t} {w} {i} h k e = record { sets = grown-both (grammar_in t) w i h k.to.sets; closed = k.to.closed e }

@@ -5,9 +5,9 @@
 ghost use Rattle.std.specs.Prelude.{◌≡◌, ◌≤◌, ◌<◌, length};
 ghost use Rattle.grammar.specs.Limits.{max_places};
 ghost use Rattle.grammar.specs.inside.Tables.{grammar_in};
-ghost use Rattle.positions.specs.inside.Positions.{position_count, member};
+ghost use Rattle.positions.specs.inside.Positions.{position_count, member, with_of};
 ghost use Rattle.derivation.specs.ReachRounds.{highest_to, wrong_place};
-ghost use Rattle.reach.specs.inside.Sets.{sets_words, Marks, Added, PointOf, Occupied};
+ghost use Rattle.reach.specs.inside.Sets.{sets_words, place_set_words, Marks, Added, PointOf, Occupied};
 ghost use Rattle.reach.specs.inside.Passes.{Stepped, Given, StandsAt, MayEnter, Opening, Leads, Passed, PassesDone};
 
 use grammar::Symbol;
@@ -15,6 +15,26 @@ use positions::Positions;
 
 // Words of the sets of all places. specs/Sets has the same.
 const SETS: usize = positions::WORDS * grammar::MAX_PLACES;
+
+// Words of a set of places, a bit for each. specs/Sets has the same.
+const PLACE_WORDS: usize = grammar::MAX_PLACES / base::WORD_BITS + 1;
+
+// Whether a set of places holds p.
+fn has_place(set: &[u32], p: usize) -> bool
+    requires { (length set.now ≡ place_set_words) × (p < max_places) }
+    ensures { result ≡ member set.now p }
+{
+    base::has(set[p / base::WORD_BITS], p % base::WORD_BITS)
+}
+
+// Puts p into a set of places.
+fn put_place(set: &mut [u32], p: usize)
+    requires { (length set.old ≡ place_set_words) × (p < max_places) }
+    ensures { set.new ≡ with_of set.old p }
+{
+    let k = p / base::WORD_BITS;
+    set[k] = base::with(set[k], p % base::WORD_BITS);
+}
 
 // A reader can stand at place q at position j. Whether that is new.
 fn mark(sets: &mut [u32], q: usize, j: usize) -> bool
@@ -69,7 +89,7 @@ fn pass(
     note: &[u16],
     ws: &[u32],
     sets: &mut [u32],
-    stepped: &mut [bool],
+    stepped: &mut [u32],
     i: usize,
 ) -> bool
     requires { StandsAt tables.now note.now ws.now i sets.old × Stepped tables.now note.now i stepped.old sets.old }
@@ -77,8 +97,8 @@ fn pass(
 {
     let mut grown = false;
     for p in 0..grammar::size(tables) {
-        if positions::holds(sets, positions::WORDS * p, i) && !stepped[p] {
-            stepped[p] = true;
+        if positions::holds(sets, positions::WORDS * p, i) && !has_place(stepped, p) {
+            put_place(stepped, p);
             grown |= step(tables, note, ws, sets, p, i);
         }
     }
@@ -90,7 +110,7 @@ fn settle(tables: &[u16], note: &[u16], ws: &[u32], sets: &mut [u32], i: usize)
     requires { StandsAt tables.now note.now ws.now i sets.old }
     ensures { PassesDone tables.now note.now i sets.old sets.new }
 {
-    let mut stepped = [false; grammar::MAX_PLACES];
+    let mut stepped = [0u32; PLACE_WORDS];
     while pass(tables, note, ws, sets, &mut stepped, i) {}
 }
 

@@ -8,7 +8,7 @@ use Rattle.derivation.proofs.ReadyLaws.{ready-size}
 use mathlib.Core.Path.{refl, ◌∙◌}
 use Rattle.reach.proofs.PassLaws.{holds-stands, pass-begin, pass-out, pass-on, pass-before, pass-end, stepped-more}
 use Rattle.reach.proofs.pass.Goals as goal
-use Rattle.reach.proofs.pass.Goals.{then-holds+then-not-stepped-p, else-holds, else-holds-via-then-holds+else-not-stepped-p, else-holds-via-else-holds}
+use Rattle.reach.proofs.pass.Goals.{then-holds+then-not-has_place, else-holds, else-holds-via-then-holds+else-not-has_place, else-holds-via-else-holds}
 
 pub size-p-end-requires : goal.size-p-end-requires
 size-p-end-requires c = c.requires.0.given.ready.fits.long
@@ -31,11 +31,11 @@ step-grown-requires c =
       omega (arith, c.loop-p-test.true, c.size-p-end.ensures),
     )
 
-pub bounds-stepped-p : goal.bounds-stepped-p
-bounds-stepped-p c = omega (arith, c.loop-p.invariant.2.long, ready-size _ c.requires.0.given.ready, c.size-p-end.ensures)
+pub has_place-requires : goal.has_place-requires
+has_place-requires c = (c.loop-p.invariant.2.long, omega (arith, ready-size _ c.requires.0.given.ready, c.size-p-end.ensures))
 
-pub bounds-stepped-p-then-not-stepped-p : goal.bounds-stepped-p-then-not-stepped-p
-bounds-stepped-p-then-not-stepped-p c = omega (arith, c.loop-p.invariant.2.long, ready-size _ c.requires.0.given.ready, c.size-p-end.ensures)
+pub put_place-requires : goal.put_place-requires
+put_place-requires c = (c.loop-p.invariant.2.long, omega (arith, ready-size _ c.requires.0.given.ready, c.size-p-end.ensures))
 
 pub loop-p-preserved : goal.loop-p-preserved
 loop-p-preserved c =
@@ -46,15 +46,16 @@ loop-p-preserved c =
     let inv = c.loop-p.invariant in
     let stands = holds-stands _ _ _ c.holds.ensures in
     elim c.if-holds.branch [
-      | then-holds+then-not-stepped-p w ↦ rw (w.sets-is, w.stepped-is, w.grown-is) (
+      | then-holds+then-not-has_place w ↦ rw (w.sets-is, w.stepped-is, w.grown-is) (
         w.step-grown.auto.sets ∙ inv.0,
         pass-on _ _ _ _ given.ready short within here inv.1 stands w.if-holds.true w.step-grown.ensures,
-        stepped-more _ _ _ _ given.ready short here (omega (arith, within, ready-size _ given.ready)) refl inv.2 w.step-grown.ensures,
+        stepped-more _ _ _ _ given.ready short here (omega (arith, within, ready-size _ given.ready)) w.put_place.ensures inv.2 w.step-grown.ensures,
       )
       | else-holds w ↦ rw (w.sets-is, w.stepped-is, w.grown-is) (
         inv.0,
         elim w.else-holds.branch [
-          | else-holds-via-then-holds+else-not-stepped-p v ↦ pass-before _ _ _ _ given.ready short within here inv.1 stands _ inv.2 v.if-not-stepped-p.false
+          | else-holds-via-then-holds+else-not-has_place v ↦
+              pass-before _ _ _ _ given.ready short within here inv.1 stands _ inv.2 v.has_place.ensures v.if-not-has_place.false
           | else-holds-via-else-holds v ↦ pass-out _ _ _ _ given.ready short within here inv.1 stands v.if-holds.false
         ],
         inv.2,

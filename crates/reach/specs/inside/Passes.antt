@@ -1,18 +1,17 @@
 -- Steps of a reader of a note from point to point, and passes that follow them.
-use Rattle.std.specs.Prelude.{◌≡◌, Bool, true, false, List, ℕ, suc, ◌≤◌, ◌<◌, T, length, get_or}
+use Rattle.std.specs.Prelude.{◌≡◌, Bool, true, false, List, ℕ, suc, ◌≤◌, ◌<◌, T, length}
 use Rattle.std.proofs.Math.Option.{some}
 use Rattle.std.proofs.Math.ListN.{get_elem?}
 use Rattle.grammar.specs.declared.Symbol.TheVariants.{Token, Nonterminal}
-use Rattle.grammar.specs.Limits.{max_places}
 use Rattle.grammar.specs.Grammar.{Grammar, facing, admits, first}
 use Rattle.grammar.specs.inside.Tables.{grammar_in, nonterminals_in}
-use Rattle.positions.specs.inside.Positions.{position_count}
+use Rattle.positions.specs.inside.Positions.{position_count, member}
 use Rattle.positions.specs.inside.Words.{total}
 use Rattle.derivation.specs.inside.Ready.{Ready}
 use Rattle.derivation.specs.inside.BigSteps.{Der}
 use Rattle.derivation.specs.inside.Reach.{Reach}
 use Rattle.cells.specs.inside.Chart.{Lent, Charted}
-use Rattle.reach.specs.inside.Sets.{sets_words, PointInside, stands}
+use Rattle.reach.specs.inside.Sets.{sets_words, place_set_words, PointInside, stands}
 
 -- what the code goes by: tables, a note w, and its derivation cells
 pub record Given (t w cs : List ℕ) : Type 0 where
@@ -58,10 +57,10 @@ pub record SetsGrown (g : Grammar) (w : List ℕ) (i : ℕ) (before after : List
   pub early : (p j : ℕ) → PointInside p j → j < i → T (stands after p j) → T (stands before p j)
   pub sound : Sound g w before → Sound g w after
 
--- the sets hold all that one step leads to at position i from the places that `from` marks
-pub record Stepped (t w : List ℕ) (i : ℕ) (from : List Bool) (ws : List ℕ) : Type 0 where
-  pub long : length from ≡ max_places
-  pub made : (p q j : ℕ) → T (get_or from p false) → p < (grammar_in t).size → Leads (grammar_in t) w p i q j → T (stands ws q j)
+-- the sets hold all that one step leads to at position i from the places of the set `from`
+pub record Stepped (t w : List ℕ) (i : ℕ) (from ws : List ℕ) : Type 0 where
+  pub long : length from ≡ place_set_words
+  pub made : (p q j : ℕ) → T (member from p) → p < (grammar_in t).size → Leads (grammar_in t) w p i q j → T (stands ws q j)
 
 -- a pass over the places below m at position i; r says whether anything is new
 pub record PassedTo (g : Grammar) (w : List ℕ) (m i : ℕ) (r : Bool) (before after : List ℕ) : Type 0 where
@@ -71,7 +70,7 @@ pub record PassedTo (g : Grammar) (w : List ℕ) (m i : ℕ) (r : Bool) (before 
   pub closed : r ≡ false → Closed g w m i after
 
 -- a pass over all places; `from` are those from which a step was made
-pub record Passed (t w : List ℕ) (i : ℕ) (r : Bool) (before after : List ℕ) (from : List Bool) : Type 0 where
+pub record Passed (t w : List ℕ) (i : ℕ) (r : Bool) (before after from : List ℕ) : Type 0 where
   pub to : PassedTo (grammar_in t) w (grammar_in t).size i r before after
   pub stepped : Stepped t w i from after
 

@@ -1,6 +1,7 @@
 -- For each place of the grammar the set of positions at which a reader of the note can stand there, side by side in a list of words, and points that
 -- are added to these sets.
-use Rattle.std.specs.Prelude.{◌≡◌, ◌↔◌, ◌⊎◌, Bool, true, false, List, ℕ, ◌*◌, ◌<◌, T, length}
+use Rattle.std.specs.Prelude.{◌≡◌, ◌↔◌, ◌⊎◌, Bool, true, false, List, ℕ, suc, ◌*◌, ◌/◌, ◌<◌, T, length}
+use Rattle.base.specs.Bits.{word_bits}
 use Rattle.grammar.specs.Limits.{max_places}
 use Rattle.positions.specs.inside.Positions.{position_count, set_words, member}
 use Rattle.positions.specs.inside.Words.{member_at, total}
@@ -8,6 +9,10 @@ use Rattle.positions.specs.inside.Words.{member_at, total}
 -- the words of the sets of all places
 abbrev pub sets_words : ℕ
 sets_words = set_words * max_places
+
+-- the words of a set of places: place p is a bit of them as a position is of a set of positions
+abbrev pub place_set_words : ℕ
+place_set_words = suc (max_places / word_bits)
 
 -- the points that the sets can hold
 abbrev pub PointInside : ℕ → ℕ → Type 0
