@@ -15,10 +15,22 @@ use Rattle.splitter.specs.Classes.{class_of, letter_class, letter?}
 use Rattle.splitter.specs.Listing.{max_listed, space, word_run, among?, word_first?, next?, on_blank, words_from, list_of}
 use Rattle.splitter.specs.Items.{plain_word, first_listed, kind_from, word_kind}
 use Rattle.splitter.specs.inside.Index.{start_count, link_count, run_of, words_at, Indexed, New, Added}
+use Rattle.splitter.specs.inside.Listed.{IndexDid, ListingDid}
 use Rattle.splitter.specs.declared.runs.Run.{Run}
+use Rattle.splitter.specs.declared.words.Words.{Words}
+use Rattle.std.specs.Prelude.{Some, None}
 use Rattle.splitter.proofs.RunLaws.{run_is}
 use Rattle.splitter.proofs.WordLaws.{kind-out, kind-least}
 use Rattle.splitter.proofs.IndexLaws.{words-length, indexed-none, run_inside, run-after}
+
+-- ---- what is told of a list, as an option
+pub listed-yes : (list : List ℕ) (w : Words) {b : Bool} → IndexDid list w b → b ≡ true → ListingDid list (Some w)
+unfolding IndexDid ListingDid
+listed-yes list w d e = rw e at d
+
+pub listed-no : (list : List ℕ) (w : Words) {b : Bool} → IndexDid list w b → b ≡ false → ListingDid list None
+unfolding IndexDid ListingDid
+listed-no list w d e = rw e at d
 
 -- n words are indexed, the next one starts at i, and what is left gives what the whole list says
 pub record ListedTo (list starts links : List ℕ) (n i : ℕ) : Type 0 where

@@ -110,8 +110,9 @@ pub fn split(line: &[u8], words: &[u8], tokens: &mut [u16]) -> Splitting
         return Splitting::LongLine;
     }
     let table = crate::classes::CLASSES;
-    let Some(listed) = crate::listing::words_of(&table, words) else {
+    let mut listed = crate::words::none(words);
+    if !crate::listing::index(&table, &mut listed) {
         return Splitting::BadList;
-    };
+    }
     split_by(&table, line, &listed, tokens)
 }

@@ -14,13 +14,14 @@ pub const WORD: usize = 1;
 
 pub const FIRST_LISTED: usize = 35;
 
-const STARTS: usize = MAX_WORDS + 1;
+// The starts of the words, and behind the last the end of the list and one more.
+pub const STARTS: usize = MAX_WORDS + 1;
 
-const LINKS: usize = MAX_WORDS + crate::runs::BUCKETS;
+// For each word the one before it in its bucket, counted from 1; then for each bucket its last word.
+pub const LINKS: usize = MAX_WORDS + crate::runs::BUCKETS;
 
-// The words of a list: how many, and where each starts; behind the last stands the end of the list and one more. In `links`, for each word the one before it
-// in its bucket, counted from 1; then for each bucket its last word.
-#[derive(Drop)]
+// The words of a list: how many, where each starts, and what links them.
+#[derive(Clone, Copy)]
 pub struct Words<'a> {
     pub list: &'a [u8],
     pub starts: [usize; STARTS],
@@ -69,7 +70,8 @@ impl<'a> Words<'a> {
         self.word(k) == word
     }
 
-    // The kind of a word in this bucket, by the words that are listed so far.
+    // The kind of a word in this bucket, by the words that are listed so far. Always inlined: it is asked for every word, and mostly finds none in the bucket.
+    #[inline(always)]
     pub fn kind_of(&self, word: &[u8], bucket: usize) -> usize
         requires { bucket ≡ bucket_from 0 word.now }
         ensures { result ≡ word_kind (words_at self.now.list.now self.now.starts self.now.count) word.now }
