@@ -1,5 +1,5 @@
 -- A note's token that meets a kind, in facts and as the code finds it.
-use mathlib.Core.Path.{◌≡◌, refl, sym, ◌∙◌}
+use mathlib.Core.Path.{◌≡◌, refl, sym, ◌∙◌, subst}
 use mathlib.Core.Bool.{Bool, false, not}
 use mathlib.Core.Option.{Option, none, some}
 use denote.Ref.{Bor}
@@ -47,12 +47,17 @@ module _ (g : Grammar) (w : List ℕ) (i k : ℕ) where
       go (t, e, _) = get-below w i e
 
   -- ---- as the code finds it
-  pub matches-asked : (o : Optional (Bor ℕ)) {r : Bool} (P : Bor ℕ → Type 0) → ((x : Bor ℕ) → P x → r ≡ admits g k x.now)
+  asked : (o : Optional (Bor ℕ)) {r : Bool} (P : Bor ℕ → Type 0) → ((x : Bor ℕ) → P x → r ≡ admits g k x.now)
       → IsItemAt w i o → MatchOption o (r ≡ false) P → r ≡ matches_at g w i k
   unfolding matches_at admitted
-  matches-asked None P s e n = rw (get_none w i (ltb-false i (length w) (sym e.0))) n
-  matches-asked (Some x) P s e p =
+  asked None P s e n = rw (get_none w i (ltb-false i (length w) (sym e.0))) n
+  asked (Some x) P s e p =
       let l = ltb-true i (length w) (sym e.0) in rw (get-some w i l, ← e.1 ∙ get_or_default w i x.now 0 l) (s x p)
+
+  -- the position that is looked at is this one
+  pub matches-asked : (o : Optional (Bor ℕ)) {r : Bool} {n : ℕ} (P : Bor ℕ → Type 0) → ((x : Bor ℕ) → P x → r ≡ admits g k x.now)
+      → n ≡ i → IsItemAt w n o → MatchOption o (r ≡ false) P → r ≡ matches_at g w i k
+  matches-asked o P s q e p = asked o P s (subst (λ (m : ℕ). IsItemAt w m o) q e) p
 
   pub matches-found : {m : Bool} → m ≡ matches_at g w i k → not m ≡ false → i < length w
   matches-found {m} e n = matches-inside (true→T (matches_at g w i k) (sym e ∙ not-false m n))
