@@ -7,8 +7,9 @@ use native.Mathlib.Numerals.{add-one}
 use native.Mathlib.Omega.{arith}
 use lib.Bits.{bit_or}
 use lib.Dec.{eqb, ltb, leb}
-use lib.ListN.{length, get_or, take, drop}
+use lib.ListN.{length, get_or, take, drop, length-drop}
 use lib.Seq.{drop-cons}
+use Rattle.std.proofs.lemmas.List.{take_all}
 use Rattle.std.specs.List.{list_all, fold, range_with_len}
 use borrow.Author.Tests.{le-leb, lt-leb, le-ltb}
 use Rattle.base.specs.Search.{all_from}
@@ -47,6 +48,16 @@ part-blank c (suc m) i h = rw (drop-cons c i 0 (omega arith)) (ap (λ (b : Bool)
 pub part-zeros : (c : List ℕ) (i j : ℕ) → i ≤ j → j ≤ length c → {r : Bool} → r ≡ list_all blank (take (j - i) (drop i c)) → r ≡ zeros? c i j
 unfolding zeros?
 part-zeros c i j h l e = e ∙ part-blank c (j - i) i (omega arith)
+
+-- as many words as there are from i on
+pub rest-length : (c : List ℕ) (i : ℕ) → length c - i ≡ length (drop i c)
+rest-length c i = sym (length-drop i c)
+
+-- the words from i on
+pub rest-zeros : (c : List ℕ) (i : ℕ) → i ≤ length c → {r : Bool} → r ≡ list_all blank (drop i c) → r ≡ zeros? c i (length c)
+rest-zeros c i h e =
+    part-zeros c i (length c) h (omega arith)
+    (e ∙ ap (list_all blank) (sym (take_all (length c - i) (drop i c) (omega (arith, length-drop i c)))))
 
 -- all numbers of a range
 pub all-range : (p : ℕ → Bool) (i n : ℕ) → list_all p (range_with_len i n) ≡ all_from p i n

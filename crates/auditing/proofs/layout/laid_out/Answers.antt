@@ -1,9 +1,9 @@
 -- `auditing::layout::laid_out` meets its contract: the number of states, the words before the slots, those behind the last held one, and then slot by slot.
 use mathlib.Core.Bool.{not}
 use mathlib.Core.Path.{refl, ap}
-use lib.ListN.{length}
+use Rattle.std.proofs.Math.Seq.{take-length}
 use native.Mathlib.Omega.{arith}
-use Rattle.auditing.proofs.LayoutSteps.{part-zeros, slots-end, slots-few, states-many, fixed-used, rest-used, slots-decide}
+use Rattle.auditing.proofs.LayoutSteps.{rest-length, rest-zeros, slots-end, slots-few, states-many, fixed-used, rest-used, slots-decide}
 use Rattle.auditing.proofs.layout.laid_out.Goals as goal
 
 pub returns-then-slots-held : goal.returns-then-slots-held
@@ -28,12 +28,14 @@ pub returns-then-not-zeros : goal.returns-then-not-zeros
 returns-then-not-zeros c =
     rest-used _ _ _ c.held-held.ensures c.slots.ensures (omega arith) c.fixed.ensures (ap not c.if-not-fixed.false)
     c.slot_at.ensures refl
-    (part-zeros _ _ (length c.args.cache.now) (slots-end _ c.slots.ensures (omega arith) c.slot_at.ensures (omega arith)) (omega arith) c.zeros.ensures)
+    (rest-zeros c.args.cache.now _ (slots-end _ c.slots.ensures (omega arith) c.slot_at.ensures (omega arith))
+    (simp (rest-length, take-length) at c.zeros.ensures))
     (ap not c.if-not-zeros.true)
 
 pub returns : goal.returns
 returns c =
     slots-decide _ _ _ c.held-held.ensures c.slots.ensures (omega arith) c.fixed.ensures (ap not c.if-not-fixed.false)
     c.slot_at.ensures refl
-    (part-zeros _ _ (length c.args.cache.now) (slots-end _ c.slots.ensures (omega arith) c.slot_at.ensures (omega arith)) (omega arith) c.zeros.ensures)
+    (rest-zeros c.args.cache.now _ (slots-end _ c.slots.ensures (omega arith) c.slot_at.ensures (omega arith))
+    (simp (rest-length, take-length) at c.zeros.ensures))
     (ap not c.if-not-zeros.false) c.all_slots.ensures
