@@ -19,6 +19,6 @@ pub returns : goal.returns
 returns c =
     let P : ℕ → Bool = λ f. passes false (test_bit c.args.set) (suffix (grammar_in c.args.tables.now) f) in
     let e = position_from_yields_List P _ _ c.position.result c.position.ensures.ran (YieldsList-from_slice c.first_places.result.now cc)
-    (λ x b q k. search (rules, tests)) in
+    (λ x b q k. (search (rules, tests), search (rules, tests))) in
     let z : c.map.result ≡ option_map (λ k. k + 1) c.position.result = search rules in
     rw (z, e, position_from-zero P c.first_places.result.now, c.first_places.ensures) (placed-empty c.args.tables.now c.args.set c.args.a)
