@@ -12,9 +12,8 @@ use native.Mathlib.Numerals.{add-one}
 use native.Mathlib.Omega.{arith}
 use native.Mathlib.Decide.{dec_lt}
 use lib.Dec.{T, eqb}
-use lib.ListN.{length, set, take, drop, length-set}
-use lib.Seq.{sets, length-sets, sets-eq, drop-drop}
-use borrow.Rule.Slice.PartMut.{put_mid}
+use lib.ListN.{length, get_or, set, take, drop, length-set, drop_of_length-le}
+use lib.Seq.{sets, length-sets, drop-cons}
 use borrow.Author.Tests.{lt-ltb, le-ltb, eq-eqb, ne_eqb}
 use Rattle.base.specs.Search.{lowest_from, LowestIs, this, nothing}
 use Rattle.base.proofs.Booleans.{clash, true→T, T→true}
@@ -97,11 +96,27 @@ pub stored-long : (c : List ℕ) (i u v : ℕ) (vs : List ℕ) {c₁ : List ℕ}
 stored-long c i u v vs e =
     ap (λ (l : List ℕ). length l) e ∙ length-sets (set (set c i u) (i + 1) v) (i + slot_head) vs ∙ length-set (set c i u) (i + 1) v ∙ length-set c i u
 
--- a part that was written, as stores one after another
-pub part-stored : (c : List ℕ) (i k : ℕ) (ys vs : List ℕ) → ys ≡ vs → k ≡ length vs → i + length vs ≤ length c → put_mid i k c ys ≡ sets c i vs
-part-stored c i k ys vs e f h =
-    let z : length vs + i ≡ i + length vs = omega arith in
-    rw (e, f, drop-drop (length vs) i c) (sym (sets-eq vs c i h ∙ append_assoc (take i c) vs (drop (i + length vs) c)))
+-- ---- storing: the words from k on are still to store
+unfoldable pub Stored : List ℕ → List ℕ → ℕ → List ℕ → ℕ → Type 0
+Stored c₀ c at vs k = sets c (at + k) (drop k vs) ≡ sets c₀ at vs
+
+pub stored-begins : (c₀ : List ℕ) (at : ℕ) (vs : List ℕ) → Stored c₀ c₀ at vs 0
+unfolding Stored
+stored-begins c₀ at vs = let e : at + 0 ≡ at = omega arith in rw e
+
+module _ (c₀ c : List ℕ) (at : ℕ) (vs : List ℕ) (k : ℕ) (x : Stored c₀ c at vs k) where
+  pub stored_next : {v : ℕ} → k < length vs → v ≡ get_or vs k 0 → Stored c₀ (set c (at + k) v) at vs (k + 1)
+  unfolding Stored
+  stored_next {v} l e =
+      let y : sets c (at + k) (get_or vs k 0 ∷ drop (suc k) vs) ≡ sets c₀ at vs = rw (drop-cons vs k 0 l) at x in
+      let z : at + suc k ≡ suc (at + k) = omega arith in
+      rw (add-one k, e, z) y
+
+  pub stored-ends : length vs ≤ k → c ≡ sets c₀ at vs
+  unfolding Stored
+  stored-ends l =
+      let y : sets c (at + k) [] ≡ sets c₀ at vs = rw (drop_of_length-le vs {i = k} l) at x in
+      y
 
 pub slot-below : (l : ℕ) {s n : ℕ} → n ≡ slots l → s < n → (s < max_slots) × (slot_at s + slot_words ≤ l)
 unfolding slots

@@ -1,5 +1,6 @@
 // States and outcomes are looked up, and recorded.
-ghost use Rattle.std.specs.Prelude.{◌≡◌, ◌≤◌, ◌<◌, length};
+ghost use Rattle.std.specs.Prelude.{◌≡◌, ◌+◌, ◌≤◌, ◌<◌, length};
+ghost use lib.Seq.{sets};
 ghost use Rattle.words.specs.Layout.{min_words, slots};
 ghost use Rattle.cache.specs.inside.Calls.{KeptConfigs, Next, Recordable};
 ghost use Rattle.cache.specs.Recording.{learned};
@@ -25,6 +26,16 @@ fn find(cache: &[u32], a: usize, kept: &[u32]) -> Option<usize>
     (0..words::slots::searched(cache)).find(|s| holds(cache, a, kept, *s))
 }
 
+// Stores these words from `at` on. A loop: where a slice is copied by the library, an archive for C asks for memmove from outside.
+fn store(cache: &mut [u32], at: usize, words: &[u32])
+    requires { at + length words.now ≤ length cache.old }
+    ensures { cache.new ≡ sets cache.old at words.now }
+{
+    for (k, word) in words.iter().enumerate() {
+        cache[at + k] = *word;
+    }
+}
+
 // Stores the state of these configurations in slot s, the next one.
 fn add_state(cache: &mut [u32], s: usize, a: usize, kept: &[u32])
     requires { Next cache.old s a × KeptConfigs kept.now }
@@ -33,8 +44,7 @@ fn add_state(cache: &mut [u32], s: usize, a: usize, kept: &[u32])
     let at = words::slots::slot_at(s);
     cache[at] = base::word(a);
     cache[at + COUNT_AT] = base::word(kept.len() / CONFIG_WORDS);
-    let from = at + SLOT_HEAD;
-    cache[from..from + kept.len()].copy_from_slice(kept);
+    store(cache, at + SLOT_HEAD, kept);
     cache[HELD_AT] = base::word(s + 1);
 }
 
