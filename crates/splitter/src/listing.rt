@@ -5,7 +5,6 @@ ghost use Rattle.splitter.specs.inside.Index.{start_count, link_count};
 ghost use Rattle.splitter.specs.inside.Listed.{IndexDid, ListingDid};
 
 use crate::words::Words;
-
 pub use crate::words::{FIRST_LISTED, LINKS, MAX_WORDS, STARTS, WORD};
 
 // Reads the list of these words, of which there are none yet: whether it is one, and its words then. They are made where they stay: a row of them that is

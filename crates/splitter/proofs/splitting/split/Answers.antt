@@ -25,4 +25,4 @@ split_by-requires c = refl
 pub returns : goal.returns
 returns c =
     answer-on _ _ _ (omega arith) _ (listed-yes _ _ (rw c.none-listed.ensures.0 at c.index.ensures) (not-false _ (ap not c.if-not-index.false))) refl
-        c.split_by.ensures
+    c.split_by.ensures
