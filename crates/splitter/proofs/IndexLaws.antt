@@ -6,7 +6,8 @@ use Prim.Native.Nat.{ℕ, zero, suc, ◌+◌, ◌-◌, ◌≤◌, ◌<◌}
 use native.Mathlib.Numerals.{add-one}
 use native.Mathlib.Omega.{arith}
 use native.Mathlib.Nat.{eq-or-lt_of_le}
-use mathlib.Core.Logic.{◌⊎◌, inl, inr}
+use mathlib.Core.Logic.{◌⊎◌, inl, inr, ⊎_elim}
+use mathlib.Core.HLevel.{⊥_prop}
 use Rattle.std.proofs.Math.Bridge.{le_prop}
 use Rattle.std.proofs.Math.Logic.{∥∥₁_elim, ∥∥₁_map}
 use lib.ListN.{length, get_or, take, drop, set, replicate, length-append, length-set, length-drop, length-replicate, get_or-replicate}
@@ -60,6 +61,29 @@ chain-kept : {links more : List ℕ} {n m k p : ℕ} → n ≤ m → ((j : ℕ) 
 chain-kept h f (here l) = here (omega arith)
 chain-kept {more = more} {m = m} {k = k} h f (behind j l x) =
     behind j (omega arith) (rw (f j l) (chain-kept h f x))
+
+-- whether word k is on the chain from p on can be told where the links lead back
+on-chain? : (links : List ℕ) (n k fuel p : ℕ) → ((j : ℕ) → j < n → get_or links j 0 ≤ j) → k < n → p ≤ n → p ≤ fuel
+    → OnChain links n k p ⊎ (OnChain links n k p → ⊥)
+on-chain? links n k fuel zero b l h m = inr (λ x. (let z = chain-some x in omega arith))
+on-chain? links n k zero (suc j) b l h m = absurd (omega arith)
+on-chain? links n k (suc fuel) (suc j) b l h m =
+    let t = b j (omega arith) in
+    go (same? k j) (on-chain? links n k fuel (get_or links j 0) b l (omega arith) (omega arith))
+  where
+    go : (k ≡ j) ⊎ (k ≡ j → ⊥) → OnChain links n k (get_or links j 0) ⊎ (OnChain links n k (get_or links j 0) → ⊥)
+        → OnChain links n k (suc j) ⊎ (OnChain links n k (suc j) → ⊥)
+    go (inl e) r = inl (rw (← e) (here l))
+    go (inr e) (inl x) = inl (behind j (omega arith) x)
+    go (inr e) (inr f) = inr (λ x. f (chain_next x j refl e))
+
+-- a chain leads back, so that whether a word is on it can be told: the truncated fact gives the chain
+pub chained-told : (list starts links : List ℕ) (n : ℕ) → Indexed list starts links n → (k : ℕ) → k < n
+    → OnChain links n k (get_or links (max_listed + bucket_from 0 (word_at list starts k)) 0)
+chained-told list starts links n x k l =
+    let c = bucket_from 0 (word_at list starts k) in
+    let h = x.heads c (bucket-lt 0 (word_at list starts k) (omega arith)) in
+    ⊎_elim (λ y. y) (λ f. absurd (∥∥₁_elim (x.chained k l) ⊥_prop f)) (on-chain? links n k n (get_or links (max_listed + c) 0) x.back l h h)
 
 -- ---- a word is sought
 -- the words that may be it are on the chain from p on
