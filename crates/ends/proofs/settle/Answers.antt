@@ -27,7 +27,11 @@ look-requires c =
     record {
       row = c.requires.row;
       long = c.loop-a.invariant.0;
-      named = omega (arith, in-part _ _ _ c.loop-a-test.true, c.requires.lined.lined.named c.loop-a.a-index (omega (arith, c.nonterminals.ensures, length-take {A = ℕ})));
+      named = omega (
+        arith,
+        in-part _ _ _ c.loop-a-test.true,
+        c.requires.lined.lined.named c.loop-a.a-index (omega (arith, c.nonterminals.ensures, length-take {A = ℕ})),
+      );
     }
 
 pub loop-a-preserved : goal.loop-a-preserved

@@ -16,7 +16,8 @@ unfolding classes
 index-requires c = (c.none-listed.ensures.1, c.none-listed.ensures.2, c.none-listed.ensures.3, refl)
 
 pub returns-then-not-index : goal.returns-then-not-index
-returns-then-not-index c = answer-17 _ _ _ (omega arith) _ (listed-no _ _ (rw c.none-listed.ensures.0 at c.index.ensures) (not-true _ (ap not c.if-not-index.true))) refl
+returns-then-not-index c =
+    answer-17 _ _ _ (omega arith) _ (listed-no _ _ (rw c.none-listed.ensures.0 at c.index.ensures) (not-true _ (ap not c.if-not-index.true))) refl
 
 pub split_by-requires : goal.split_by-requires
 unfolding classes
